@@ -1,24 +1,20 @@
 -- The draft of the canonical declarations of a well-formed listing, map by map.
-use Rattle.std.proofs.Common.{arith, ◌≡◌, refl, sym, ap, ◌∙◌, List, [], ◌∷◌, ◌++◌, ℕ, Bool, true, false, not, cond, map, append_assoc}
-use Rattle.std.{proofs.lemmas.List.append-nil, specs.{Prelude.{Option, Some, None, is_some, filter, ◌&&◌}, List.flat_map, FinMap.is_sorted}}
-use Rattle.mpslp_decimal.specs.Decimal.{Number, IsDecimal, is_decimal, is_zero, negated}
-use Rattle.mpslp_types.{specs.{Name.{is_mps_name, is_one_of, bytes_cmp}, declared.kinds.{Kind.Kind, Limit.Limit}}, proofs.EachLemmas.Each}
-use Rattle.mpslp_types.proofs.{EachLemmas.Each-all, BoolLemmas.T_from}
-use Rattle.mpslp_model_core.specs.Model.{Column, CoefficientKey, key_cmp, suits, is_sound_row, is_sound_column}
-use Rattle.mpslp_model_core.{specs.Model.{is_integer_column as has_integer_kind, Listing}, proofs.PutsLemmas.{puts, puts-append}}
-use Rattle.mpslp_model_core.proofs.PutsLemmas.{find-front}
-use Rattle.mpslp_builder.specs.Declaration.{RowDefinition, Draft, draft_of, empty_draft, at_name, has_name, names_in}
-use Rattle.mpslp_builder.proofs.{BoundsLemmas.is_semi_kind, PartedLemmas.parted-give, DraftLemmas.{rows-all, rhs_values-all, ranges-all}}
-use Rattle.mpslp_builder.proofs.DraftLemmas.{columns-all, lowers-all, uppers-all, marked-all, integers-all, binaries-all, semis-all}
-use Rattle.mpslp_builder.proofs.{SortedDrafts.{bytes_total, tied_names}, NamedEntries.{names_sorted, at-mapped, named}}
-use Rattle.mpslp_builder.proofs.EntryLemmas.{first_there, then_stated, stated, all_stated, sorted-kept, find-puts, puts-own, find-kept}
-use Rattle.mpslp_builder.proofs.EntryLemmas.{sorted-stated, find-stated, filter-not_not}
-use Rattle.mpslp_canonical_mps.specs.CanonicalMps.{column_coefficients, printed_coefficients, is_integer_column, is_plain_column}
-use Rattle.mpslp_canonical_mps.proofs.{CanonicalContents.{to_cell, cells_in}, ListedParts.{form_stated, value_stated, side_stated}}
-use Rattle.mpslp_canonical_mps.proofs.ListedParts.{range_stated, column_lower, column_upper, semi_stated, column_semi, row_forms}
-use Rattle.mpslp_canonical_mps.proofs.ListedParts.{own_column, listed_decl, from_cells, rows-part, rhs_values-part, ranges-part}
-use Rattle.mpslp_canonical_mps.proofs.ListedParts.{columns-part, marked-part, integers-part, binaries-part, lowers-part, uppers-part}
-use Rattle.mpslp_canonical_mps.proofs.ListedParts.{semis-part}
+-- What the well-formedness of a model implies for its listing.
+use Rattle.mpslp_canonical_mps.proofs.Prelude
+use Prelude.{arith, ◌≡◌, refl, sym, ap, ◌∙◌, List, [], ◌∷◌, ◌++◌, ℕ, Bool, true, false, not, cond, map, append_assoc, append-nil, Option}
+use Prelude.{Some, None, is_some, filter, ◌&&◌, flat_map, is_sorted, Number, IsDecimal, is_decimal, is_zero, negated, is_mps_name}
+use Prelude.{is_one_of, bytes_cmp, Kind, Limit, Each, Each-all, T_from, Column, CoefficientKey, key_cmp, suits, is_sound_row}
+use Prelude.{is_sound_column, has_integer_kind, Listing, puts, puts-append, find-front, Draft, draft_of, empty_draft, at_name, has_name}
+use Prelude.{names_in, is_semi_kind, parted-give, rows-all, rhs_values-all, ranges-all, columns-all, lowers-all, uppers-all, marked-all}
+use Prelude.{integers-all, binaries-all, semis-all, bytes_total, tied_names, names_sorted, at-mapped, named, first_there, then_stated}
+use Prelude.{stated, all_stated, sorted-kept, find-puts, puts-own, find-kept, sorted-stated, find-stated, filter-not_not}
+use Prelude.{printed_coefficients, is_integer_column, is_plain_column, entries_sorted, true_from, Each-from_list_all, LinearModel, IsSound}
+use Prelude.{listing_of}
+use Rattle.mpslp_canonical_mps.proofs.CanonicalContents.{to_cell, cells_in}
+use Rattle.mpslp_canonical_mps.proofs.ListedParts.{form_stated, value_stated, side_stated, range_stated, column_lower, column_upper}
+use Rattle.mpslp_canonical_mps.proofs.ListedParts.{semi_stated, column_semi, row_forms, own_column, listed_decl, from_cells, rows-part}
+use Rattle.mpslp_canonical_mps.proofs.ListedParts.{rhs_values-part, ranges-part, columns-part, marked-part, integers-part, binaries-part}
+use Rattle.mpslp_canonical_mps.proofs.ListedParts.{lowers-part, uppers-part, semis-part}
 
 -- ---- a well-formed listing
 
@@ -47,40 +43,40 @@ drafted m = draft_of (listed_decl m)
 
 pub rows-drafted : (m : Listing) → IsSoundListing m → (drafted m).rows ≡ row_forms m.rows
 rows-drafted m h =
-    rows-all (listed_decl m) empty_draft ∙ ap (λ (es : List (List ℕ × RowDefinition)). puts bytes_cmp es []) (rows-part m)
-    ∙ puts-own bytes_cmp bytes_total tied_names (row_forms m.rows) (names_sorted form_stated m.rows h.rows_sorted)
+    rows-all (listed_decl m) empty_draft ∙ ap (λ es. puts bytes_cmp es []) (rows-part m)
+    ∙ puts-own bytes_cmp bytes_total tied_names _ (names_sorted form_stated m.rows h.rows_sorted)
 
 pub row-at : (m : Listing) → IsSoundListing m → (q : List ℕ) → at_name (drafted m).rows q ≡ then_stated (λ row. Some (form_stated row)) (at_name m.rows q)
-row-at m h q = ap (λ (es : List (List ℕ × RowDefinition)). at_name es q) (rows-drafted m h) ∙ at-mapped form_stated q m.rows
+row-at m h q = ap (λ es. at_name es q) (rows-drafted m h) ∙ at-mapped form_stated q m.rows
 
 puts-stated : (q : List ℕ) (o : Option Number) → puts bytes_cmp (stated q o) [] ≡ stated q o
-puts-stated q o = grind arith
+puts-stated = grind arith
 
 pub right_side-at : (m : Listing) → IsSoundListing m → (q : List ℕ)
     → at_name (drafted m).rhs_values q ≡ first_there (then_stated side_stated (at_name m.rows q)) (at_name (stated m.objective (value_stated (negated m.constant))) q)
-right_side-at m h q = grind (arith, stated, value_stated, all_stated, side_stated, rhs_values-all, listed_decl, puts, rhs_values-part, puts-append, puts-stated, find-puts, bytes_total, tied_names, sorted-stated, first_there, find-stated)
+right_side-at = grind (arith, stated, value_stated, all_stated, side_stated, rhs_values-all, listed_decl, puts, rhs_values-part, puts-append, puts-stated, find-puts, bytes_total, tied_names, sorted-stated, first_there, find-stated)
 
 pub range-at : (m : Listing) → IsSoundListing m → (q : List ℕ) → at_name (drafted m).ranges q ≡ then_stated range_stated (at_name m.rows q)
-range-at m h q = grind (arith, ranges-all, listed_decl, puts, ranges-part, puts-own, bytes_total, tied_names, all_stated, range_stated, sorted-stated, find-stated)
+range-at = grind (arith, ranges-all, listed_decl, puts, ranges-part, puts-own, bytes_total, tied_names, all_stated, range_stated, sorted-stated, find-stated)
 
 -- ---- columns
 
 pub lower-at : (m : Listing) → IsSoundListing m → (q : List ℕ) → at_name (drafted m).lowers q ≡ then_stated column_lower (at_name m.columns q)
-lower-at m h q = grind (arith, lowers-all, listed_decl, puts, lowers-part, puts-own, bytes_total, tied_names, all_stated, column_lower, sorted-stated, find-stated)
+lower-at = grind (arith, lowers-all, listed_decl, puts, lowers-part, puts-own, bytes_total, tied_names, all_stated, column_lower, sorted-stated, find-stated)
 
 pub upper-at : (m : Listing) → IsSoundListing m → (q : List ℕ) → at_name (drafted m).uppers q ≡ then_stated column_upper (at_name m.columns q)
-upper-at m h q = grind (arith, uppers-all, listed_decl, puts, uppers-part, puts-own, bytes_total, tied_names, all_stated, column_upper, sorted-stated, find-stated)
+upper-at = grind (arith, uppers-all, listed_decl, puts, uppers-part, puts-own, bytes_total, tied_names, all_stated, column_upper, sorted-stated, find-stated)
 
 semi-at : (m : Listing) → IsSoundListing m → (q : List ℕ) → at_name (drafted m).semis q ≡ then_stated column_semi (at_name m.columns q)
-semi-at m h q = grind (arith, semis-all, listed_decl, puts, semis-part, puts-own, bytes_total, tied_names, all_stated, column_semi, sorted-stated, find-stated)
+semi-at = grind (arith, semis-all, listed_decl, puts, semis-part, puts-own, bytes_total, tied_names, all_stated, column_semi, sorted-stated, find-stated)
 
 -- a semi-continuous column of a well-formed listing has a finite upper bound, whose line declares its type
 semi-suited : (kind : Kind) (l u : Limit) → suits kind l u ≡ true → is_some (semi_stated kind u) ≡ is_semi_kind kind
-semi-suited kind l u h = grind arith
+semi-suited = grind arith
 
 pub semis-at : (m : Listing) → IsSoundListing m → (q : List ℕ) (column : Column) → suits column.kind column.lower column.upper ≡ true → at_name m.columns q ≡ Some column
     → has_name (drafted m).semis q ≡ is_semi_kind column.kind
-semis-at m h q column suited is = grind (arith, semi-at, then_stated, column_semi, semi-suited)
+semis-at = grind (arith, semi-at, then_stated, column_semi, semi-suited)
 
 -- each cell of a column names it, and there is at least one
 own-all : (name : List ℕ) (cells : List (List ℕ × Number)) → Each (λ e. e ≡ (name, tt)) (flat_map own_column (map (to_cell name) cells))
@@ -88,7 +84,7 @@ own-all name [] = tt
 own-all name (cell ∷ cells) = (refl, own-all name cells)
 
 own-some : (name objective : List ℕ) (cells : List (List ℕ × Number)) → is_some (at_name (flat_map own_column (map (to_cell name) (printed_coefficients objective cells))) name) ≡ true
-own-some name objective cells = grind (arith, find-front, bytes_total, tied_names, own_column, to_cell)
+own-some = grind (arith, find-front, bytes_total, tied_names, own_column, to_cell)
 
 abbrev names_of_cells : Listing → List ℕ × Column → List (List ℕ × Unit {0})
 names_of_cells m column = flat_map own_column (cells_in m column)
@@ -96,21 +92,18 @@ names_of_cells m column = flat_map own_column (cells_in m column)
 pub columns-parted : (m : Listing) (p : List ℕ × Column → Bool) (columns : List (List ℕ × Column)) → is_sorted bytes_cmp columns ≡ true
     → puts bytes_cmp (from_cells own_column m (filter p columns) ++ from_cells own_column m (filter (λ column. not (p column)) columns)) [] ≡ map named columns
 columns-parted m p columns h =
-    parted-give bytes_cmp bytes_total tied_names named (names_of_cells m) p columns (T_from (is_sorted bytes_cmp (map named columns)) (names_sorted (λ _. tt) columns h))
-    (Each-all _ (λ column. own-some column.0 m.objective (column_coefficients m column.0)) columns)
-    (Each-all _ (λ column. own-all column.0 (printed_coefficients m.objective (column_coefficients m column.0))) columns)
+    parted-give bytes_cmp bytes_total tied_names named (names_of_cells m) p columns (T_from _ (names_sorted _ columns h))
+    (Each-all _ (λ column. own-some column.0 m.objective _) columns) (Each-all _ (λ column. own-all column.0 _) columns)
 
 pub columns-drafted : (m : Listing) → IsSoundListing m → (drafted m).columns ≡ map named m.columns
 columns-drafted m h =
-    columns-all (listed_decl m) empty_draft
-    ∙ ap (λ (es : List (List ℕ × Unit {0})). puts bytes_cmp es [])
-    (columns-part m
-    ∙ ap (λ (cs : List (List ℕ × Column)). from_cells own_column m (filter is_plain_column m.columns) ++ from_cells own_column m cs) (sym (filter-not_not is_integer_column m.columns)))
+    columns-all (listed_decl m) empty_draft ∙ ap (λ es. puts bytes_cmp es []) (columns-part m
+    ∙ ap (λ cs. from_cells own_column m (filter is_plain_column m.columns) ++ from_cells own_column m cs) (sym (filter-not_not is_integer_column m.columns)))
     ∙ columns-parted m is_plain_column m.columns h.columns_sorted
 
 filter-all : {X : Type 0} (xs : List X) → filter (λ _. true) xs ≡ xs
 filter-all [] = refl
-filter-all (x ∷ xs) = ap (λ (ys : List _). x ∷ ys) (filter-all xs)
+filter-all (x ∷ xs) = ap (λ ys. x ∷ ys) (filter-all xs)
 
 filter-no : {X : Type 0} (xs : List X) → filter (λ _. not true) xs ≡ []
 filter-no [] = refl
@@ -120,25 +113,22 @@ pub marked-drafted : (m : Listing) → IsSoundListing m → (drafted m).marked �
 marked-drafted m h =
     let integers = filter is_integer_column m.columns in
     marked-all (listed_decl m) empty_draft
-    ∙ ap (λ (es : List (List ℕ × Unit {0})). puts bytes_cmp es [])
+    ∙ ap (λ es. puts bytes_cmp es [])
     (marked-part m ∙ sym (append-nil (from_cells own_column m integers)) ∙ sym (λ i. from_cells own_column m (filter-all integers i) ++ from_cells own_column m (filter-no integers i)))
     ∙ columns-parted m (λ _. true) integers (sorted-kept bytes_cmp is_integer_column m.columns h.columns_sorted)
 
 one-part : {X Y : Type 0} (f : X → List Y) (xs : List X) → flat_map f xs ≡ flat_map f (filter (λ _. true) xs) ++ flat_map f (filter (λ _. not true) xs)
 one-part f [] = refl
-one-part f (x ∷ xs) = ap (λ (ys : List _). f x ++ ys) (one-part f xs) ∙ sym (append_assoc (f x) (flat_map f (filter (λ _. true) xs)) (flat_map f (filter (λ _. not true) xs)))
+one-part f (x ∷ xs) = ap (λ ys. f x ++ ys) (one-part f xs) ∙ sym (append_assoc (f x) (flat_map f (filter (λ _. true) xs)) (flat_map f (filter (λ _. not true) xs)))
 
 -- only columns of one part
 pub plain-only : (m : Listing) (columns : List (List ℕ × Column)) → is_sorted bytes_cmp columns ≡ true → puts bytes_cmp (from_cells own_column m columns) [] ≡ map named columns
-plain-only m columns h =
-    ap (λ (es : List (List ℕ × Unit {0})). puts bytes_cmp es []) (one-part (λ column. flat_map own_column (cells_in m column)) columns)
-    ∙ columns-parted m (λ _. true) columns h
+plain-only m columns h = ap (λ es. puts bytes_cmp es []) (one-part _ columns) ∙ columns-parted m (λ _. true) columns h
 
 pub marked-at : (m : Listing) → IsSoundListing m → (q : List ℕ) (column : Column) → at_name m.columns q ≡ Some column → has_name (drafted m).marked q ≡ has_integer_kind column
 marked-at m h q column is =
-    ap (λ (es : List (List ℕ × Unit {0})). has_name es q) (marked-drafted m h)
-    ∙ ap is_some (at-mapped (λ _. tt) q (filter is_integer_column m.columns))
-    ∙ ap (λ (o : Option Column). is_some (then_stated (λ _. Some tt) o)) (find-kept bytes_cmp bytes_total tied_names (λ c. has_integer_kind c) q m.columns h.columns_sorted ∙ ap (then_stated (λ c. cond (has_integer_kind c) (Some c) None)) is)
+    ap (λ es. has_name es q) (marked-drafted m h) ∙ ap is_some (at-mapped _ q _)
+    ∙ ap (λ o. is_some (then_stated (λ _. Some tt) o)) (find-kept bytes_cmp bytes_total tied_names (λ c. has_integer_kind c) q m.columns h.columns_sorted ∙ ap (then_stated (λ c. cond (has_integer_kind c) (Some c) None)) is)
     ∙ by (has_integer_kind column)
   where
     by : (b : Bool) → is_some (then_stated {V = Unit {0}} (λ _. Some tt) (cond b (Some column) None)) ≡ b
@@ -146,7 +136,22 @@ marked-at m h q column is =
     by false = refl
 
 pub integers-drafted : (m : Listing) → (drafted m).integers ≡ []
-integers-drafted m = integers-all (listed_decl m) empty_draft ∙ ap (λ (es : List (List ℕ × Unit {0})). puts bytes_cmp es []) (integers-part m)
+integers-drafted = grind (arith, integers-all, integers-part)
 
 pub binaries-drafted : (m : Listing) → (drafted m).binaries ≡ []
-binaries-drafted m = binaries-all (listed_decl m) empty_draft ∙ ap (λ (es : List (List ℕ × Unit {0})). puts bytes_cmp es []) (binaries-part m)
+binaries-drafted = grind (arith, binaries-all, binaries-part)
+
+-- ---- the listing of a well-formed model
+
+pub sound-listing : (m : LinearModel) → IsSound m → IsSoundListing (listing_of m)
+sound-listing m h = record {
+  objective = h.objective;
+  no_row = h.objective_is_no_row;
+  constant = h.constant;
+  rows = Each-from_list_all is_sound_row _ h.rows;
+  columns = Each-from_list_all is_sound_column _ h.columns;
+  coefficients = Each-from_list_all _ _ h.coefficients;
+  rows_sorted = true_from _ (entries_sorted m.rows);
+  columns_sorted = true_from _ (entries_sorted m.columns);
+  coefficients_sorted = true_from _ (entries_sorted m.coefficients);
+}

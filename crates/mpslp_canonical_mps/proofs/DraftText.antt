@@ -1,13 +1,10 @@
 -- The canonical text of the model of a draft, from the draft's lists.
-use Rattle.std.{proofs.Common.{◌≡◌, ◌∙◌, ap, List, [], ◌∷◌, ℕ, Bool, true, map, drop, get_or}, specs.Prelude.{Option, None, ◌&&◌, not}}
-use Rattle.std.specs.{Prelude.{filter, unwrap_or}, Cmp.{first_so, second_so}, FinMap.{is_sorted, entries-from_sorted}}
-use Rattle.mpslp_types.specs.{declared.{faults.{Fault.Fault, BuildFault.BuildFault}, kinds.Sense.TheVariants.Minimize}, Name.bytes_cmp}
-use Rattle.mpslp_types.proofs.{EachLemmas.Each, BoolLemmas.T_from}
-use Rattle.mpslp_decimal.specs.Decimal.{is_zero}
-use Rattle.mpslp_model_core.specs.Model.{LinearModel, key_cmp, Listing, listing_of}
-use Rattle.mpslp_builder.specs.{Declaration.Draft, Meaning.{column_of, objective_name, constant_of, row_entry, model_of}}
-use Rattle.mpslp_mps.{specs.MpsText.DeclaresMps, proofs.WorkedFiles.{draft_in, Passes, declares-from_passes, tests, passes-from_tests}}
-use Rattle.mpslp_canonical_mps.specs.CanonicalMps.{text_of, listed_lines, canonical_mps}
+use Rattle.mpslp_canonical_mps.proofs.Prelude
+use Prelude.{◌≡◌, ◌∙◌, ap, List, [], ◌∷◌, ℕ, Bool, true, map, drop, get_or, Option, None, ◌&&◌, filter, unwrap_or, first_so, second_so}
+use Prelude.{is_sorted, entries-from_sorted, Fault, BuildFault, Minimize, bytes_cmp, Each, T_from, is_zero, LinearModel, key_cmp, Listing}
+use Prelude.{listing_of, Draft, column_of, objective_name, constant_of, row_entry, model_of, DeclaresMps, draft_in, Passes}
+use Prelude.{declares-from_passes, tests, passes-from_tests, text_of, listed_lines, canonical_mps}
+use Rattle.std.specs.Prelude.{not}
 
 -- the bytes declare a model whose canonical text is this
 pub record IsPrinted (bytes output : List ℕ) : Type 0 where
@@ -31,10 +28,10 @@ is_in_order m = is_sorted bytes_cmp m.rows && (is_sorted bytes_cmp m.columns && 
 pub listing_of-model : (all : Draft) → is_in_order (listing_in all) ≡ true → listing_of (model_of all) ≡ listing_in all
 listing_of-model all h =
     let m = listing_in all in
-    let more = second_so (is_sorted bytes_cmp m.rows) (is_sorted bytes_cmp m.columns && is_sorted key_cmp m.coefficients) h in
-    let rows = entries-from_sorted bytes_cmp m.rows (T_from (is_sorted bytes_cmp m.rows) (first_so (is_sorted bytes_cmp m.rows) (is_sorted bytes_cmp m.columns && is_sorted key_cmp m.coefficients) h)) in
-    let columns = entries-from_sorted bytes_cmp m.columns (T_from (is_sorted bytes_cmp m.columns) (first_so (is_sorted bytes_cmp m.columns) (is_sorted key_cmp m.coefficients) more)) in
-    let coefficients = entries-from_sorted key_cmp m.coefficients (T_from (is_sorted key_cmp m.coefficients) (second_so (is_sorted bytes_cmp m.columns) (is_sorted key_cmp m.coefficients) more)) in
+    let more = second_so _ _ h in
+    let rows = entries-from_sorted bytes_cmp m.rows (T_from _ (first_so _ _ h)) in
+    let columns = entries-from_sorted bytes_cmp m.columns (T_from _ (first_so _ _ more)) in
+    let coefficients = entries-from_sorted key_cmp m.coefficients (T_from _ (second_so _ _ more)) in
     λ i. record { sense = m.sense; objective = m.objective; constant = m.constant; rows = rows i; columns = columns i; coefficients = coefficients i }
 
 pub line_text-from_passes : (bytes output : List ℕ) → Passes bytes → is_in_order (listing_in (draft_in bytes)) ≡ true

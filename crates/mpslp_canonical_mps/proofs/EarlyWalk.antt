@@ -1,20 +1,16 @@
 -- What NAME, OBJSENSE, ROWS and COLUMNS of canonical text declare.
-use Rattle.std.proofs.{Common.{arith, ◌≡◌, refl, ap, subst, ◌∙◌, List, [], ◌∷◌, ◌++◌, ℕ, Bool, true, false, map}, lemmas.List.append-nil}
-use Rattle.std.specs.{Prelude.{Option, Some, None, is_none, codes, filter_map}, List.{flat_map, last_or}, Option.{option_map_or, option_or}}
-use Rattle.mpslp_types.specs.{Name.{is_mps_name, same_bytes}, declared.kinds.Sense.{Sense, TheVariants.{Minimize, Maximize}}}
-use Rattle.mpslp_types.{specs.declared.kinds.RowType.TheVariants.Free, proofs.EachLemmas.Each}
-use Rattle.mpslp_builder.specs.Declaration.{declare_sense, declare_objective, Declarations, Draft, empty_draft, with_declaration}
-use Rattle.mpslp_builder.specs.Declaration.{with_declarations}
-use Rattle.mpslp_mps_fields.specs.{Line.{Fields, LineContent, data_line}, DataLine.{letter_of, opening_word}}
-use Rattle.mpslp_mps_fields.specs.declared.sections.Section.TheVariants.{Name, ObjSense, Rows, Columns}
-use Rattle.mpslp_mps.specs.Context.{Context, context_of, current_section, objname, data_lines, marker_word, line_column, in_integer_part}
-use Rattle.mpslp_mps.{specs.{Context.last_column, LineDeclarations.line_declares}, proofs.ContextLineLemmas.form_faults}
-use Rattle.mpslp_mps.proofs.ContextLemmas.{objname-push}
-use Rattle.mpslp_canonical_mps.proofs.{ContentsWalk.{Walk, walk-nil, walk-cons, walk-append, section-walk}, RowsWalk.{RowItem, row_item}}
-use Rattle.mpslp_canonical_mps.proofs.{RowsWalk.{row_decl, InRows, row_step, name-good, stays}, ColumnsWalk.{Cell, cell_item, cell_decl}}
-use Rattle.mpslp_canonical_mps.proofs.ColumnsWalk.{GoodCell, InCells, cell_step, Unsplit, marker_fields, marker_part, marker_last}
-use Rattle.mpslp_canonical_mps.proofs.ColumnsWalk.{marker_says, marker_good, Group, cells_of, IsGroup, AreApart, AreAbsent, groups_unsplit}
-use Rattle.mpslp_canonical_mps.proofs.{HeaderWalk.{header_item, MayBegin, header-good, header-says, current-header}, CanonicalWalk.none-yet}
+use Rattle.mpslp_canonical_mps.proofs.Prelude
+use Prelude.{arith, ◌≡◌, refl, ap, subst, ◌∙◌, List, [], ◌∷◌, ◌++◌, ℕ, Bool, true, false, map, append-nil, Option, Some, None, is_none}
+use Prelude.{codes, flat_map, option_or, is_mps_name, Sense, Minimize, Maximize, Free, Each, declare_sense, declare_objective, Declarations}
+use Prelude.{Draft, empty_draft, with_declaration, with_declarations, LineContent, data_line, letter_of, Name, ObjSense, Rows, Columns}
+use Prelude.{Context, context_of, current_section, objname, data_lines, in_integer_part, last_column, line_declares, form_faults}
+use Prelude.{objname-push}
+use Rattle.mpslp_canonical_mps.proofs.CanonicalContents.{none-yet, header_item, MayBegin, header-good, header-says, current-header}
+use Rattle.mpslp_canonical_mps.proofs.ColumnsWalk.{Cell, cell_item, cell_decl, GoodCell, InCells, cell_step, Unsplit, marker_fields}
+use Rattle.mpslp_canonical_mps.proofs.ColumnsWalk.{marker_part, marker_last, marker_says, marker_good, Group, cells_of, IsGroup, AreApart}
+use Rattle.mpslp_canonical_mps.proofs.ColumnsWalk.{AreAbsent, groups_unsplit}
+use Rattle.mpslp_canonical_mps.proofs.RowsWalk.{Walk, walk-nil, walk-cons, walk-append, section-walk, RowItem, row_item, row_decl, InRows}
+use Rattle.mpslp_canonical_mps.proofs.RowsWalk.{row_step, stays}
 
 -- ---- NAME and OBJSENSE
 
@@ -27,15 +23,15 @@ sense_decl Minimize = []
 sense_decl Maximize = declare_sense Maximize ∷ []
 
 pub start-walk : (sense : Sense) → Walk [] empty_draft (header_item Name ∷ sense_items sense) (sense_decl sense)
-start-walk sense = grind arith
+start-walk = grind arith
 
 -- ROWS may come next
 pub rows-may : (sense : Sense) → MayBegin Rows (header_item Name ∷ sense_items sense)
-rows-may sense = grind arith
+rows-may = grind arith
 
 -- and there is no OBJNAME
 pub start-unnamed : (sense : Sense) → objname (header_item Name ∷ sense_items sense) ≡ None
-start-unnamed sense = grind arith
+start-unnamed = grind arith
 
 -- ---- ROWS
 
@@ -44,10 +40,10 @@ objective_item name = data_line (letter_of Free ∷ name ∷ [])
 
 pub objective-says : (name : List ℕ) (context : Context) (earlier : Draft) → context.section ≡ Some Rows → is_none earlier.objective ≡ true → context.objname ≡ None
     → line_declares context earlier (objective_item name) ≡ declare_objective name ∷ []
-objective-says name context earlier s o unnamed = rw (s, o, unnamed) refl
+objective-says = grind arith
 
 pub objective-good : (name : List ℕ) (context : Context) (earlier : Draft) → context.section ≡ Some Rows → is_mps_name name ≡ true → form_faults context earlier (objective_item name) ≡ []
-objective-good name context earlier s h = rw s (name-good name h)
+objective-good = grind arith
 
 pub rows-walk : (name : List ℕ) (rows : List RowItem) (before : List LineContent) (earlier : Draft) → MayBegin Rows before → objname before ≡ None → is_none earlier.objective ≡ true → is_mps_name name ≡ true
     → Each (λ (row : RowItem). is_mps_name row.0 ≡ true) rows → Walk before earlier (header_item Rows ∷ objective_item name ∷ map row_item rows) (declare_objective name ∷ flat_map row_decl rows)
@@ -72,10 +68,10 @@ part_items [] = []
 part_items (cell ∷ cells) = marker_item true ∷ (map cell_item (cell ∷ cells) ++ marker_item false ∷ [])
 
 no-part : (before : List LineContent) → data_lines Columns before ≡ [] → in_integer_part before ≡ false
-no-part before h = ap (λ (lines : List Fields). option_map_or (same_bytes opening_word) (last_or None (filter_map marker_word lines)) false) h
+no-part = grind arith
 
 no-column : (before : List LineContent) → data_lines Columns before ≡ [] → last_column before ≡ None
-no-column before h = ap (λ (lines : List Fields). option_map_or line_column (last_or None lines) None) h
+no-column = grind arith
 
 part-walk : (cells : List Cell) (before : List LineContent) (earlier : Draft) → current_section before ≡ Some Columns → in_integer_part before ≡ false → Each GoodCell cells
     → Unsplit true None earlier cells → Walk before earlier (part_items cells) (flat_map (cell_decl true) cells)

@@ -1,33 +1,25 @@
 -- The draft of the canonical declarations of a well-formed model means the model.
-use Rattle.std.{proofs.Common.{arith, ◌≡◌, refl, sym, ap, ◌∙◌, List, [], ◌∷◌, ◌++◌, ℕ, Bool, true, false, not, map}, specs.Prelude.Option}
-use Rattle.std.specs.{Prelude.{Some, None, is_some, unwrap_or, ◌&&◌}, List.list_all, Ordering.eq_by_cmp}
-use Rattle.mpslp_decimal.specs.Decimal.{Number, IsDecimal, is_infinite_size, zero_number, negated, have_same_value}
-use Rattle.mpslp_decimal.proofs.{NumberTextLemmas.zero-is, OrderLemmas.same_decimal}
-use Rattle.mpslp_model_core.specs.Model.{LinearModel, Row, Column, is_sound_row, is_sound_column, IsSound, Listing, listing_of}
-use Rattle.mpslp_model_core.{specs.Limits.{plain_limits, has_infinite_rhs}, proofs.PutsLemmas.equal_from}
-use Rattle.mpslp_types.specs.{Name.bytes_cmp, Limit.{is_bounded_decimal, is_lower_side, is_upper_side, are_sides}}
-use Rattle.mpslp_types.specs.declared.kinds.{Sense.{Sense, TheVariants.{Minimize, Maximize}}, Limit.{Limit, TheVariants.{MinusInf, Finite}}}
-use Rattle.mpslp_types.{specs.declared.kinds.{Limit.TheVariants.PlusInf, RowType.TheVariants.Free}, proofs.BoolLemmas.so_not}
-use Rattle.mpslp_types.proofs.EachLemmas.{Each, Each-weaker, Each-both, Each-map, Each-all, list_all-from_Each}
-use Rattle.mpslp_builder.specs.Declaration.{RowDefinition, by_type, Declaration, declare_sense, declare_objective, declare_row, declare_rhs}
-use Rattle.mpslp_builder.specs.Declaration.{declare_range, declare_column, declare_coefficient, declare_lower, declare_upper}
-use Rattle.mpslp_builder.specs.Declaration.{declare_marked, declare_semi, Declarations, Draft, empty_draft, with_declarations, at_name}
-use Rattle.mpslp_builder.specs.{Declaration.has_name, Meaning.{column_of, constant_of, rhs_or_zero, row_limits, row_entry, row_passes}}
-use Rattle.mpslp_builder.{specs.Meaning.DraftMeans, proofs.{RowLemmas.{row_back, side-stated}, BoundsLemmas.column_back}}
-use Rattle.mpslp_builder.proofs.{SortedDrafts.{bytes_total, tied_names}, GivenBack.{model-back, columns-back, no-negative_upper}}
-use Rattle.mpslp_builder.proofs.{GivenBack.binary-within, KeptParts.{Stays, stays-all}, EntryLemmas.{first_there, then_stated, stated}}
-use Rattle.mpslp_builder.proofs.{NamedEntries.own-found, SoundParts.{row_sides, row_distance, column_sides, column_suited, bounded_so}}
-use Rattle.mpslp_builder.proofs.SoundParts.{lower_of, upper_of}
-use Rattle.mpslp_canonical_mps.proofs.{RowsWalk.{RowItem, row_decl, Side, side_decl, range_decl}, ColumnsWalk.{Cell, cell_decl, cells_of}}
-use Rattle.mpslp_canonical_mps.proofs.BoundsWalk.{BoundForm, fixed, free, no_lower, no_upper, semi_upper, Bound, bound_decl, decl_at}
-use Rattle.mpslp_canonical_mps.proofs.{PrintableLemmas.{side-decimal, negated-decimal}, EarlyWalk.sense_decl, WholeWalk.{Whole, whole_decl}}
-use Rattle.mpslp_canonical_mps.proofs.{ListedContents.whole_of, WholeParts.each-whole, ListedParts.{form_stated, value_stated, side_stated}}
-use Rattle.mpslp_canonical_mps.proofs.ListedParts.{range_stated, column_lower, column_upper, row_forms, listed_decl}
+use Rattle.mpslp_canonical_mps.proofs.Prelude
+use Prelude.{arith, ◌≡◌, refl, sym, ap, ◌∙◌, List, [], ◌∷◌, ◌++◌, ℕ, Bool, true, false, not, map, Option, Some, None, is_some, unwrap_or}
+use Prelude.{◌&&◌, list_all, eq_by_cmp, Number, IsDecimal, is_infinite_size, zero_number, negated, have_same_value, zero-is, same_decimal}
+use Prelude.{LinearModel, Row, Column, is_sound_row, is_sound_column, IsSound, Listing, listing_of, plain_limits, has_infinite_rhs}
+use Prelude.{equal_from, bytes_cmp, is_bounded_decimal, is_lower_side, is_upper_side, are_sides, Sense, Minimize, Maximize, Limit, MinusInf}
+use Prelude.{Finite, PlusInf, Free, so_not, Each, Each-weaker, Each-both, Each-map, Each-all, list_all-from_Each, RowDefinition, by_type}
+use Prelude.{Declaration, declare_sense, declare_objective, declare_row, declare_rhs, declare_range, declare_column, declare_coefficient}
+use Prelude.{declare_lower, declare_upper, declare_marked, declare_semi, Declarations, Draft, empty_draft, with_declarations, at_name}
+use Prelude.{has_name, column_of, constant_of, rhs_or_zero, row_limits, row_entry, row_passes, DraftMeans, row_back, side-stated}
+use Prelude.{column_back, bytes_total, tied_names, model-back, columns-back, no-negative_upper, binary-within, Stays, stays-all, rules}
+use Prelude.{first_there, then_stated, stated, own-found, row_sides, row_distance, column_sides, column_suited, bounded_so, lower_of}
+use Prelude.{upper_of, printed_type, printed_rhs, printed_range}
+use Rattle.mpslp_canonical_mps.proofs.{CoefficientMap.{coefficients-kept}, ColumnsWalk.{Cell}}
 use Rattle.mpslp_canonical_mps.proofs.DraftMaps.{IsSoundListing, drafted, rows-drafted, right_side-at, range-at, lower-at, upper-at}
-use Rattle.mpslp_canonical_mps.proofs.DraftMaps.{columns-drafted, marked-at, integers-drafted, binaries-drafted, semis-at}
-use Rattle.mpslp_canonical_mps.proofs.{CoefficientMap.coefficients-kept, ListingFacts.sound-listing, GoodWhole.objective-no-row}
-use Rattle.mpslp_canonical_mps.specs.PrintedValues.{printed_type, printed_rhs, printed_range}
-use Rattle.mpslp_canonical_mps.proofs.BoundsWalk as forms
+use Rattle.mpslp_canonical_mps.proofs.DraftMaps.{columns-drafted, marked-at, integers-drafted, binaries-drafted, semis-at, sound-listing}
+use Rattle.mpslp_canonical_mps.proofs.{EarlyWalk.{sense_decl}, GoodWhole.{objective-no-row}, ListedContents.{whole_of}}
+use Rattle.mpslp_canonical_mps.proofs.ListedParts.{form_stated, value_stated, side_stated, range_stated, column_lower, column_upper}
+use Rattle.mpslp_canonical_mps.proofs.{ListedParts.{each-whole}, PrintableLemmas.{side-decimal, negated-decimal}}
+use Rattle.mpslp_canonical_mps.proofs.RowsWalk.{BoundForm, fixed, free, no_lower, no_upper, semi_upper, decl_at}
+use Rattle.mpslp_canonical_mps.proofs.WholeWalk.{Whole, whole_decl}
+use Rattle.mpslp_canonical_mps.proofs.RowsWalk as forms
 
 -- ---- what is declared once, or not at all
 
@@ -48,12 +40,12 @@ pub each-kind : (P : Declaration → Type 0) (w : Whole) → Each P (sense_decl 
 each-kind P w sense h = each-whole P w (record {
   sense = sense;
   objective = h.of_objective;
-  rows = Each-all (λ (row : RowItem). Each P (row_decl row)) (λ row. (h.of_row row.0 (by_type row.1), tt)) w.rows;
-  plain = Each-all (λ (cell : Cell). Each P (cell_decl false cell)) (λ cell. (h.of_column cell.column, (h.of_coefficient cell, tt))) (cells_of w.plain);
-  integers = Each-all (λ (cell : Cell). Each P (cell_decl true cell)) (λ cell. (h.of_column cell.column, (h.of_marked cell.column, (h.of_coefficient cell, tt)))) (cells_of w.integers);
-  sides = Each-all (λ (side : Side). Each P (side_decl side)) (λ side. (h.of_right_side side.row side.value, tt)) w.late.sides;
-  ranges = Each-all (λ (side : Side). Each P (range_decl side)) (λ side. (h.of_range side.row side.value, tt)) w.late.ranges;
-  bounds = Each-all (λ (b : Bound). Each P (bound_decl b)) (λ b. of_form b.form b.column b.value) w.late.bounds;
+  rows = Each-all _ (λ row. (h.of_row row.0 (by_type row.1), tt)) w.rows;
+  plain = Each-all _ (λ cell. (h.of_column cell.column, (h.of_coefficient cell, tt))) _;
+  integers = Each-all _ (λ cell. (h.of_column cell.column, (h.of_marked cell.column, (h.of_coefficient cell, tt)))) _;
+  sides = Each-all _ (λ side. (h.of_right_side side.row side.value, tt)) w.late.sides;
+  ranges = Each-all _ (λ side. (h.of_range side.row side.value, tt)) w.late.ranges;
+  bounds = Each-all _ (λ b. of_form b.form b.column b.value) w.late.bounds;
 })
   where
     of_form : (form : BoundForm) (x : List ℕ) (v : Number) → Each P (decl_at form x v)
@@ -66,96 +58,62 @@ each-kind P w sense h = each-whole P w (record {
     of_form semi_upper x v = (h.of_semi x, (h.of_upper x (Finite v), tt))
 
 sense-keeps : {X : Type 0} (part : Draft → X) (value : X) (s : Sense) → ((t : Sense) → Stays part value (declare_sense t)) → Each (Stays part value) (sense_decl s)
-sense-keeps part value s h = grind arith
+sense-keeps = grind arith
 
 pub constant-drafted : (m : Listing) → (drafted m).constant ≡ None
 constant-drafted m =
-    stays-all (λ d. d.constant) None (listed_decl m)
-    (each-kind (Stays (λ d. d.constant) None) (whole_of m) (sense-keeps (λ d. d.constant) None m.sense (λ _ all is. is)) (record {
-      of_objective = λ all is. is;
-      of_row = λ _ _ all is. is;
-      of_right_side = λ _ _ all is. is;
-      of_range = λ _ _ all is. is;
-      of_column = λ _ all is. is;
-      of_marked = λ _ all is. is;
-      of_coefficient = λ _ all is. is;
-      of_lower = λ _ _ all is. is;
-      of_upper = λ _ _ all is. is;
-      of_semi = λ _ all is. is;
-    })) empty_draft refl
+    stays-all _ None _
+    (each-kind (Stays (λ d. d.constant) None) (whole_of m) (sense-keeps (λ d. d.constant) None m.sense (λ _ all is. is)) (search rules)) empty_draft refl
 
 -- from the objective on
 first-named : (name : List ℕ) (s : Sense) (more : Declarations) → Each (Stays (λ d. d.objective) (Some name)) (sense_decl s ++ (declare_objective name ∷ more))
     → (with_declarations empty_draft (sense_decl s ++ (declare_objective name ∷ more))).objective ≡ Some name
-first-named name s more h = grind (arith, stays-all)
+first-named = grind (arith, stays-all)
 
 pub objective-drafted : (m : Listing) → (drafted m).objective ≡ Some m.objective
 objective-drafted m =
     first-named m.objective m.sense _
-    (each-kind (Stays (λ d. d.objective) (Some m.objective)) (whole_of m) (sense-keeps (λ d. d.objective) (Some m.objective) m.sense (λ _ all is. is)) (record {
-      of_objective = λ all is. refl;
-      of_row = λ _ _ all is. is;
-      of_right_side = λ _ _ all is. is;
-      of_range = λ _ _ all is. is;
-      of_column = λ _ all is. is;
-      of_marked = λ _ all is. is;
-      of_coefficient = λ _ all is. is;
-      of_lower = λ _ _ all is. is;
-      of_upper = λ _ _ all is. is;
-      of_semi = λ _ all is. is;
-    }))
+    (each-kind (Stays (λ d. d.objective) (Some m.objective)) (whole_of m) (sense-keeps (λ d. d.objective) (Some m.objective) m.sense (λ _ all is. is)) (search rules))
 
 abbrev stated_sense : Sense → Option Sense
 stated_sense Minimize = None
 stated_sense Maximize = Some Maximize
 
 first-sense : (s : Sense) (more : Declarations) → Each (Stays (λ d. d.sense) (stated_sense s)) (sense_decl s ++ more) → (with_declarations empty_draft (sense_decl s ++ more)).sense ≡ stated_sense s
-first-sense s more h = grind (arith, stays-all)
+first-sense = grind (arith, stays-all)
 
 own_sense : (s : Sense) → Each (Stays (λ d. d.sense) (stated_sense s)) (sense_decl s)
-own_sense s = grind arith
+own_sense = grind arith
 
 sense-back : (s : Sense) → unwrap_or (stated_sense s) Minimize ≡ s
-sense-back s = grind arith
+sense-back = grind arith
 
 pub sense-drafted : (m : Listing) → unwrap_or (drafted m).sense Minimize ≡ m.sense
 sense-drafted m =
-    ap (λ (o : Option Sense). unwrap_or o Minimize)
-    (first-sense m.sense _
-    (each-kind (Stays (λ d. d.sense) (stated_sense m.sense)) (whole_of m) (own_sense m.sense) (record {
-      of_objective = λ all is. is;
-      of_row = λ _ _ all is. is;
-      of_right_side = λ _ _ all is. is;
-      of_range = λ _ _ all is. is;
-      of_column = λ _ all is. is;
-      of_marked = λ _ all is. is;
-      of_coefficient = λ _ all is. is;
-      of_lower = λ _ _ all is. is;
-      of_upper = λ _ _ all is. is;
-      of_semi = λ _ all is. is;
-    }))) ∙ sense-back m.sense
+    ap (λ (o : Option Sense). unwrap_or o Minimize) (first-sense m.sense _
+    (each-kind (Stays (λ d. d.sense) (stated_sense m.sense)) (whole_of m) (own_sense m.sense) (search rules))) ∙ sense-back m.sense
 
 -- ---- the constant
 
 negated-twice : (d : Number) → negated (negated d) ≡ d
-negated-twice d = grind arith
+negated-twice = grind arith
 
 stated-own : (q : List ℕ) (o : Option Number) → at_name (stated q o) q ≡ o
-stated-own q o = grind (arith, bytes_total)
+stated-own = grind (arith, bytes_total)
 
 value-back : (d : Number) → IsDecimal d → unwrap_or (value_stated d) zero_number ≡ d
 value-back d h = side-stated d (zero-is d h)
 
 pub constant-back : (m : Listing) → IsSoundListing m → constant_of (drafted m) ≡ m.constant
-constant-back m h = grind (arith, drafted, objective-drafted, value_stated, right_side-at, first_there, then_stated, side_stated, stated, objective-no-row, stated-own, constant-drafted, value-back, negated-decimal, negated-twice)
+constant-back = grind (arith, drafted, objective-drafted, value_stated, right_side-at, first_there, then_stated, side_stated, stated, objective-no-row, stated-own, constant-drafted, value-back, negated-decimal, negated-twice)
 
 -- ---- rows
 
 stated-other : (q name : List ℕ) (o : Option Number) → eq_by_cmp bytes_cmp q name ≡ false → at_name (stated name o) q ≡ None
-stated-other q name o h = grind arith
+stated-other = grind arith
 
 first_none : {X : Type 0} (o : Option X) → first_there o None ≡ o
-first_none o = grind arith
+first_none = grind arith
 
 no_some : {X : Type 0} (x : X) → ◌≡◌ {A = Option X} None (Some x) → ⊥
 no_some x e = cc
@@ -164,12 +122,12 @@ pub other-name : (m : Listing) → IsSoundListing m → (row : List ℕ × Row) 
 other-name m h row is = by (eq_by_cmp bytes_cmp row.0 m.objective) refl
   where
     by : (b : Bool) → eq_by_cmp bytes_cmp row.0 m.objective ≡ b → b ≡ false
-    by true e = absurd (no_some row.1 (sym (objective-no-row m h) ∙ ap (at_name m.rows) (sym (tied_names row.0 m.objective (equal_from (bytes_cmp row.0 m.objective) e))) ∙ is))
+    by true e = absurd (no_some row.1 (sym (objective-no-row m h) ∙ ap (at_name m.rows) (sym (tied_names row.0 m.objective (equal_from _ e))) ∙ is))
     by false e = refl
 
 pub side-back : (m : Listing) → IsSoundListing m → (row : List ℕ × Row) → is_sound_row row ≡ true → at_name m.rows row.0 ≡ Some row.1
     → rhs_or_zero (drafted m) row.0 ≡ printed_rhs row.1.lower row.1.upper
-side-back m h row sound is = grind (arith, stated, value_stated, drafted, right_side-at, first_there, then_stated, side_stated, stated-other, other-name, first_none, value-back, side-decimal, row_sides)
+side-back = grind (arith, stated, value_stated, drafted, right_side-at, first_there, then_stated, side_stated, stated-other, other-name, first_none, value-back, side-decimal, row_sides)
 
 pub range-back : (m : Listing) → IsSoundListing m → (row : List ℕ × Row) → at_name m.rows row.0 ≡ Some row.1 → at_name (drafted m).ranges row.0 ≡ printed_range row.1.lower row.1.upper
 range-back m h row is = range-at m h row.0 ∙ ap (then_stated range_stated) is
@@ -178,10 +136,10 @@ abbrev pub stated_row : List ℕ × Row → List ℕ × RowDefinition
 stated_row row = (row.0, form_stated row.1)
 
 pub limits-back : (m : Listing) → IsSoundListing m → (row : List ℕ × Row) → is_sound_row row ≡ true → at_name m.rows row.0 ≡ Some row.1 → row_limits (drafted m) (stated_row row) ≡ Some row.1
-limits-back m h row sound is = grind (arith, form_stated, side-back, range-back, row_back, row_sides, row_distance)
+limits-back = grind (arith, form_stated, side-back, range-back, row_back, row_sides, row_distance)
 
 entry-back : (m : Listing) → IsSoundListing m → (row : List ℕ × Row) → is_sound_row row ≡ true → at_name m.rows row.0 ≡ Some row.1 → row_entry (drafted m) (stated_row row) ≡ row
-entry-back m h row sound is = ap (λ (o : Option Row). (row.0, unwrap_or o (plain_limits Free zero_number))) (limits-back m h row sound is)
+entry-back m h row sound is = ap (λ o. (row.0, unwrap_or o (plain_limits Free zero_number))) (limits-back m h row sound is)
 
 each-back : {X Y : Type 0} (f : X → Y) (g : Y → X) (xs : List X) → Each (λ x. g (f x) ≡ x) xs → map g (map f xs) ≡ xs
 each-back f g [] h = refl
@@ -191,12 +149,12 @@ abbrev pub IsOwnRow : Listing → List ℕ × Row → Type 0
 IsOwnRow m row = (is_sound_row row ≡ true) × (at_name m.rows row.0 ≡ Some row.1)
 
 pub own-rows : (m : Listing) → IsSoundListing m → Each (IsOwnRow m) m.rows
-own-rows m h = Each-both (λ row. is_sound_row row ≡ true) (λ row. at_name m.rows row.0 ≡ Some row.1) (IsOwnRow m) (λ row k is. (k, is)) m.rows h.rows (own-found m.rows h.rows_sorted)
+own-rows m h = Each-both _ _ _ (λ row k is. (k, is)) m.rows h.rows (own-found m.rows h.rows_sorted)
 
 pub rows-back : (m : Listing) → IsSoundListing m → map (row_entry (drafted m)) (drafted m).rows ≡ m.rows
 rows-back m h =
     ap (map (row_entry (drafted m))) (rows-drafted m h)
-    ∙ each-back stated_row (row_entry (drafted m)) m.rows (Each-weaker (IsOwnRow m) (λ row. row_entry (drafted m) (stated_row row) ≡ row) (λ row k. entry-back m h row k.0 k.1) m.rows (own-rows m h))
+    ∙ each-back stated_row (row_entry (drafted m)) m.rows (Each-weaker _ _ (λ row k. entry-back m h row k.0 k.1) m.rows (own-rows m h))
 
 -- ---- columns
 
@@ -204,7 +162,7 @@ abbrev pub IsOwnColumn : Listing → List ℕ × Column → Type 0
 IsOwnColumn m column = (is_sound_column column ≡ true) × (at_name m.columns column.0 ≡ Some column.1)
 
 pub own-columns : (m : Listing) → IsSoundListing m → Each (IsOwnColumn m) m.columns
-own-columns m h = Each-both (λ column. is_sound_column column ≡ true) (λ column. at_name m.columns column.0 ≡ Some column.1) (IsOwnColumn m) (λ column k is. (k, is)) m.columns h.columns (own-found m.columns h.columns_sorted)
+own-columns m h = Each-both _ _ _ (λ column k is. (k, is)) m.columns h.columns (own-found m.columns h.columns_sorted)
 
 finite-lower : (l : Limit) (a : Number) → is_lower_side l ≡ true → l ≡ Finite a → IsDecimal a
 finite-lower l a h e = bounded_so a (sym (ap is_lower_side e) ∙ h)
@@ -227,21 +185,21 @@ bounds-back m h column k =
     (λ a p z. zero-is a (finite-lower l a lower_side p) z)
 
 each-column_back : (m : Listing) → IsSoundListing m → Each (λ column. column_of (drafted m) column.0 ≡ column.1) m.columns
-each-column_back m h = Each-weaker (IsOwnColumn m) (λ column. column_of (drafted m) column.0 ≡ column.1) (bounds-back m h) m.columns (own-columns m h)
+each-column_back m h = Each-weaker _ _ (bounds-back m h) m.columns (own-columns m h)
 
 -- ---- right-hand sides
 
 and_false : (a b : Bool) → a ≡ false → (a && b) ≡ false
-and_false a b h = grind arith
+and_false = grind arith
 
 finite_size : (a : Number) → is_bounded_decimal a ≡ true → is_infinite_size a ≡ false
-finite_size a h = grind arith
+finite_size = grind arith
 
 finite-side : (l u : Limit) → are_sides l u ≡ true → has_infinite_rhs (by_type (printed_type l u)) (printed_rhs l u) (printed_range l u) ≡ false
-finite-side l u h = grind (arith, and_false, finite_size)
+finite-side = grind (arith, and_false, finite_size)
 
 finite-row : (m : Listing) → IsSoundListing m → (row : List ℕ × Row) → IsOwnRow m row → not (row_passes (drafted m) has_infinite_rhs (stated_row row)) ≡ true
-finite-row m h row k = grind (arith, so_not, drafted, form_stated, side-back, range-back, finite-side, row_sides)
+finite-row = grind (arith, so_not, drafted, form_stated, side-back, range-back, finite-side, row_sides)
 
 -- The draft of the canonical declarations of a well-formed model means it.
 pub draft-means : (m : LinearModel) → IsSound m → DraftMeans (drafted (listing_of m)) m
@@ -253,16 +211,16 @@ draft-means m sound =
     let back = each-column_back listing h in
     record {
       finite_rhs_values = ap (list_all (λ row. not (row_passes all has_infinite_rhs row))) (rows-drafted listing h)
-          ∙ list_all-from_Each (λ row. not (row_passes all has_infinite_rhs row)) (row_forms listing.rows)
-          (Each-map (λ row. not (row_passes all has_infinite_rhs row) ≡ true) stated_row listing.rows
-          (Each-weaker (IsOwnRow listing) (λ row. not (row_passes all has_infinite_rhs (stated_row row)) ≡ true) (finite-row listing h) listing.rows (own-rows listing h)));
+          ∙ list_all-from_Each _ _
+          (Each-map _ stated_row listing.rows
+          (Each-weaker _ _ (finite-row listing h) listing.rows (own-rows listing h)));
       exact_limits = ap (list_all (λ row. is_some (row_limits all row))) (rows-drafted listing h)
-          ∙ list_all-from_Each (λ row. is_some (row_limits all row)) (row_forms listing.rows)
-          (Each-map (λ row. is_some (row_limits all row) ≡ true) stated_row listing.rows
-          (Each-weaker (IsOwnRow listing) (λ row. is_some (row_limits all (stated_row row)) ≡ true) (λ row k. ap is_some (limits-back listing h row k.0 k.1)) listing.rows (own-rows listing h)));
+          ∙ list_all-from_Each _ _
+          (Each-map _ stated_row listing.rows
+          (Each-weaker _ _ (λ row k. ap is_some (limits-back listing h row k.0 k.1)) listing.rows (own-rows listing h)));
       model = model-back all m (record {
         sense = sense-drafted listing;
-        objective = ap (λ (o : Option (List ℕ)). unwrap_or o []) (objective-drafted listing);
+        objective = ap (λ o. unwrap_or o []) (objective-drafted listing);
         constant = constant-back listing h;
         rows = rows-back listing h;
         columns = columns-back all listing.columns declared back;

@@ -1,10 +1,8 @@
 -- The laws of MPS as a format of model files, in terms of the trait `Format`.
-use Rattle.std.{proofs.Common.{◌≡◌, refl, List, ℕ}, specs.Prelude.{Option, None}}
-use Rattle.mpslp_model_core.specs.Model.{LinearModel, IsSound}
-use Rattle.mpslp_types.specs.declared.faults.{Fault.Fault, NameAt.NameAt}
-use Rattle.mpslp_mps.{specs.{MpsText.DeclaresMps, FirstFault.IsFirstMpsFault}, proofs.ModelOrFault.model-or_fault}
-use Rattle.mpslp_canonical_mps.{specs.CanonicalMps.canonical_mps, proofs.{CanonicalDeclares.canonical-declares, OneAnswer.one-model}}
-use Rattle.mpslp_canonical_mps.proofs.OneAnswer.{one-fault}
+use Rattle.mpslp_canonical_mps.proofs.Prelude
+use Prelude.{◌≡◌, List, ℕ, Option, None, LinearModel, IsSound, Fault, NameAt, DeclaresMps, IsFirstMpsFault, model-or_fault, canonical_mps}
+use Prelude.{arith}
+use Rattle.mpslp_canonical_mps.proofs.CanonicalDeclares.{canonical-declares, one-model, one-fault}
 
 -- MPS can express every model.
 abbrev pub mps_unfit : LinearModel → Option NameAt
@@ -20,7 +18,7 @@ one_model = one-model
 
 -- What bytes declare is well-formed, and MPS can express it.
 pub declared_sound : (bytes : List ℕ) (m : LinearModel) → DeclaresMps bytes m → IsSound m × (mps_unfit m ≡ None)
-declared_sound bytes m declares = (declares.means.meant.sound, refl)
+declared_sound = grind arith
 
 -- Bytes that declare a model have no error.
 pub no_fault : (bytes : List ℕ) (m : LinearModel) (fault : Fault) → DeclaresMps bytes m → IsFirstMpsFault bytes fault → ⊥

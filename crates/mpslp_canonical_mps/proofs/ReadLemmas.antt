@@ -1,18 +1,12 @@
 -- The canonical text of a well-formed model is read line by line as it was printed, up to ENDATA, its last line.
-use Rattle.std.proofs.Common.{rules, ◌≡◌, refl, sym, ap, subst, ◌∙◌, List, [], ◌∷◌, ◌++◌, ℕ, suc, ◌+◌, true, false, cond, map, arith, take}
-use Rattle.std.specs.{Prelude.codes, List.{list_any, flat_map, position_or_len}, Str.Lines.lines}
-use Rattle.mpslp_decimal.specs.Decimal.{Number, is_zero}
-use Rattle.mpslp_model_core.specs.Model.{Row, Column, Listing, listing_of}
-use Rattle.mpslp_types.{specs.declared.kinds.Sense.Sense, proofs.EachLemmas.{Each, Each-append, Each-map, Each-flat_map, Each-all}}
-use Rattle.mpslp_mps_fields.specs.{Line.begins, declared.sections.Section.{Section, TheVariants.{Name, EndData}}}
-use Rattle.mpslp_mps.specs.MpsText.{is_end}
-use Rattle.mpslp_canonical_mps.specs.CanonicalMps.{PrintedLine, line_text, Lines, header_line, under_header, sense_lines, rows_section}
-use Rattle.mpslp_canonical_mps.specs.CanonicalMps.{coefficient_line, column_coefficients, printed_coefficients, column_lines, integer_part}
-use Rattle.mpslp_canonical_mps.specs.CanonicalMps.{columns_section, vector_line, rhs_lines, rhs_section, range_lines, ranges_section}
-use Rattle.mpslp_canonical_mps.specs.CanonicalMps.{bound_line, column_bound_lines, bounds_section, listed_lines, canonical_lines}
-use Rattle.mpslp_canonical_mps.specs.{CanonicalMps.canonical_mps, PrintedDeclarations.content_in, PrintedValues.printed_bounds}
-use Rattle.mpslp_canonical_mps.{specs.Laws.AreReadAsPrinted, proofs.TextLemmas.{IsPrintable, item-line_text, items-line_text, legal-lines}}
-use Rattle.mpslp_canonical_mps.proofs.{TextLemmas.lines-text, PrintableLemmas.canonical-printable}
+use Rattle.mpslp_canonical_mps.proofs.Prelude
+use Prelude.{rules, ◌≡◌, refl, sym, ap, subst, ◌∙◌, List, [], ◌∷◌, ◌++◌, ℕ, suc, ◌+◌, true, false, map, arith, take, list_any, flat_map}
+use Prelude.{position_or_len, lines, Number, Row, Column, Listing, listing_of, Sense, Each, Each-append, Each-map, Each-flat_map, Each-all}
+use Prelude.{begins, Section, Name, EndData, is_end, PrintedLine, line_text, Lines, header_line, under_header, sense_lines, rows_section}
+use Prelude.{column_lines, integer_part, columns_section, rhs_lines, rhs_section, range_lines, ranges_section, column_bound_lines}
+use Prelude.{bounds_section, listed_lines, canonical_lines, canonical_mps, content_in, AreReadAsPrinted}
+use Rattle.mpslp_canonical_mps.proofs.PrintableLemmas.{canonical-printable}
+use Rattle.mpslp_canonical_mps.proofs.TextLemmas.{IsPrintable, item-line_text, items-line_text, legal-lines, lines-text}
 
 -- ---- only the last line is ENDATA
 
@@ -23,13 +17,13 @@ lines_before_end m =
 
 lines-assoc : (xs ys zs : Lines) → (xs ++ ys) ++ zs ≡ xs ++ (ys ++ zs)
 lines-assoc [] ys zs = refl
-lines-assoc (x ∷ xs) ys zs = ap (λ (more : Lines). x ∷ more) (lines-assoc xs ys zs)
+lines-assoc (x ∷ xs) ys zs = ap (λ more. x ∷ more) (lines-assoc xs ys zs)
 
 regroup : (a b c d e f g : Lines) → (a ++ (b ++ (c ++ (d ++ (e ++ f))))) ++ g ≡ a ++ (b ++ (c ++ (d ++ (e ++ (f ++ g)))))
-regroup a b c d e f g = grind (arith, lines-assoc)
+regroup = grind (arith, lines-assoc)
 
 pub lines-end : (m : Listing) → listed_lines m ≡ lines_before_end m ++ header_line EndData ∷ []
-lines-end m = search (rules, regroup)
+lines-end = search (rules, regroup)
 
 abbrev pub GoesOn : PrintedLine → Type 0
 GoesOn l = begins EndData (content_in l) ≡ false
@@ -38,47 +32,47 @@ abbrev AllGoOn : Lines → Type 0
 AllGoOn ls = Each GoesOn ls
 
 under-goes : (section : Section) (ls : Lines) → GoesOn (header_line section) → AllGoOn ls → AllGoOn (under_header section ls)
-under-goes section ls s h = grind arith
+under-goes = grind arith
 
 in-turn : (xs ys : Lines) → AllGoOn xs → AllGoOn ys → AllGoOn (xs ++ ys)
 in-turn xs ys h k = Each-append GoesOn xs ys h k
 
 mapped-go : {X : Type 0} (f : X → PrintedLine) → ((x : X) → GoesOn (f x)) → (xs : List X) → AllGoOn (map f xs)
-mapped-go f h xs = Each-map GoesOn f xs (Each-all (λ x. GoesOn (f x)) h xs)
+mapped-go f h xs = Each-map GoesOn f xs (Each-all _ h xs)
 
 flat-go : {X : Type 0} (f : X → Lines) → ((x : X) → AllGoOn (f x)) → (xs : List X) → AllGoOn (flat_map f xs)
-flat-go f h xs = Each-flat_map GoesOn f xs (Each-all (λ x. AllGoOn (f x)) h xs)
+flat-go f h xs = Each-flat_map GoesOn f xs (Each-all _ h xs)
 
 sense-go : (sense : Sense) → AllGoOn (sense_lines sense)
-sense-go sense = grind arith
+sense-go = grind arith
 
 part-go : (ls : Lines) → AllGoOn ls → AllGoOn (integer_part ls)
-part-go ls h = grind (arith, in-turn)
+part-go = grind (arith, in-turn)
 
 columns-go : (m : Listing) (columns : List (List ℕ × Column)) → AllGoOn (flat_map (column_lines m) columns)
-columns-go m columns = flat-go (column_lines m) (λ column. mapped-go (coefficient_line column.0) (λ _. refl) (printed_coefficients m.objective (column_coefficients m column.0))) columns
+columns-go = grind (arith, flat-go, mapped-go)
 
 side-go : (row : List ℕ) (value : Number) → AllGoOn (rhs_lines row value)
-side-go row value = elim (is_zero value) as (λ b. AllGoOn (cond b [] (vector_line (codes "RHS") row value ∷ []))) [ true ↦ tt | false ↦ (refl, tt) ]
+side-go = grind arith
 
 range-go : (row : List ℕ × Row) → AllGoOn (range_lines row)
-range-go row = grind arith
+range-go = grind arith
 
 bounds-go : (column : List ℕ × Column) → AllGoOn (column_bound_lines column)
-bounds-go column = mapped-go (bound_line column.0) (λ _. refl) (printed_bounds column.1.kind column.1.lower column.1.upper)
+bounds-go = grind arith
 
 pub before-go : (m : Listing) → AllGoOn (lines_before_end m)
-before-go m = grind (arith, in-turn, sense-go, mapped-go, columns-go, part-go, under-goes, side-go, flat-go, range-go, bounds-go)
+before-go = grind (arith, in-turn, sense-go, mapped-go, columns-go, part-go, under-goes, side-go, flat-go, range-go, bounds-go)
 
 -- ---- so all lines are read
 
 not_end : (l : PrintedLine) → IsPrintable l → GoesOn l → is_end (line_text l) ≡ false
-not_end l p g = ap (begins EndData) (item-line_text l p) ∙ g
+not_end = grind (arith, item-line_text)
 
 all-read : (ls : Lines) (last : PrintedLine) → Each IsPrintable ls → IsPrintable last → AllGoOn ls → begins EndData (content_in last) ≡ true
     → (take (suc (position_or_len is_end (map line_text (ls ++ last ∷ [])))) (map line_text (ls ++ last ∷ [])) ≡ map line_text (ls ++ last ∷ []))
     × (list_any is_end (map line_text (ls ++ last ∷ [])) ≡ true)
-all-read [] last h p g e = let here : is_end (line_text last) ≡ true = ap (begins EndData) (item-line_text last p) ∙ e in (rw here refl, rw here refl)
+all-read [] last h p g e = grind (arith, item-line_text)
 all-read (l ∷ ls) last h p g e =
     let more = all-read ls last h.1 p g.1 e in
     let here : is_end (line_text l) ≡ false = not_end l h.0 g.0 in
@@ -87,7 +81,7 @@ all-read (l ∷ ls) last h p g e =
 
 each-parts : (xs ys : Lines) → Each IsPrintable (xs ++ ys) → Each IsPrintable xs × Each IsPrintable ys
 each-parts [] ys h = (tt, h)
-each-parts (x ∷ xs) ys h = let more = each-parts xs ys h.1 in ((h.0, more.0), more.1)
+each-parts (x ∷ xs) ys h = grind (arith, each-parts xs ys h.1)
 
 abbrev up_to_end : List (List ℕ) → List (List ℕ)
 up_to_end ls = take (suc (position_or_len is_end ls)) ls

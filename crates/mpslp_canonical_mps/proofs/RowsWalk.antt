@@ -1,25 +1,85 @@
+-- Items one after another: what they declare, and that they are well-formed.
 -- Printed lines of ROWS, RHS and RANGES: what each declares, and that it is well-formed.
-use Rattle.std.{proofs.Common.{arith, ◌≡◌, refl, ap, ◌∙◌, List, [], ◌∷◌, ◌++◌, ℕ, true, false}, specs.Prelude.{Option, Some, is_none, Ok}}
-use Rattle.mpslp_decimal.specs.{Decimal.Number, Literal.number_of}
-use Rattle.mpslp_types.{specs.{Name.is_mps_name, Lists.those_of, declared.kinds.RowType.RowType}, proofs.EachLemmas.{Each, Each-append}}
-use Rattle.mpslp_builder.specs.Declaration.{by_type, declare_row, declare_rhs, declare_range, Declarations, Draft, is_free_row}
-use Rattle.mpslp_builder.proofs.LaterDrafts.{itself_named}
-use Rattle.mpslp_mps_fields.specs.{Line.{Fields, LineContent, data_line}, DataLine.letter_of, declared.sections.Section.Section}
-use Rattle.mpslp_mps_fields.specs.declared.sections.Section.TheVariants.{Rows, Rhs, Ranges}
-use Rattle.mpslp_mps.specs.Context.{Context, context_of, current_section, data_lines, fields_under, vector_set, first_set}
-use Rattle.mpslp_mps.{specs.{LineDeclarations.line_declares, LineFault.set_tests}, proofs.ContextLineLemmas.form_faults}
-use Rattle.mpslp_mps.proofs.SectionLemmas.{current_section-push, data_lines-push}
-use Rattle.mpslp_lines.specs.FaultTests.{name_tests, number_tests}
-use Rattle.mpslp_canonical_mps.proofs.ContentsWalk.{Step}
+-- Printed lines of BOUNDS: what each declares, and that it is well-formed.
+use Rattle.mpslp_canonical_mps.proofs.Prelude
+use Prelude.{arith, ◌≡◌, refl, sym, ap, subst, ◌∙◌, List, [], ◌∷◌, ◌++◌, true, map, append_assoc, append-nil, flat_map, first_so, second_so}
+use Prelude.{Declarations, Draft, with_declarations, with_declarations-append, is_nonempty, both_so, LineContent, context_of, line_declares}
+use Prelude.{form_faults, declared_items, are_well_formed, subst₂, ℕ, false, Option, Some, is_none, Ok, Number, number_of, is_mps_name}
+use Prelude.{those_of, RowType, Each, Each-append, by_type, declare_row, declare_rhs, declare_range, is_free_row, itself_named, Fields}
+use Prelude.{data_line, letter_of, Section, Rows, Rhs, Ranges, Context, current_section, data_lines, fields_under, vector_set, first_set}
+use Prelude.{set_tests, current_section-push, data_lines-push, name_tests, number_tests, limit_of, MinusInf, Finite, PlusInf, declare_lower}
+use Prelude.{declare_upper, declare_semi, letters_of, Bounds, bound_set}
+use Rattle.std.specs.Prelude.{not}
+use Rattle.mpslp_mps_fields.specs.declared.bound_types.BoundType.TheVariants as bounds
+
+-- after these items and this draft, the items are well-formed and declare these
+pub record Walk (before : List LineContent) (earlier : Draft) (items : List LineContent) (ds : Declarations) : Type 0 where
+  pub declares : declared_items before earlier items ≡ ds
+  pub good : are_well_formed before earlier items ≡ true
+
+pub walk-nil : (before : List LineContent) (earlier : Draft) → Walk before earlier [] []
+walk-nil = grind arith
+
+pub walk-cons : (before : List LineContent) (earlier : Draft) (item : LineContent) (items : List LineContent) (here ds : Declarations) → line_declares (context_of before) earlier item ≡ here
+    → form_faults (context_of before) earlier item ≡ [] → Walk (before ++ item ∷ []) (with_declarations earlier here) items ds → Walk before earlier (item ∷ items) (here ++ ds)
+walk-cons = grind arith
+
+declared_items-append : (before : List LineContent) (earlier : Draft) (xs ys : List LineContent)
+    → declared_items before earlier (xs ++ ys) ≡ declared_items before earlier xs ++ declared_items (before ++ xs) (with_declarations earlier (declared_items before earlier xs)) ys
+declared_items-append before earlier [] ys = ap (λ b. declared_items b earlier ys) (sym (append-nil before))
+declared_items-append before earlier (x ∷ xs) ys =
+    let here = line_declares (context_of before) earlier x in
+    let next = with_declarations earlier here in
+    let more = declared_items (before ++ x ∷ []) next xs in
+    let places = append_assoc before _ xs in
+    ap (λ ds. here ++ ds) (declared_items-append (before ++ x ∷ []) next xs ys)
+    ∙ (λ i. here ++ (more ++ declared_items (places i) (sym (with_declarations-append here more earlier) i) ys))
+    ∙ sym (append_assoc here more _)
+
+good-append : (before : List LineContent) (earlier : Draft) (xs ys : List LineContent) → are_well_formed before earlier xs ≡ true
+    → are_well_formed (before ++ xs) (with_declarations earlier (declared_items before earlier xs)) ys ≡ true → are_well_formed before earlier (xs ++ ys) ≡ true
+good-append before earlier [] ys g h = ap (λ b. are_well_formed b earlier ys) (sym (append-nil before)) ∙ h
+good-append before earlier (x ∷ xs) ys g h =
+    let here = line_declares (context_of before) earlier x in
+    let fine = not (is_nonempty (form_faults (context_of before) earlier x)) in
+    let next = with_declarations earlier here in
+    let rest = are_well_formed (before ++ x ∷ []) next xs in
+    let more = declared_items (before ++ x ∷ []) next xs in
+    both_so _ _ (first_so _ _ g)
+    (good-append (before ++ x ∷ []) next xs ys (second_so _ _ g)
+    ((λ i. are_well_formed (append_assoc before (x ∷ []) xs i) (sym (with_declarations-append here more earlier) i) ys) ∙ h))
+
+pub walk-append : (before : List LineContent) (earlier : Draft) (xs ys : List LineContent) (ds es : Declarations) → Walk before earlier xs ds
+    → Walk (before ++ xs) (with_declarations earlier ds) ys es → Walk before earlier (xs ++ ys) (ds ++ es)
+walk-append = grind (arith, declared_items-append, declared_items, good-append, are_well_formed)
+
+-- one more item of a section, and what holds after it
+pub record Step {X : Type 0} (item : X → LineContent) (decl : X → Declarations) (Inv : List X → List LineContent → Draft → Type 0) (x : X) (rest : List X) (before : List LineContent) (earlier : Draft) : Type 0 where
+  pub says : line_declares (context_of before) earlier (item x) ≡ decl x
+  pub good : form_faults (context_of before) earlier (item x) ≡ []
+  pub next : Inv rest (before ++ item x ∷ []) (with_declarations earlier (decl x))
+
+-- A section each of whose items keeps what the section needs.
+pub section-walk : {X : Type 0} (item : X → LineContent) (decl : X → Declarations) (Inv : List X → List LineContent → Draft → Type 0)
+    → ((x : X) (rest : List X) (before : List LineContent) (earlier : Draft) → Inv (x ∷ rest) before earlier → Step item decl Inv x rest before earlier)
+    → (xs : List X) (before : List LineContent) (earlier : Draft) → Inv xs before earlier
+    → Walk before earlier (map item xs) (flat_map decl xs) × Inv [] (before ++ map item xs) (with_declarations earlier (flat_map decl xs))
+section-walk item decl Inv step [] before earlier h = (walk-nil before earlier, subst (λ b. Inv [] b earlier) (sym (append-nil before)) h)
+section-walk item decl Inv step (x ∷ xs) before earlier h =
+    let s = step x xs before earlier h in
+    let more = section-walk item decl Inv step xs (before ++ item x ∷ []) (with_declarations earlier (decl x)) s.next in (
+      walk-cons before earlier _ _ _ _ s.says s.good more.0,
+      subst₂ (λ (b : List LineContent) (e : Draft). Inv [] b e) (append_assoc before _ (map item xs)) (sym (with_declarations-append (decl x) (flat_map decl xs) earlier)) more.1,
+    )
 
 -- ---- fields without an error
 
 pub name-good : (name : List ℕ) → is_mps_name name ≡ true → those_of (name_tests name) ≡ []
-name-good name h = grind arith
+name-good = grind arith
 
 -- each line so far has this set name
 abbrev pub HaveSet : (Fields → Option (List ℕ)) → List ℕ → List Fields → Type 0
-HaveSet set_of set lines = Each (λ (fields : Fields). set_of fields ≡ Some set) lines
+HaveSet set_of set lines = Each (λ fields. set_of fields ≡ Some set) lines
 
 pub set-good : (set_of : Fields → Option (List ℕ)) (set : List ℕ) (lines : List Fields) → HaveSet set_of set lines → those_of (set_tests (first_set set_of lines) set) ≡ []
 set-good set_of set [] h = refl
@@ -27,7 +87,7 @@ set-good set_of set (l ∷ ls) h = rw (h.0, itself_named set) refl
 
 -- a data line stays in its section
 pub stays : (section : Section) (fields : Fields) (before : List LineContent) → current_section before ≡ Some section → current_section (before ++ data_line fields ∷ []) ≡ Some section
-stays section fields before s = current_section-push before (data_line fields) ∙ s
+stays = grind (arith, current_section-push)
 
 -- ---- rows
 
@@ -48,13 +108,13 @@ pub record InRows (rest : List RowItem) (before : List LineContent) (earlier : D
 
 pub row_says : (row : RowItem) (context : Context) (earlier : Draft) → context.section ≡ Some Rows → is_none earlier.objective ≡ false
     → line_declares context earlier (row_item row) ≡ row_decl row
-row_says row context earlier s o = grind arith
+row_says = grind arith
 
 pub row_good : (row : RowItem) (context : Context) (earlier : Draft) → context.section ≡ Some Rows → is_mps_name row.0 ≡ true → form_faults context earlier (row_item row) ≡ []
-row_good row context earlier s h = grind arith
+row_good = grind arith
 
 pub row_step : (row : RowItem) (rest : List RowItem) (before : List LineContent) (earlier : Draft) → InRows (row ∷ rest) before earlier → Step row_item row_decl InRows row rest before earlier
-row_step row rest before earlier h = grind (arith, row_says, row_good, stays)
+row_step = grind (arith, row_says, row_good, stays)
 
 -- ---- right-hand sides and ranges
 
@@ -89,20 +149,20 @@ pub record InSides (set : List ℕ) (rest : List Side) (before : List LineConten
 
 pub side_says : (set : List ℕ) (side : Side) (context : Context) (earlier : Draft) → context.section ≡ Some Rhs → ReadsAs side → is_free_row earlier side.row ≡ false
     → line_declares context earlier (side_item set side) ≡ side_decl side
-side_says set side context earlier s t f = rw (s, f, t) refl
+side_says = grind arith
 
 pub vector_good : (first : Option (List ℕ)) (set text : List ℕ) (value : Number) → number_of text ≡ Ok value → those_of (set_tests first set) ≡ []
     → those_of (number_tests (text ∷ []) ++ set_tests first set) ≡ []
-vector_good first set text value e h = rw e h
+vector_good = grind arith
 
 pub side_good : (set : List ℕ) (side : Side) (context : Context) (earlier : Draft) → context.section ≡ Some Rhs → ReadsAs side → those_of (set_tests context.rhs_set set) ≡ []
     → form_faults context earlier (side_item set side) ≡ []
-side_good set side context earlier s t h = rw s (vector_good context.rhs_set set side.text side.value t h)
+side_good = grind arith
 
 -- one more line of a section
 pub lines-push : (section : Section) (fields : Fields) (before : List LineContent) (o : Option Section) → current_section before ≡ o
     → data_lines section (before ++ data_line fields ∷ []) ≡ data_lines section before ++ fields_under section o (data_line fields)
-lines-push section fields before o s = data_lines-push section before (data_line fields) ∙ ap (λ (c : Option Section). data_lines section before ++ fields_under section c (data_line fields)) s
+lines-push section fields before o s = data_lines-push section before _ ∙ ap (λ c. data_lines section before ++ fields_under section c (data_line fields)) s
 
 pub side_step : (set : List ℕ) (side : Side) (rest : List Side) (before : List LineContent) (earlier : Draft) → InSides set (side ∷ rest) before earlier
     → Step (side_item set) side_decl (InSides set) side rest before earlier
@@ -126,11 +186,11 @@ pub record InRanges (set : List ℕ) (rest : List Side) (before : List LineConte
 
 pub range_says : (set : List ℕ) (side : Side) (context : Context) (earlier : Draft) → context.section ≡ Some Ranges → ReadsAs side
     → line_declares context earlier (side_item set side) ≡ range_decl side
-range_says set side context earlier s t = rw (s, t) refl
+range_says = grind arith
 
 pub range_good : (set : List ℕ) (side : Side) (context : Context) (earlier : Draft) → context.section ≡ Some Ranges → ReadsAs side → those_of (set_tests context.ranges_set set) ≡ []
     → form_faults context earlier (side_item set side) ≡ []
-range_good set side context earlier s t h = rw s (vector_good context.ranges_set set side.text side.value t h)
+range_good = grind arith
 
 pub range_step : (set : List ℕ) (side : Side) (rest : List Side) (before : List LineContent) (earlier : Draft) → InRanges set (side ∷ rest) before earlier
     → Step (side_item set) range_decl (InRanges set) side rest before earlier
@@ -143,5 +203,83 @@ range_step set side rest before earlier h =
         section = stays Ranges fields before h.section;
         one_set = rw (lines-push Ranges fields before (Some Ranges) h.section) (Each-append _ (data_lines Ranges before) (fields ∷ []) h.one_set (refl, tt));
         texts = h.texts.1;
+      };
+    }
+
+-- the bounds that are printed: with the text of a value and the number as which it is read, or without
+pub data BoundForm : Type 0 where
+  fixed : BoundForm
+  lower : BoundForm
+  upper : BoundForm
+  free : BoundForm
+  no_lower : BoundForm
+  no_upper : BoundForm
+  semi_upper : BoundForm
+
+pub record Bound : Type 0 where
+  pub form : BoundForm
+  pub column : List ℕ
+  pub text : List ℕ
+  pub value : Number
+
+abbrev pub fields_at : List ℕ → BoundForm → List ℕ → List ℕ → Fields
+fields_at set fixed x text = letters_of bounds.Fixed ∷ set ∷ x ∷ text ∷ []
+fields_at set lower x text = letters_of bounds.Lower ∷ set ∷ x ∷ text ∷ []
+fields_at set upper x text = letters_of bounds.Upper ∷ set ∷ x ∷ text ∷ []
+fields_at set free x text = letters_of bounds.Free ∷ set ∷ x ∷ []
+fields_at set no_lower x text = letters_of bounds.NoLower ∷ set ∷ x ∷ []
+fields_at set no_upper x text = letters_of bounds.NoUpper ∷ set ∷ x ∷ []
+fields_at set semi_upper x text = letters_of bounds.SemiUpper ∷ set ∷ x ∷ text ∷ []
+
+abbrev pub decl_at : BoundForm → List ℕ → Number → Declarations
+decl_at fixed x v = declare_lower x (Finite v) ∷ declare_upper x (Finite v) ∷ []
+decl_at lower x v = declare_lower x (Finite v) ∷ []
+decl_at upper x v = declare_upper x (Finite v) ∷ []
+decl_at free x v = declare_lower x MinusInf ∷ declare_upper x PlusInf ∷ []
+decl_at no_lower x v = declare_lower x MinusInf ∷ []
+decl_at no_upper x v = declare_upper x PlusInf ∷ []
+decl_at semi_upper x v = declare_semi x ∷ declare_upper x (Finite v) ∷ []
+
+abbrev pub bound_fields : List ℕ → Bound → Fields
+bound_fields set b = fields_at set b.form b.column b.text
+
+abbrev pub bound_item : List ℕ → Bound → LineContent
+bound_item set b = data_line (bound_fields set b)
+
+abbrev pub bound_decl : Bound → Declarations
+bound_decl b = decl_at b.form b.column b.value
+
+-- if no value is printed, any text with the number that it represents will do
+pub record GoodBound (b : Bound) : Type 0 where
+  pub text : number_of b.text ≡ Ok b.value
+  pub finite : limit_of b.value ≡ Finite b.value
+
+pub record InBounds (set : List ℕ) (rest : List Bound) (before : List LineContent) (earlier : Draft) : Type 0 where
+  pub section : current_section before ≡ Some Bounds
+  pub one_set : HaveSet bound_set set (data_lines Bounds before)
+  pub good : Each GoodBound rest
+
+pub bound_says : (set : List ℕ) (t : BoundForm) (x text : List ℕ) (v : Number) (context : Context) (earlier : Draft) → context.section ≡ Some Bounds → number_of text ≡ Ok v → limit_of v ≡ Finite v
+    → line_declares context earlier (data_line (fields_at set t x text)) ≡ decl_at t x v
+bound_says = grind arith
+
+set_at : (set : List ℕ) (t : BoundForm) (x text : List ℕ) → bound_set (fields_at set t x text) ≡ Some set
+set_at = grind arith
+
+pub bound_good : (set : List ℕ) (t : BoundForm) (x text : List ℕ) (v : Number) (context : Context) (earlier : Draft) → context.section ≡ Some Bounds → number_of text ≡ Ok v
+    → those_of (set_tests context.bounds_set set) ≡ [] → form_faults context earlier (data_line (fields_at set t x text)) ≡ []
+bound_good = grind arith
+
+pub bound_step : (set : List ℕ) (b : Bound) (rest : List Bound) (before : List LineContent) (earlier : Draft) → InBounds set (b ∷ rest) before earlier
+    → Step (bound_item set) bound_decl (InBounds set) b rest before earlier
+bound_step set b rest before earlier h =
+    record {
+      says = bound_says set b.form b.column b.text b.value (context_of before) earlier h.section h.good.0.text h.good.0.finite;
+      good = bound_good set b.form b.column b.text b.value (context_of before) earlier h.section h.good.0.text (set-good bound_set set (data_lines Bounds before) h.one_set);
+      next = record {
+        section = stays Bounds (bound_fields set b) before h.section;
+        one_set = rw (lines-push Bounds (bound_fields set b) before (Some Bounds) h.section)
+            (Each-append _ (data_lines Bounds before) (bound_fields set b ∷ []) h.one_set (set_at set b.form b.column b.text, tt));
+        good = h.good.1;
       };
     }

@@ -1,20 +1,15 @@
 -- Printed lines are read back unchanged.
-use Rattle.std.proofs.Common.{◌≡◌, refl, ap, ◌∙◌, List, [], ◌∷◌, ◌++◌, length, ℕ, Bool, true, false, cond, map, arith, ◌<◌, ◌≤◌, ◌*◌}
-use Rattle.std.{proofs.{Common.length-append, lemmas.{Bool.{lt-ltb, Decides.nat_tests}, List.append-nil}}, specs.Prelude.{nat_lt, nat_le}}
-use Rattle.std.specs.{Prelude.{◌==◌, filter, codes}, List.{slice_split, list_all, flat_map}, Str.Lines.lines}
-use Rattle.mpslp_types.{specs.Name.is_visible, proofs.{BoolLemmas.both_so, EachLemmas.{Each, Each-weaker, Each-append, list_all-from_Each}}}
-use Rattle.mpslp_mps_fields.specs.Line.{Fields, skipped, header, data_line, header_of, content_of, fields, is_blank, is_comment}
-use Rattle.mpslp_mps_fields.specs.Line.{outside_comment}
-use Rattle.mpslp_mps.specs.LegalLine.{is_legal_line}
-use Rattle.mpslp_lines.specs.{FaultTests.{is_legal_byte, has_legal_length}, declared.legal_line.TheConstants.MAX_LINE_LEN}
-use Rattle.mpslp_lines.proofs.WrittenLineLemmas.{IsPlain, lines-with_line_feeds}
-use Rattle.mpslp_canonical_mps.specs.CanonicalMps.{PrintedLine, heading, short_line, long_line, fields_text, line_text, text_of}
-use Rattle.mpslp_canonical_mps.specs.PrintedDeclarations.{content_in}
+use Rattle.mpslp_canonical_mps.proofs.Prelude
+use Prelude.{◌≡◌, refl, ap, ◌∙◌, List, [], ◌∷◌, ◌++◌, length, ℕ, Bool, true, false, cond, map, arith, ◌<◌, ◌≤◌, ◌*◌, length-append}
+use Prelude.{nat_tests, append-nil, nat_lt, nat_le, ◌==◌, filter, codes, slice_split, list_all, flat_map, lines, is_visible, both_so, Each}
+use Prelude.{Each-weaker, Each-append, list_all-from_Each, Fields, skipped, header, data_line, header_of, content_of, fields, is_blank}
+use Prelude.{is_comment, outside_comment, is_legal_line, is_legal_byte, has_legal_length, MAX_LINE_LEN, IsPlain, lines-with_line_feeds}
+use Prelude.{PrintedLine, heading, short_line, long_line, fields_text, line_text, text_of, content_in}
 
 -- ---- fields
 
 visible-solid : (b : ℕ) → is_visible b ≡ true → is_blank b ≡ false
-visible-solid b h = grind (arith, nat_tests)
+visible-solid = grind (arith, nat_tests)
 
 abbrev IsSolid : ℕ → Type 0
 IsSolid b = is_blank b ≡ false
@@ -26,7 +21,7 @@ pub record Word (w : List ℕ) : Type 0 where
   pub visible : Each (λ b. is_visible b ≡ true) w
 
 solid : (w : List ℕ) → Word w → Each IsSolid w
-solid w h = Each-weaker (λ b. is_visible b ≡ true) IsSolid visible-solid w h.visible
+solid w h = Each-weaker _ IsSolid visible-solid w h.visible
 
 split-word : (w rest : List ℕ) → Each IsSolid w → slice_split is_blank (w ++ 32 ∷ rest) ≡ w ∷ slice_split is_blank rest
 split-word [] rest h = refl
@@ -40,13 +35,13 @@ abbrev has_bytes : List ℕ → Bool
 has_bytes run = nat_lt 0 (length run)
 
 keep-word : (w : List ℕ) (more : Fields) → Word w → filter has_bytes (w ∷ more) ≡ w ∷ filter has_bytes more
-keep-word w more h = let e : nat_lt 0 (length w) ≡ true = lt-ltb 0 (length w) h.some in rw e refl
+keep-word = grind arith
 
 fields-word : (w rest : List ℕ) → Word w → fields (w ++ 32 ∷ rest) ≡ w ∷ fields rest
-fields-word w rest h = ap (filter has_bytes) (split-word w rest (solid w h)) ∙ keep-word w (slice_split is_blank rest) h
+fields-word = grind (arith, split-word, solid, keep-word)
 
 fields-last : (w : List ℕ) → Word w → fields w ≡ w ∷ []
-fields-last w h = ap (filter has_bytes) (split-last w (solid w h)) ∙ keep-word w [] h
+fields-last = grind (arith, split-last, solid, keep-word)
 
 -- what is printed after the first field
 abbrev after_first_field : Fields → List ℕ
@@ -54,7 +49,7 @@ after_first_field ws = flat_map (λ w. codes "  " ++ w) ws
 
 fields-from : (w : List ℕ) (ws : Fields) → Word w → Each Word ws → fields (w ++ after_first_field ws) ≡ w ∷ ws
 fields-from w [] h k = ap fields (append-nil w) ∙ fields-last w h
-fields-from w (v ∷ vs) h k = fields-word w (32 ∷ (v ++ after_first_field vs)) h ∙ ap (λ (x : Fields). w ∷ x) (fields-from v vs k.0 k.1)
+fields-from w (v ∷ vs) h k = fields-word w _ h ∙ ap (λ x. w ∷ x) (fields-from v vs k.0 k.1)
 
 pub fields-spaced : (ws : Fields) → Each Word ws → fields (fields_text ws) ≡ ws
 fields-spaced [] h = refl
@@ -73,7 +68,7 @@ pub record Words (ws : Fields) : Type 0 where
   pub each : Each Word ws
 
 not_blank_line : (ws : Fields) → Words ws → list_all is_blank (fields_text ws) ≡ false
-not_blank_line ws h = grind (arith, arith, not_blank, solid)
+not_blank_line = grind (arith, arith, not_blank, solid)
 
 abbrev begins_with_star : List ℕ → Bool
 begins_with_star [] = false
@@ -89,33 +84,33 @@ by_tests : (skip is : Bool) (w : List ℕ) → skip ≡ false → is ≡ false �
 by_tests skip is w p q = rw (p, q) refl
 
 heading_item : (w : List ℕ) → Word w → begins_with_star w ≡ false → content_of w ≡ header w []
-heading_item w h s = grind (arith, arith, visible-solid, by_tests, fields-last)
+heading_item = grind (arith, arith, visible-solid, by_tests, fields-last)
 
 pub item-line_text : (l : PrintedLine) → IsPrintable l → content_of (line_text l) ≡ content_in l
-item-line_text l h = grind (arith, heading_item, not_blank_line, fields-spaced)
+item-line_text = grind (arith, heading_item, not_blank_line, fields-spaced)
 
 -- ---- bytes and length
 
 visible-legal : (b : ℕ) → is_visible b ≡ true → is_legal_byte b ≡ true
-visible-legal b h = grind (arith, nat_tests)
+visible-legal = grind (arith, nat_tests)
 
 visible-plain : (b : ℕ) → is_visible b ≡ true → IsPlain b
-visible-plain b h = (grind (arith, nat_tests), grind (arith, nat_tests))
+visible-plain = grind arith
 
 -- a property of visible bytes and of spaces holds for each byte that is printed
 module _ (P : ℕ → Type 0) (visible : (b : ℕ) → is_visible b ≡ true → P b) (blank : P 32) where
   each-word : (w : List ℕ) → Word w → Each P w
-  each-word w h = Each-weaker (λ b. is_visible b ≡ true) P visible w h.visible
+  each-word w h = Each-weaker _ P visible w h.visible
 
   each-after : (ws : Fields) → Each Word ws → Each P (after_first_field ws)
   each-after [] h = tt
-  each-after (w ∷ ws) h = (blank, (blank, Each-append P w (after_first_field ws) (each-word w h.0) (each-after ws h.1)))
+  each-after (w ∷ ws) h = (blank, (blank, Each-append P w _ (each-word w h.0) (each-after ws h.1)))
 
   each-spaced : (ws : Fields) → Each Word ws → Each P (fields_text ws)
-  each-spaced ws h = grind (arith, each-word, each-after)
+  each-spaced = grind (arith, each-word, each-after)
 
   each-line_text : (l : PrintedLine) → IsPrintable l → Each P (line_text l)
-  each-line_text l h = grind (arith, each-word, each-spaced)
+  each-line_text = grind (arith, each-word, each-spaced)
 
 pub plain-line_text : (l : PrintedLine) → IsPrintable l → Each IsPlain (line_text l)
 plain-line_text l h = each-line_text IsPlain visible-plain (refl, refl) l h
@@ -125,23 +120,23 @@ bytes-line_text l h = by (is_comment (line_text l))
   where
     by : (comment : Bool) → list_all is_legal_byte (cond comment [] (line_text l)) ≡ true
     by true = refl
-    by false = list_all-from_Each is_legal_byte (line_text l) (each-line_text (λ b. is_legal_byte b ≡ true) visible-legal refl l h)
+    by false = list_all-from_Each is_legal_byte _ (each-line_text _ visible-legal refl l h)
 
 length-after : (ws : Fields) → Each Word ws → length (after_first_field ws) ≤ 257 * length ws
 length-after [] h = omega arith
 length-after (w ∷ ws) h = grind (arith, arith, length-append, length-after ws h.1)
 
 length-spaced : (ws : Fields) → Each Word ws → length (fields_text ws) ≤ 257 * length ws
-length-spaced ws h = grind (arith, arith, length-after, length-append)
+length-spaced = grind (arith, arith, length-after, length-append)
 
 at_most : (n : ℕ) → n ≤ 2000 → nat_le n MAX_LINE_LEN ≡ true
-at_most n h = grind (arith, nat_tests)
+at_most = grind (arith, nat_tests)
 
 length-line_text : (l : PrintedLine) → IsPrintable l → has_legal_length (line_text l) ≡ true
-length-line_text l h = grind (arith, at_most, arith, length-spaced)
+length-line_text = grind (arith, at_most, arith, length-spaced)
 
 pub legal-line_text : (l : PrintedLine) → IsPrintable l → is_legal_line (line_text l) ≡ true
-legal-line_text l h = both_so (has_legal_length (line_text l)) (list_all is_legal_byte (outside_comment (line_text l))) (length-line_text l h) (bytes-line_text l h)
+legal-line_text l h = both_so _ _ (length-line_text l h) (bytes-line_text l h)
 
 -- ---- the text
 
@@ -155,8 +150,8 @@ items-line_text (l ∷ ls) h = λ i. item-line_text l h.0 i ∷ items-line_text 
 
 pub legal-lines : (ls : List PrintedLine) → Each IsPrintable ls → list_all is_legal_line (map line_text ls) ≡ true
 legal-lines [] h = refl
-legal-lines (l ∷ ls) h = both_so (is_legal_line (line_text l)) (list_all is_legal_line (map line_text ls)) (legal-line_text l h.0) (legal-lines ls h.1)
+legal-lines (l ∷ ls) h = both_so _ _ (legal-line_text l h.0) (legal-lines ls h.1)
 
 -- the lines of a text of printed lines are these, and its items are theirs
 pub lines-text : (ls : List PrintedLine) → Each IsPrintable ls → lines (text_of ls) ≡ map line_text ls
-lines-text ls h = lines-with_line_feeds (map line_text ls) (all_plain ls h)
+lines-text ls h = lines-with_line_feeds _ (all_plain ls h)

@@ -1,20 +1,16 @@
 -- What canonical text declares, all sections one after another.
-use Rattle.std.proofs.Common.{arith, ◌≡◌, refl, sym, ap, ◌∙◌, List, [], ◌∷◌, ◌++◌, ℕ, Bool, true, false, map, append_assoc}
-use Rattle.std.{proofs.lemmas.List.append-nil, specs.{Prelude.{Option, None, is_some, is_none, ◌||◌, codes}, List.flat_map}}
-use Rattle.mpslp_types.{specs.{Name.is_mps_name, declared.kinds.Sense.Sense}, proofs.EachLemmas.Each}
-use Rattle.mpslp_builder.specs.Declaration.{declare_objective, Declarations, Draft, empty_draft, with_declarations, is_free_row}
-use Rattle.mpslp_mps_fields.specs.{Line.{LineContent, begins, section_of_header}, declared.sections.Section.{Section, TheVariants.Name}}
-use Rattle.mpslp_mps_fields.specs.declared.sections.Section.TheVariants.{ObjSense, Rows, Columns, Rhs, Ranges, Bounds, EndData}
-use Rattle.mpslp_mps.{specs.{Context.is_read, SeenSection.has_section}, proofs.SectionLemmas.{has_section-append, has_section-cons}}
-use Rattle.mpslp_mps.proofs.SectionLemmas.{or_false}
-use Rattle.mpslp_canonical_mps.proofs.HeaderWalk.{is_bare, wants_word, header_item, MayBegin, has_section-data, settled-after}
-use Rattle.mpslp_canonical_mps.proofs.{ContentsWalk.{Walk, walk-append}, RowsWalk.{RowItem, row_item, row_decl, Side, side_item, side_decl}}
-use Rattle.mpslp_canonical_mps.proofs.{RowsWalk.{range_decl, ReadsAs}, ColumnsWalk.{Cell, cell_item, cell_decl, Group, cells_of}}
-use Rattle.mpslp_canonical_mps.proofs.{BoundsWalk.{Bound, bound_item, bound_decl, GoodBound}, CanonicalContents.under, CanonicalWalk.IsLate}
-use Rattle.mpslp_canonical_mps.proofs.{CanonicalWalk.{data-settled, sides-walk, ranges-walk, bounds-walk, end-walk}, EarlyWalk.sense_items}
-use Rattle.mpslp_canonical_mps.proofs.EarlyWalk.{sense_decl, start-walk, rows-may, start-unnamed, objective_item, rows-walk, marker_item}
-use Rattle.mpslp_canonical_mps.proofs.EarlyWalk.{part_items, AreColumns, columns-walk}
-use Rattle.mpslp_lines.proofs.ObjectiveLemmas.{named-after}
+use Rattle.mpslp_canonical_mps.proofs.Prelude
+use Prelude.{arith, ◌≡◌, refl, sym, ap, ◌∙◌, List, [], ◌∷◌, ◌++◌, ℕ, Bool, true, false, map, append_assoc, append-nil, Option, None}
+use Prelude.{is_some, is_none, ◌||◌, codes, flat_map, is_mps_name, Sense, Each, declare_objective, Declarations, Draft, empty_draft}
+use Prelude.{with_declarations, is_free_row, LineContent, begins, section_of_header, Section, Name, ObjSense, Rows, Columns, Rhs, Ranges}
+use Prelude.{Bounds, EndData, is_read, has_section, has_section-append, has_section-cons, or_false, named-after}
+use Rattle.mpslp_canonical_mps.proofs.RowsWalk.{Bound, bound_item, bound_decl, GoodBound, Walk, walk-append, RowItem, row_item, row_decl}
+use Rattle.mpslp_canonical_mps.proofs.RowsWalk.{Side, side_item, side_decl, range_decl, ReadsAs}
+use Rattle.mpslp_canonical_mps.proofs.CanonicalContents.{under, IsLate, data-settled, sides-walk, ranges-walk, bounds-walk, end-walk}
+use Rattle.mpslp_canonical_mps.proofs.CanonicalContents.{is_bare, wants_word, header_item, MayBegin, has_section-data, settled-after}
+use Rattle.mpslp_canonical_mps.proofs.ColumnsWalk.{Cell, cell_item, cell_decl, Group, cells_of}
+use Rattle.mpslp_canonical_mps.proofs.EarlyWalk.{sense_items, sense_decl, start-walk, rows-may, start-unnamed, objective_item, rows-walk}
+use Rattle.mpslp_canonical_mps.proofs.EarlyWalk.{marker_item, part_items, AreColumns, columns-walk}
 
 -- ---- what has begun, section by section
 
@@ -31,26 +27,26 @@ under-settled : {X : Type 0} (section : Section) (item : X → LineContent) → 
     → (xs : List X) (before : List LineContent) → wants_word before ≡ false → wants_word (before ++ under section (map item xs)) ≡ false
 under-settled section item b reads bare [] before h = ap wants_word (append-nil before) ∙ h
 under-settled section item b reads bare (x ∷ xs) before h =
-    ap wants_word (sym (append_assoc before (header_item section ∷ []) (map item (x ∷ xs))))
-    ∙ data-settled item reads bare (x ∷ xs) (before ++ header_item section ∷ []) (settled-after before (header_item section) refl b)
+    ap wants_word (sym (append_assoc before _ (map item (x ∷ xs))))
+    ∙ data-settled item reads bare (x ∷ xs) (before ++ header_item section ∷ []) (settled-after before _ refl b)
 
 not_none : (o : Option (List ℕ)) → is_some o ≡ true → is_none o ≡ false
-not_none o h = grind arith
+not_none = grind arith
 
 is_named : (o : Option (List ℕ)) → is_none o ≡ false → is_some o ≡ true
-is_named o h = grind arith
+is_named = grind arith
 
 still-named : (ds : Declarations) (all : Draft) → is_none all.objective ≡ false → is_none (with_declarations all ds).objective ≡ false
-still-named ds all h = not_none (with_declarations all ds).objective (named-after ds all (is_named all.objective h))
+still-named ds all h = not_none _ (named-after ds all (is_named all.objective h))
 
 -- a late section, and what holds after it
 late-after : {X : Type 0} (section : Section) (item : X → LineContent) (ds : Declarations) → is_bare (header_item section) ≡ false → ((x : X) → is_read (item x) ≡ true) → ((x : X) → is_bare (item x) ≡ false)
     → (xs : List X) (before : List LineContent) (earlier : Draft) → IsLate before earlier → IsLate (before ++ under section (map item xs)) (with_declarations earlier ds)
-late-after section item ds b reads bare xs before earlier h = grind (arith, under-settled, has_section-append, under, still-named)
+late-after = grind (arith, under-settled, has_section-append, under, still-named)
 
 fresh-after : {X : Type 0} (section other : Section) (item : X → LineContent) → ((x : X) → section_of_header (item x) ≡ None) → begins other (header_item section) ≡ false → (xs : List X) (before : List LineContent)
     → has_section before other ≡ false → has_section (before ++ under section (map item xs)) other ≡ false
-fresh-after section other item none b xs before h = grind (arith, has_section-append, under, under-begins)
+fresh-after = grind (arith, has_section-append, under, under-begins)
 
 -- ---- RHS, RANGES, BOUNDS and ENDATA
 
@@ -85,19 +81,19 @@ late-walk l before earlier h f g b e good =
     let d1 = with_declarations earlier (flat_map side_decl l.sides) in
     let d2 = with_declarations d1 (flat_map range_decl l.ranges) in
     let d3 = with_declarations d2 (flat_map bound_decl l.bounds) in
-    let h1 = late-after Rhs (side_item (codes "RHS")) (flat_map side_decl l.sides) refl (λ _. refl) (λ _. refl) l.sides before earlier h in
-    let h2 = late-after Ranges (side_item (codes "RNG")) (flat_map range_decl l.ranges) refl (λ _. refl) (λ _. refl) l.ranges first d1 h1 in
-    let h3 = late-after Bounds (bound_item (codes "BND")) (flat_map bound_decl l.bounds) refl (λ _. refl) (λ _. refl) l.bounds second d2 h2 in
-    let g1 = fresh-after Rhs Ranges (side_item (codes "RHS")) (λ _. refl) refl l.sides before g in
-    let b1 = fresh-after Rhs Bounds (side_item (codes "RHS")) (λ _. refl) refl l.sides before b in
-    let b2 = fresh-after Ranges Bounds (side_item (codes "RNG")) (λ _. refl) refl l.ranges first b1 in
-    let e1 = fresh-after Rhs EndData (side_item (codes "RHS")) (λ _. refl) refl l.sides before e in
-    let e2 = fresh-after Ranges EndData (side_item (codes "RNG")) (λ _. refl) refl l.ranges first e1 in
-    let e3 = fresh-after Bounds EndData (bound_item (codes "BND")) (λ _. refl) refl l.bounds second e2 in
-    walk-append before earlier sides (ranges ++ (bounds ++ header_item EndData ∷ [])) (flat_map side_decl l.sides) (flat_map range_decl l.ranges ++ (flat_map bound_decl l.bounds ++ []))
-    (sides-walk (codes "RHS") l.sides before earlier h f good.sides good.bound)
-    (walk-append first d1 ranges (bounds ++ header_item EndData ∷ []) (flat_map range_decl l.ranges) (flat_map bound_decl l.bounds ++ []) (ranges-walk (codes "RNG") l.ranges first d1 h1 g1 good.ranges)
-    (walk-append second d2 bounds (header_item EndData ∷ []) (flat_map bound_decl l.bounds) [] (bounds-walk (codes "BND") l.bounds second d2 h2 b2 good.bounds) (end-walk third d3 h3 e3)))
+    let h1 = late-after Rhs _ (flat_map side_decl l.sides) refl (λ _. refl) (λ _. refl) l.sides before earlier h in
+    let h2 = late-after Ranges _ (flat_map range_decl l.ranges) refl (λ _. refl) (λ _. refl) l.ranges first d1 h1 in
+    let h3 = late-after Bounds _ (flat_map bound_decl l.bounds) refl (λ _. refl) (λ _. refl) l.bounds second d2 h2 in
+    let g1 = fresh-after Rhs Ranges _ (λ _. refl) refl l.sides before g in
+    let b1 = fresh-after Rhs Bounds _ (λ _. refl) refl l.sides before b in
+    let b2 = fresh-after Ranges Bounds _ (λ _. refl) refl l.ranges first b1 in
+    let e1 = fresh-after Rhs EndData _ (λ _. refl) refl l.sides before e in
+    let e2 = fresh-after Ranges EndData _ (λ _. refl) refl l.ranges first e1 in
+    let e3 = fresh-after Bounds EndData _ (λ _. refl) refl l.bounds second e2 in
+    walk-append before earlier sides _ _ _
+    (sides-walk _ l.sides before earlier h f good.sides good.bound)
+    (walk-append first d1 ranges _ _ _ (ranges-walk _ l.ranges first d1 h1 g1 good.ranges)
+    (walk-append second d2 bounds _ _ [] (bounds-walk _ l.bounds second d2 h2 b2 good.bounds) (end-walk third d3 h3 e3)))
 
 -- ---- all sections
 
@@ -143,22 +139,22 @@ pub record IsGoodWhole (w : Whole) : Type 0 where
   pub late : IsGoodLate w.late (draft_at_sides w)
 
 start-none : (section : Section) (sense : Sense) → begins section (header_item Name) ≡ false → begins section (header_item ObjSense) ≡ false → has_section (start_items sense) section ≡ false
-start-none section sense n o = grind arith
+start-none = grind arith
 
 no-objective : (sense : Sense) → is_none (with_declarations empty_draft (sense_decl sense)).objective ≡ true
-no-objective sense = grind arith
+no-objective = grind arith
 
 rows-settled : (objective : List ℕ) (rows : List RowItem) (before : List LineContent) → wants_word (before ++ rows_items objective rows) ≡ false
 rows-settled objective rows before =
-    ap wants_word (sym (append_assoc before (header_item Rows ∷ objective_item objective ∷ []) (map row_item rows)))
+    ap wants_word (sym (append_assoc before _ (map row_item rows)))
     ∙ data-settled row_item (λ _. refl) (λ _. refl) rows (before ++ header_item Rows ∷ objective_item objective ∷ [])
     (ap wants_word (sym (append_assoc before (header_item Rows ∷ []) (objective_item objective ∷ []))) ∙ settled-after (before ++ header_item Rows ∷ []) (objective_item objective) refl refl)
 
 part-none : (section : Section) (cells : List Cell) → has_section (part_items cells) section ≡ false
-part-none section cells = grind (arith, has_section-append, cell_item, marker_item, or_false, no-headers)
+part-none = grind (arith, has_section-append, cell_item, marker_item, or_false, no-headers)
 
 columns-none : (section : Section) (plain integers : List Group) → begins section (header_item Columns) ≡ false → has_section (columns_items plain integers) section ≡ false
-columns-none section plain integers b = grind (arith, has_section-append, cell_item, cells_of, part_items, no-headers, part-none)
+columns-none = grind (arith, has_section-append, cell_item, cells_of, part_items, no-headers, part-none)
 
 part-settled : (cells : List Cell) (before : List LineContent) → wants_word before ≡ false → wants_word (before ++ part_items cells) ≡ false
 part-settled [] before h = ap wants_word (append-nil before) ∙ h
@@ -169,8 +165,8 @@ part-settled (cell ∷ cells) before h =
 columns-settled : (plain integers : List Group) (before : List LineContent) → wants_word (before ++ columns_items plain integers) ≡ false
 columns-settled plain integers before =
     let headed = before ++ header_item Columns ∷ [] in
-    ap wants_word (sym (append_assoc before (header_item Columns ∷ []) (map cell_item (cells_of plain) ++ part_items (cells_of integers))) ∙ sym (append_assoc headed (map cell_item (cells_of plain)) (part_items (cells_of integers))))
-    ∙ part-settled (cells_of integers) (headed ++ map cell_item (cells_of plain)) (data-settled cell_item (λ _. refl) (λ _. refl) (cells_of plain) headed (settled-after before (header_item Columns) refl refl))
+    ap wants_word (sym (append_assoc before _ (map cell_item (cells_of plain) ++ part_items (cells_of integers))) ∙ sym (append_assoc headed (map cell_item (cells_of plain)) (part_items (cells_of integers))))
+    ∙ part-settled (cells_of integers) (headed ++ map cell_item (cells_of plain)) (data-settled cell_item (λ _. refl) (λ _. refl) (cells_of plain) headed (settled-after before _ refl refl))
 
 -- The items of canonical text declare what its sections declare, and are well-formed.
 pub whole-walk : (w : Whole) → IsGoodWhole w → Walk [] empty_draft (whole_items w) (whole_decl w)

@@ -1,18 +1,11 @@
 -- Laws of a format and of the result of its reader: bytes that declare a model have no first error, and all others do.
-use Rattle.std.proofs.Common.{◌≡◌, refl, sym, subst, ◌∙◌, ℕ, List}
-use Rattle.std.specs.Prelude.{Option, Some, None, Result, Ok, Err, IsErrAnd, MatchResult}
+use Rattle.mpslp_lines.proofs.Prelude
+use Prelude.{◌≡◌, refl, sym, subst, ◌∙◌, ℕ, List, Option, Some, None, Result, Ok, Err, IsErrAnd, Draft, Fault, FaultKind, ReadFault, File}
+use Prelude.{Failed, OutOfMemory, LineResult, IsErrorOf, LineError}
+use Rattle.std.specs.Prelude.{MatchResult}
 use Rattle.mpslp_model_core.specs.Model.{LinearModel}
-use Rattle.mpslp_builder.specs.Declaration.{Draft}
-use Rattle.mpslp_builder.specs.Meaning.{model_of}
-use Rattle.mpslp_builder.specs.FileFault.{file_fault}
-use Rattle.mpslp_builder.specs.Finish.{Finishes}
+use Rattle.mpslp_builder.specs.{FileFault.{file_fault}, Finish.{Finishes}, Meaning.{model_of}}
 use Rattle.mpslp_model.specs.Formats.{IsAnswerTo}
-use Rattle.mpslp_types.specs.declared.faults.Fault.{Fault}
-use Rattle.mpslp_types.specs.declared.faults.FaultKind.{FaultKind}
-use Rattle.mpslp_types.specs.declared.faults.ReadFault.{ReadFault}
-use Rattle.mpslp_types.specs.declared.faults.ReadFault.TheVariants.{File, Failed, OutOfMemory}
-use Rattle.mpslp_lines.specs.LineAnswer.{LineResult, IsErrorOf, IsFaultOf}
-use Rattle.mpslp_lines.specs.declared.errors.LineError.{LineError}
 
 -- ---- laws
 
@@ -46,8 +39,3 @@ pub ends-by : (answer : LineResult) (error : LineError) (IsRead : Type 0) (first
     → MatchResult answer (λ _. IsRead) (IsErrorOf first_fault)
 ends-by (Ok x) error IsRead first_fault h k = absurd h
 ends-by (Err e) error IsRead first_fault h k = subst (IsErrorOf first_fault) (sym h) k
-
-pub fails-by : {X : Type 0} (answer : Result X ReadFault) (error : ReadFault) (IsRead : X → Type 0) (first_fault : Option Fault) → IsErrAnd answer (λ e. e ≡ error) → IsFaultOf first_fault error
-    → MatchResult answer IsRead (IsFaultOf first_fault)
-fails-by (Ok x) error IsRead first_fault h k = absurd h
-fails-by (Err e) error IsRead first_fault h k = subst (IsFaultOf first_fault) (sym h) k

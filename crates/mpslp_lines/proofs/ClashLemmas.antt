@@ -1,23 +1,14 @@
 -- A column that would be both integer and semi-continuous: its error comes before all other errors of what a line declares.
-use Rattle.std.proofs.Common.{◌≡◌, refl, ap, ◌∙◌, List, [], ◌∷◌, ◌++◌, Bool, true, false, cond}
-use Rattle.std.specs.Prelude.{◌||◌}
-use Rattle.std.specs.List.{list_any, list_all}
-use Rattle.std.specs.Cmp.{first_so, second_so}
+use Rattle.mpslp_lines.proofs.Prelude
+use Prelude.{◌≡◌, refl, ◌∙◌, List, [], ◌∷◌, Bool, true, false, cond, list_any, list_all, first_so, second_so, Declaration, declare_sense}
+use Prelude.{declare_objective, declare_constant, declare_row, declare_rhs, declare_range, declare_column, declare_coefficient}
+use Prelude.{declare_lower, declare_upper, declare_marked, declare_integer, declare_binary, declare_semi, Declarations, Draft}
+use Prelude.{with_declaration, those_of, refusals, refusal_tests, refusals_in_turn, BuildFault, is_kind_clash, nor}
 use Rattle.std.proofs.lemmas.List.Folds.{list_any-append}
-use Rattle.mpslp_builder.specs.Declaration.{Declaration, declare_sense, declare_objective, declare_constant, declare_row, declare_rhs, declare_range, declare_column, declare_coefficient, declare_lower, declare_upper, declare_marked, declare_integer, declare_binary, declare_semi, Declarations, Draft, with_declaration, with_declarations}
-use Rattle.mpslp_types.specs.Lists.{those_of}
-use Rattle.mpslp_builder.specs.Refusal.{refusals, refusal_tests, refusals_in_turn}
-use Rattle.mpslp_types.specs.declared.faults.BuildFault.{BuildFault}
-use Rattle.mpslp_lines.specs.Declaring.{is_kind_clash}
-use Rattle.mpslp_types.proofs.BoolLemmas.{both_false, nor}
-use Rattle.mpslp_builder.proofs.MadeDrafts.{refusals_in_turn-append}
+use Rattle.mpslp_types.proofs.BoolLemmas.{both_false}
 
 abbrev pub has_kind_clash : Draft → Declarations → Bool
 has_kind_clash earlier ds = list_any is_kind_clash (refusals_in_turn earlier ds)
-
-pub clash-append : (xs ys : Declarations) (earlier : Draft) → has_kind_clash earlier (xs ++ ys) ≡ (has_kind_clash earlier xs || has_kind_clash (with_declarations earlier xs) ys)
-clash-append xs ys earlier =
-    ap (list_any is_kind_clash) (refusals_in_turn-append xs ys earlier) ∙ list_any-append is_kind_clash (refusals_in_turn earlier xs) (refusals_in_turn (with_declarations earlier xs) ys)
 
 -- ---- declarations that do not concern the type of a column
 
@@ -31,9 +22,9 @@ says_no_kind _ = true
 none_held : (tests : List (Bool × BuildFault)) → list_any (λ test. is_kind_clash test.1) tests ≡ false → list_any is_kind_clash (those_of tests) ≡ false
 none_held [] h = refl
 none_held (test ∷ tests) h =
-    let parts = nor (is_kind_clash test.1) (list_any (λ later. is_kind_clash later.1) tests) h in
+    let parts = nor _ _ h in
     elim test.0 as (λ b. list_any is_kind_clash (cond b (test.1 ∷ those_of tests) (those_of tests)) ≡ false) [
-      | true ↦ both_false (is_kind_clash test.1) (list_any is_kind_clash (those_of tests)) parts.0 (none_held tests parts.1)
+      | true ↦ both_false _ _ parts.0 (none_held tests parts.1)
       | false ↦ none_held tests parts.1
     ]
 
@@ -54,7 +45,5 @@ no_clash_of earlier _ h = cc
 pub no-clash : (ds : Declarations) (earlier : Draft) → list_all says_no_kind ds ≡ true → has_kind_clash earlier ds ≡ false
 no-clash [] earlier h = refl
 no-clash (d ∷ ds) earlier h =
-    list_any-append is_kind_clash (refusals earlier d) (refusals_in_turn (with_declaration earlier d) ds)
-    ∙ both_false (list_any is_kind_clash (refusals earlier d)) (has_kind_clash (with_declaration earlier d) ds)
-    (no_clash_of earlier d (first_so (says_no_kind d) (list_all says_no_kind ds) h))
-    (no-clash ds (with_declaration earlier d) (second_so (says_no_kind d) (list_all says_no_kind ds) h))
+    list_any-append is_kind_clash (refusals earlier d) (refusals_in_turn (with_declaration earlier d) ds) ∙ both_false _ _
+    (no_clash_of earlier d (first_so _ _ h)) (no-clash ds (with_declaration earlier d) (second_so _ _ h))

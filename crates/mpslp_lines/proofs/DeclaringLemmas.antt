@@ -1,20 +1,13 @@
 -- The first error of declarations one after another, and of declarations without an error.
-use Rattle.std.proofs.Common.{◌≡◌, refl, ap, ◌∙◌, List, [], ◌∷◌, ◌++◌, Bool, true, false, cond, map}
-use Rattle.std.specs.Prelude.{nat_lt, Option, Some, None}
-use Rattle.std.specs.Option.{option_map_or}
-use Rattle.mpslp_builder.specs.Declaration.{Declarations, Draft, with_declarations}
-use Rattle.mpslp_builder.specs.Refusal.{refusals_in_turn}
-use Rattle.mpslp_types.specs.FaultOrder.{kind_rank}
-use Rattle.mpslp_types.specs.declared.faults.BuildFault.{BuildFault}
-use Rattle.mpslp_types.specs.declared.faults.FaultKind.{FaultKind}
-use Rattle.mpslp_lines.specs.Declaring.{declaring_faults, declared_fault}
-use Rattle.mpslp_lines.specs.FaultTests.{kind_of_build_fault}
-use Rattle.mpslp_lines.proofs.LeastLemmas.{is_from, earlier_of}
-use Rattle.mpslp_lines.proofs.RefusedLemmas.{declared-append}
+use Rattle.mpslp_lines.proofs.Prelude
+use Prelude.{◌≡◌, refl, ap, ◌∙◌, List, [], ◌∷◌, ◌++◌, Bool, true, false, cond, map, nat_lt, Option, Some, None, option_map_or, Declarations}
+use Prelude.{Draft, with_declarations, refusals_in_turn, kind_rank, BuildFault, FaultKind, declaring_faults, declared_fault}
+use Prelude.{kind_of_build_fault}
+use Rattle.mpslp_lines.proofs.{LeastLemmas.{is_from, earlier_of}, RefusedLemmas.{declared-append}}
 
 -- what comes after declarations without an error
 pub declared-after : (earlier : Draft) (xs ys : Declarations) → declared_fault earlier xs ≡ None → declared_fault earlier (xs ++ ys) ≡ declared_fault (with_declarations earlier xs) ys
-declared-after earlier xs ys none = declared-append xs ys earlier ∙ ap (λ (o : Option FaultKind). earlier_of o (declared_fault (with_declarations earlier xs) ys)) none
+declared-after earlier xs ys none = declared-append xs ys earlier ∙ ap (λ o. earlier_of o (declared_fault (with_declarations earlier xs) ys)) none
 
 -- declarations without an error are not rejected
 pub unrefused : (earlier : Draft) (ds : Declarations) → declaring_faults earlier ds ≡ [] → refusals_in_turn earlier ds ≡ []

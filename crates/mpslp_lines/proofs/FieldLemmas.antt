@@ -1,19 +1,15 @@
 -- Names without an error are legal, and the values of literals are decimals.
-use Rattle.std.proofs.Common.{◌≡◌, refl, List, [], ◌∷◌, ◌++◌, ℕ, Bool, true, false, cond}
-use Rattle.std.specs.Prelude.{not, Result, Ok, Err}
-use Rattle.std.specs.List.{list_all}
-use Rattle.std.specs.Result.{result_unwrap_or}
-use Rattle.mpslp_decimal.specs.Decimal.{Number, is_decimal, zero_number, is_infinite_size, is_negative}
-use Rattle.mpslp_decimal.specs.Literal.{number_of}
-use Rattle.mpslp_decimal.specs.declared.literal.NumberFault.{NumberFault}
+use Rattle.mpslp_lines.proofs.Prelude
+use Prelude.{◌≡◌, refl, List, [], ◌∷◌, ◌++◌, ℕ, Bool, true, false, cond, Result, Ok, Err, list_all, those_of, both_so, FaultTests}
+use Rattle.std.specs.{Prelude.{not}, Result.{result_unwrap_or}}
 use Rattle.mpslp_decimal.proofs.SpellsLemmas.{spells-from_number}
+use Rattle.mpslp_decimal.specs.{Decimal.{Number, is_decimal, zero_number, is_infinite_size, is_negative}, Literal.{number_of}}
+use Rattle.mpslp_decimal.specs.declared.literal.NumberFault.{NumberFault}
+use Rattle.mpslp_types.{proofs.BoolLemmas.{so_not}, specs.Limit.{limit_of, is_given}}
 use Rattle.mpslp_types.specs.Name.{is_mps_name, has_name_length, is_visible, same_bytes, marker}
-use Rattle.mpslp_types.specs.Limit.{limit_of, is_given}
-use Rattle.mpslp_types.specs.Lists.{those_of}
 use Rattle.mpslp_types.specs.declared.kinds.Limit.TheVariants.{MinusInf, Finite, PlusInf}
+use Rattle.mpslp_lines.specs.FaultTests.{name_tests, value_of}
 use Rattle.mpslp_types.specs.declared.faults.FaultKind.TheVariants as kinds
-use Rattle.mpslp_types.proofs.BoolLemmas.{both_so, so_not}
-use Rattle.mpslp_lines.specs.FaultTests.{FaultTests, name_tests, value_of}
 
 -- the tests of a name come before others
 pub name-legal : (name : List ℕ) (more : FaultTests) → those_of (name_tests name ++ more) ≡ [] → is_mps_name name ≡ true
@@ -44,4 +40,4 @@ limit-given d h = by (is_infinite_size d) (is_negative d) refl
     by : (large negative : Bool) → is_infinite_size d ≡ large → is_given (cond large (cond negative MinusInf PlusInf) (Finite d)) ≡ true
     by true true e = refl
     by true false e = refl
-    by false negative e = both_so (is_decimal d) (not (is_infinite_size d)) h (so_not (is_infinite_size d) e)
+    by false negative e = both_so _ _ h (so_not _ e)

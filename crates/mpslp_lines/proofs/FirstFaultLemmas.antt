@@ -1,28 +1,17 @@
 -- The first error of a line is that of its form, or else the least of what it declares.
 -- Errors of declarations have kinds from UnknownRow on, except for a column that would be both integer and semi-continuous,
 -- which comes before both.
-use Rattle.std.proofs.Common.{◌≡◌, refl, ap, ◌∙◌, ℕ, List, [], ◌∷◌, ◌++◌, Bool, true, false, cond, map, arith}
-use Rattle.std.specs.Prelude.{◌||◌, nat_le, nat_lt, Option, Some, None}
-use Rattle.std.specs.List.{list_any, list_all}
-use Rattle.std.specs.Option.{option_map_or}
-use Rattle.std.specs.Cmp.{first_so, second_so}
-use Rattle.std.proofs.lemmas.Bool.Decides.{nat_tests}
-use Rattle.mpslp_types.proofs.BoolLemmas.{both_so, nor}
+use Rattle.mpslp_lines.proofs.Prelude
+use Prelude.{◌≡◌, refl, ap, ◌∙◌, ℕ, List, [], ◌∷◌, ◌++◌, Bool, true, false, cond, map, arith, ◌||◌, nat_le, nat_lt, Option, Some, None}
+use Prelude.{list_any, list_all, option_map_or, first_so, second_so, nat_tests, both_so, nor, Declarations, Draft, those_of}
+use Prelude.{refusals_in_turn, kind_rank, least_kind, BuildFault, FaultKind, FaultTests, first_held, has_legal_length, kind_of_build_fault}
+use Prelude.{is_kind_clash, declaring_faults, declared_fault}
 use Rattle.mpslp_builder.proofs.RefusalLemmas.{left_none, right_none}
-use Rattle.mpslp_builder.specs.Declaration.{Declarations, Draft}
-use Rattle.mpslp_types.specs.Lists.{those_of}
-use Rattle.mpslp_builder.specs.Refusal.{refusals_in_turn}
-use Rattle.mpslp_types.specs.FaultOrder.{kind_rank, least_kind}
-use Rattle.mpslp_types.specs.declared.faults.BuildFault.{BuildFault}
-use Rattle.mpslp_types.specs.declared.faults.BuildFault.TheVariants as builds
-use Rattle.mpslp_types.specs.declared.faults.FaultKind.{FaultKind}
-use Rattle.mpslp_types.specs.declared.faults.FaultKind.TheVariants as kinds
-use Rattle.mpslp_lines.specs.FaultTests.{FaultTests, first_held, has_legal_length, is_legal_byte, legal_tests, kind_of_build_fault}
-use Rattle.mpslp_lines.specs.Declaring.{is_kind_clash, declaring_faults, declared_fault, first_fault}
+use Rattle.mpslp_lines.proofs.{ClashLemmas.{has_kind_clash}, DeclaringLemmas.{unrefused}, HeldLemmas.{held-among}}
 use Rattle.mpslp_lines.proofs.LeastLemmas.{is_from, are_rising, lesser, stays-least, earlier_of, least-those_of, least-append, least-none}
-use Rattle.mpslp_lines.proofs.HeldLemmas.{held-among}
-use Rattle.mpslp_lines.proofs.ClashLemmas.{has_kind_clash}
-use Rattle.mpslp_lines.proofs.DeclaringLemmas.{unrefused}
+use Rattle.mpslp_lines.specs.{Declaring.{first_fault}, FaultTests.{is_legal_byte, legal_tests}}
+use Rattle.mpslp_types.specs.declared.faults.BuildFault.TheVariants as builds
+use Rattle.mpslp_types.specs.declared.faults.FaultKind.TheVariants as kinds
 
 -- ---- what is declared
 
@@ -44,8 +33,8 @@ late_kind builds.OutOfMemory h = refl
 late_kinds : (refusals : List BuildFault) → list_any is_kind_clash refusals ≡ false → list_all (is_from kinds.UnknownRow) (map kind_of_build_fault refusals) ≡ true
 late_kinds [] h = refl
 late_kinds (fault ∷ faults) h =
-    let parts = nor (is_kind_clash fault) (list_any is_kind_clash faults) h in
-    both_so (is_from kinds.UnknownRow (kind_of_build_fault fault)) (list_all (is_from kinds.UnknownRow) (map kind_of_build_fault faults)) (late_kind fault parts.0) (late_kinds faults parts.1)
+    let parts = nor _ _ h in
+    both_so _ _ (late_kind fault parts.0) (late_kinds faults parts.1)
 
 -- none comes before a clash of column types
 clash_or_later : (fault : BuildFault) → is_from kinds.SemiContinuous (kind_of_build_fault fault) ≡ true
@@ -65,8 +54,7 @@ clash_or_later builds.OutOfMemory = refl
 
 clash_or_later_all : (refusals : List BuildFault) → list_all (is_from kinds.SemiContinuous) (map kind_of_build_fault refusals) ≡ true
 clash_or_later_all [] = refl
-clash_or_later_all (fault ∷ faults) =
-    both_so (is_from kinds.SemiContinuous (kind_of_build_fault fault)) (list_all (is_from kinds.SemiContinuous) (map kind_of_build_fault faults)) (clash_or_later fault) (clash_or_later_all faults)
+clash_or_later_all (fault ∷ faults) = both_so _ _ (clash_or_later fault) (clash_or_later_all faults)
 
 kept : (p : FaultKind → Bool) (b : Bool) (x y : FaultKind) → p x ≡ true → p y ≡ true → p (cond b x y) ≡ true
 kept p true x y h k = h
@@ -75,18 +63,18 @@ kept p false x y h k = k
 -- a property of all is a property of the least
 least_is : (p : FaultKind → Bool) (faults : List FaultKind) → list_all p faults ≡ true → option_map_or p (least_kind faults) true ≡ true
 least_is p [] h = refl
-least_is p (kind ∷ faults) h = from (least_kind faults) (least_is p faults (second_so (p kind) (list_all p faults) h))
+least_is p (kind ∷ faults) h = from (least_kind faults) (least_is p faults (second_so _ _ h))
   where
     from : (o : Option FaultKind) → option_map_or p o true ≡ true → p (lesser kind o) ≡ true
-    from None k = first_so (p kind) (list_all p faults) h
-    from (Some other) k = kept p (nat_lt (kind_rank other) (kind_rank kind)) other kind k (first_so (p kind) (list_all p faults) h)
+    from None k = first_so _ _ h
+    from (Some other) k = kept p _ other kind k (first_so _ _ h)
 
 three : (a b c : ℕ) → nat_le a b ≡ true → nat_le b c ≡ true → nat_le a c ≡ true
-three a b c h k = grind (arith, nat_tests)
+three = grind (arith, nat_tests)
 
 weaker : (kind other : FaultKind) (o : Option FaultKind) → is_from kind other ≡ true → option_map_or (is_from other) o true ≡ true → option_map_or (is_from kind) o true ≡ true
 weaker kind other None h k = refl
-weaker kind other (Some third) h k = three (kind_rank kind) (kind_rank other) (kind_rank third) h k
+weaker kind other (Some third) h k = three _ _ _ h k
 
 -- ---- both together
 
@@ -95,9 +83,9 @@ form_before : (tests : FaultTests) (kind from : FaultKind) (earlier : Draft) (ds
     → list_all (is_from from) (declaring_faults earlier ds) ≡ true → first_fault tests earlier ds ≡ Some kind
 form_before tests kind from earlier ds rising held early late =
     let faults = declaring_faults earlier ds in
-    least-append (those_of tests) faults
-    ∙ ap (λ (o : Option FaultKind). earlier_of o (least_kind faults)) (least-those_of tests rising ∙ held)
-    ∙ ap (λ (k : FaultKind). Some k) (stays-least kind (least_kind faults) (weaker kind from (least_kind faults) early (least_is (is_from from) faults late)))
+    least-append _ faults
+    ∙ ap (λ o. earlier_of o (least_kind faults)) (least-those_of tests rising ∙ held)
+    ∙ ap (λ k. Some k) (stays-least kind _ (weaker kind from _ early (least_is (is_from from) faults late)))
 
 -- an error of the form whose kind comes before all of what is declared, if no column types clash
 pub form-first : (tests : FaultTests) (kind : FaultKind) (earlier : Draft) (ds : Declarations) → are_rising tests ≡ true → first_held tests ≡ Some kind → is_from kind kinds.UnknownRow ≡ true
@@ -121,19 +109,19 @@ clash-least (fault ∷ faults) h = by fault (clash-least faults) h
 
     by : (f : BuildFault) → (list_any is_kind_clash faults ≡ true → rest ≡ Some kinds.SemiContinuous) → (is_kind_clash f || list_any is_kind_clash faults) ≡ true
         → Some (lesser (kind_of_build_fault f) rest) ≡ Some kinds.SemiContinuous
-    by builds.SemiContinuous later there = ap (λ (k : FaultKind). Some k) (stays-least kinds.SemiContinuous rest (least_is (is_from kinds.SemiContinuous) (map kind_of_build_fault faults) (clash_or_later_all faults)))
-    by builds.DuplicateSense later there = ap (λ (o : Option FaultKind). Some (lesser kinds.DuplicateEntry o)) (later there)
-    by builds.SecondObjective later there = ap (λ (o : Option FaultKind). Some (lesser kinds.DuplicateEntry o)) (later there)
-    by builds.UnknownRow later there = ap (λ (o : Option FaultKind). Some (lesser kinds.UnknownRow o)) (later there)
-    by builds.UnknownColumn later there = ap (λ (o : Option FaultKind). Some (lesser kinds.UnknownColumn o)) (later there)
-    by builds.DuplicateRow later there = ap (λ (o : Option FaultKind). Some (lesser kinds.DuplicateRow o)) (later there)
-    by builds.DuplicateEntry later there = ap (λ (o : Option FaultKind). Some (lesser kinds.DuplicateEntry o)) (later there)
-    by builds.DuplicateRhs later there = ap (λ (o : Option FaultKind). Some (lesser kinds.DuplicateRhs o)) (later there)
-    by builds.DuplicateRange later there = ap (λ (o : Option FaultKind). Some (lesser kinds.DuplicateRange o)) (later there)
-    by builds.DuplicateBound later there = ap (λ (o : Option FaultKind). Some (lesser kinds.DuplicateBound o)) (later there)
-    by builds.RangeOnFree later there = ap (λ (o : Option FaultKind). Some (lesser kinds.RangeOnFree o)) (later there)
-    by builds.InfiniteValue later there = ap (λ (o : Option FaultKind). Some (lesser kinds.InfiniteValue o)) (later there)
-    by builds.OutOfMemory later there = ap (λ (o : Option FaultKind). Some (lesser kinds.DuplicateEntry o)) (later there)
+    by builds.SemiContinuous later there = ap (λ k. Some k) (stays-least kinds.SemiContinuous rest (least_is _ (map kind_of_build_fault faults) (clash_or_later_all faults)))
+    by builds.DuplicateSense later there = ap (λ o. Some (lesser kinds.DuplicateEntry o)) (later there)
+    by builds.SecondObjective later there = ap (λ o. Some (lesser kinds.DuplicateEntry o)) (later there)
+    by builds.UnknownRow later there = ap (λ o. Some (lesser kinds.UnknownRow o)) (later there)
+    by builds.UnknownColumn later there = ap (λ o. Some (lesser kinds.UnknownColumn o)) (later there)
+    by builds.DuplicateRow later there = ap (λ o. Some (lesser kinds.DuplicateRow o)) (later there)
+    by builds.DuplicateEntry later there = ap (λ o. Some (lesser kinds.DuplicateEntry o)) (later there)
+    by builds.DuplicateRhs later there = ap (λ o. Some (lesser kinds.DuplicateRhs o)) (later there)
+    by builds.DuplicateRange later there = ap (λ o. Some (lesser kinds.DuplicateRange o)) (later there)
+    by builds.DuplicateBound later there = ap (λ o. Some (lesser kinds.DuplicateBound o)) (later there)
+    by builds.RangeOnFree later there = ap (λ o. Some (lesser kinds.RangeOnFree o)) (later there)
+    by builds.InfiniteValue later there = ap (λ o. Some (lesser kinds.InfiniteValue o)) (later there)
+    by builds.OutOfMemory later there = ap (λ o. Some (lesser kinds.DuplicateEntry o)) (later there)
 
 -- the kind comes after a clash of column types
 abbrev pub is_after_clash : FaultKind → Bool
@@ -143,20 +131,18 @@ is_after_clash kind = nat_lt (kind_rank kinds.SemiContinuous) (kind_rank kind)
 pub clash-first : (tests : FaultTests) (earlier : Draft) (ds : Declarations) → are_rising tests ≡ true → list_all (λ test. is_after_clash test.1) tests ≡ true → has_kind_clash earlier ds ≡ true
     → first_fault tests earlier ds ≡ Some kinds.SemiContinuous
 clash-first tests earlier ds rising following clash =
-    least-append (those_of tests) (declaring_faults earlier ds)
-    ∙ (λ i. earlier_of (least-those_of tests rising i) (clash-least (refusals_in_turn earlier ds) clash i))
+    least-append _ _ ∙ (λ i. earlier_of (least-those_of tests rising i) (clash-least (refusals_in_turn earlier ds) clash i))
     ∙ from (first_held tests) refl
   where
     from : (o : Option FaultKind) → first_held tests ≡ o → earlier_of o (Some kinds.SemiContinuous) ≡ Some kinds.SemiContinuous
     from None held = refl
-    from (Some kind) held =
-        ap (λ (b : Bool). Some (cond b kinds.SemiContinuous kind)) (held-among is_after_clash tests kind following held)
+    from (Some kind) held = ap (λ b. Some (cond b kinds.SemiContinuous kind)) (held-among is_after_clash tests kind following held)
 
 -- no error of the form
 pub declared-first : (tests : FaultTests) (earlier : Draft) (ds : Declarations) → are_rising tests ≡ true → first_held tests ≡ None
     → first_fault tests earlier ds ≡ declared_fault earlier ds
 declared-first tests earlier ds rising held =
-    least-append (those_of tests) (declaring_faults earlier ds) ∙ ap (λ (o : Option FaultKind). earlier_of o (least_kind (declaring_faults earlier ds))) (least-those_of tests rising ∙ held)
+    least-append _ _ ∙ ap (λ o. earlier_of o (least_kind (declaring_faults earlier ds))) (least-those_of tests rising ∙ held)
 
 -- ---- no error
 
@@ -169,7 +155,7 @@ pub faultless : (tests : FaultTests) (earlier : Draft) (ds : Declarations) → f
 faultless tests earlier ds h =
     let forms = those_of tests in
     let faults = declaring_faults earlier ds in
-    let none = least-none (forms ++ faults) h in
+    let none = least-none _ h in
     record { form = left_none forms faults none; unrefused = unrefused earlier ds (right_none forms faults none) }
 
 pub no_fault : (tests : FaultTests) (earlier : Draft) (ds : Declarations) → those_of tests ≡ [] → refusals_in_turn earlier ds ≡ [] → first_fault tests earlier ds ≡ None
@@ -190,4 +176,4 @@ legal-only line outside tests length bytes = rw (length, bytes) refl
 
 pub legal-first : (line outside : List ℕ) (tests : FaultTests) (earlier : Draft) (ds : Declarations) → has_legal_length line ≡ true → list_all is_legal_byte outside ≡ true
     → first_fault (legal_tests line outside ++ tests) earlier ds ≡ first_fault tests earlier ds
-legal-first line outside tests earlier ds length bytes = ap (λ (forms : List FaultKind). least_kind (forms ++ declaring_faults earlier ds)) (legal-only line outside tests length bytes)
+legal-first line outside tests earlier ds length bytes = ap (λ forms. least_kind (forms ++ declaring_faults earlier ds)) (legal-only line outside tests length bytes)

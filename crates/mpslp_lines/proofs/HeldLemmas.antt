@@ -1,12 +1,8 @@
 -- The first failing test, if more tests come after it; and tests none of which fails.
-use Rattle.std.proofs.Common.{◌≡◌, refl, sym, ap, ◌∙◌, [], ◌∷◌, ◌++◌, Bool, true, false, cond, append_assoc}
-use Rattle.std.specs.Prelude.{Option, Some, None}
-use Rattle.std.specs.List.{list_all}
+use Rattle.mpslp_lines.proofs.Prelude
+use Prelude.{◌≡◌, refl, sym, ap, ◌∙◌, [], ◌∷◌, ◌++◌, Bool, true, false, cond, append_assoc, Some, None, list_all, first_so, second_so}
+use Prelude.{those_of, FaultKind, FaultTests, first_held}
 use Rattle.std.specs.Option.{option_or}
-use Rattle.std.specs.Cmp.{first_so, second_so}
-use Rattle.mpslp_types.specs.Lists.{those_of}
-use Rattle.mpslp_types.specs.declared.faults.FaultKind.{FaultKind}
-use Rattle.mpslp_lines.specs.FaultTests.{FaultTests, first_held}
 
 pub held-append : (tests more : FaultTests) → first_held (tests ++ more) ≡ option_or (first_held tests) (first_held more)
 held-append [] more = refl
@@ -17,10 +13,10 @@ held-append (test ∷ tests) more =
     ]
 
 pub held_some : (tests more : FaultTests) (kind : FaultKind) → first_held tests ≡ Some kind → first_held (tests ++ more) ≡ Some kind
-held_some tests more kind h = held-append tests more ∙ ap (λ (o : Option FaultKind). option_or o (first_held more)) h
+held_some tests more kind h = held-append tests more ∙ ap (λ o. option_or o (first_held more)) h
 
 pub held_none : (tests more : FaultTests) → first_held tests ≡ None → first_held (tests ++ more) ≡ first_held more
-held_none tests more h = held-append tests more ∙ ap (λ (o : Option FaultKind). option_or o (first_held more)) h
+held_none tests more h = held-append tests more ∙ ap (λ o. option_or o (first_held more)) h
 
 -- tests in three parts, of which the first two are taken together
 pub held-third : (tests more last : FaultTests) → first_held (tests ++ (more ++ last)) ≡ option_or (first_held (tests ++ more)) (first_held last)
@@ -29,8 +25,7 @@ held-third tests more last = ap first_held (sym (append_assoc tests more last)) 
 -- a property of the kinds of all tests is a property of the first failing one
 pub held-among : (p : FaultKind → Bool) (tests : FaultTests) (kind : FaultKind) → list_all (λ test. p test.1) tests ≡ true → first_held tests ≡ Some kind → p kind ≡ true
 held-among p [] kind h held = cc
-held-among p (test ∷ tests) kind h held =
-    by test.0 (first_so (p test.1) (list_all (λ t. p t.1) tests) h) (held-among p tests kind (second_so (p test.1) (list_all (λ t. p t.1) tests) h)) held
+held-among p (test ∷ tests) kind h held = by test.0 (first_so _ _ h) (held-among p tests kind (second_so _ _ h)) held
   where
     by : (b : Bool) → p test.1 ≡ true → (first_held tests ≡ Some kind → p kind ≡ true) → cond b (Some test.1) (first_held tests) ≡ Some kind → p kind ≡ true
     by true k more e = let same : kind ≡ test.1 = cc in ap p same ∙ k

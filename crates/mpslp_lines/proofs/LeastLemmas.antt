@@ -1,14 +1,8 @@
 -- The least kind of failing tests in the order of kinds is that of the first one.
-use Rattle.std.proofs.Common.{◌≡◌, refl, ap, ◌∙◌, ℕ, List, [], ◌∷◌, ◌++◌, Bool, true, false, cond, arith}
-use Rattle.std.specs.Prelude.{nat_le, nat_lt, ◌&&◌, Option, Some, None}
-use Rattle.std.specs.List.{list_all}
-use Rattle.std.specs.Option.{option_map_or}
-use Rattle.std.specs.Cmp.{first_so, second_so}
-use Rattle.std.proofs.lemmas.Bool.Decides.{nat_tests}
-use Rattle.mpslp_types.specs.Lists.{those_of}
-use Rattle.mpslp_types.specs.FaultOrder.{kind_rank, least_kind}
-use Rattle.mpslp_types.specs.declared.faults.FaultKind.{FaultKind}
-use Rattle.mpslp_lines.specs.FaultTests.{FaultTests, first_held}
+use Rattle.mpslp_lines.proofs.Prelude
+use Prelude.{◌≡◌, refl, ap, ◌∙◌, ℕ, List, [], ◌∷◌, ◌++◌, Bool, true, false, cond, arith, nat_le, nat_lt, Option, Some, None, list_all}
+use Prelude.{option_map_or, first_so, second_so, nat_tests, those_of, kind_rank, least_kind, FaultKind, FaultTests, first_held}
+use Rattle.std.specs.Prelude.{◌&&◌}
 
 -- not before the kind, in the order of kinds
 abbrev pub is_from : FaultKind → FaultKind → Bool
@@ -20,13 +14,13 @@ are_rising [] = true
 are_rising (test ∷ more) = list_all (λ later. is_from test.1 later.1) more && are_rising more
 
 not_less : (a b : ℕ) → nat_le a b ≡ true → nat_lt b a ≡ false
-not_less a b h = grind (arith, nat_tests)
+not_less = grind (arith, nat_tests)
 
 held-from : (kind : FaultKind) (tests : FaultTests) → list_all (λ later. is_from kind later.1) tests ≡ true → option_map_or (is_from kind) (first_held tests) true ≡ true
 held-from kind [] h = refl
 held-from kind (test ∷ more) h =
     elim test.0 as (λ b. option_map_or (is_from kind) (cond b (Some test.1) (first_held more)) true ≡ true) [
-      | true ↦ first_so (is_from kind test.1) (list_all (λ later. is_from kind later.1) more) h
+      | true ↦ first_so _ _ h
       | false ↦ held-from kind more (second_so (is_from kind test.1) (list_all (λ later. is_from kind later.1) more) h)
     ]
 
@@ -36,15 +30,15 @@ lesser kind o = elim o as (λ _. FaultKind) [ None ↦ kind | Some other ↦ con
 
 pub stays-least : (kind : FaultKind) (o : Option FaultKind) → option_map_or (is_from kind) o true ≡ true → lesser kind o ≡ kind
 stays-least kind None h = refl
-stays-least kind (Some other) h = ap (λ (b : Bool). cond b other kind) (not_less (kind_rank kind) (kind_rank other) h)
+stays-least kind (Some other) h = ap (λ b. cond b other kind) (not_less _ _ h)
 
 pub least-those_of : (tests : FaultTests) → are_rising tests ≡ true → least_kind (those_of tests) ≡ first_held tests
 least-those_of [] h = refl
 least-those_of (test ∷ more) h =
-    let from = first_so (list_all (λ later. is_from test.1 later.1) more) (are_rising more) h in
+    let from = first_so _ _ h in
     let rest = least-those_of more (second_so (list_all (λ later. is_from test.1 later.1) more) (are_rising more) h) in
     elim test.0 as (λ b. least_kind (cond b (test.1 ∷ those_of more) (those_of more)) ≡ cond b (Some test.1) (first_held more)) [
-      | true ↦ ap (λ (o : Option FaultKind). Some (lesser test.1 o)) rest ∙ ap (λ (kind : FaultKind). Some kind) (stays-least test.1 (first_held more) (held-from test.1 more from))
+      | true ↦ ap (λ o. Some (lesser test.1 o)) rest ∙ ap (λ kind. Some kind) (stays-least test.1 _ (held-from test.1 more from))
       | false ↦ rest
     ]
 
@@ -56,10 +50,10 @@ earlier_of None o = o
 earlier_of (Some kind) o = Some (lesser kind o)
 
 three : (a b c : ℕ) → nat_lt b a ≡ true → nat_lt c b ≡ true → nat_lt c a ≡ true
-three a b c h k = grind (arith, nat_tests)
+three = grind (arith, nat_tests)
 
 three_not : (a b c : ℕ) → nat_lt b a ≡ false → nat_lt c b ≡ false → nat_lt c a ≡ false
-three_not a b c h k = grind (arith, nat_tests)
+three_not = grind (arith, nat_tests)
 
 lesser-both : (kind : FaultKind) (o p : Option FaultKind) → lesser kind (earlier_of o p) ≡ lesser (lesser kind o) p
 lesser-both kind None p = refl
@@ -75,7 +69,7 @@ lesser-both kind (Some a) (Some b) = by (nat_lt (kind_rank a) (kind_rank kind)) 
 
 pub least-append : (xs ys : List FaultKind) → least_kind (xs ++ ys) ≡ earlier_of (least_kind xs) (least_kind ys)
 least-append [] ys = refl
-least-append (x ∷ xs) ys = ap (λ (o : Option FaultKind). Some (lesser x o)) (least-append xs ys) ∙ ap (λ (kind : FaultKind). Some kind) (lesser-both x (least_kind xs) (least_kind ys))
+least-append (x ∷ xs) ys = ap (λ o. Some (lesser x o)) (least-append xs ys) ∙ ap (λ kind. Some kind) (lesser-both x (least_kind xs) (least_kind ys))
 
 -- ---- no kind at all
 

@@ -1,3 +1,4 @@
+pub mod Prelude
 pub mod LeastLemmas
 pub mod HeldLemmas
 pub mod RefusedLemmas

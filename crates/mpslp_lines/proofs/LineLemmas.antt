@@ -1,13 +1,10 @@
 -- The lines that bstr finds are those of std's `lines`.
-use Rattle.std.proofs.Common.{◌≡◌, refl, sym, ap, ◌∙◌, List, [], ◌∷◌, ◌++◌, length, take, drop, ℕ, zero, suc, Bool, true, false, map, arith, ◌<◌, ◌≤◌, ◌+◌, ◌-◌, ◌⊎◌, inl, inr, length-append}
-use Rattle.std.specs.Prelude.{nat_lt, ◌==◌, slice_index}
-use Rattle.std.specs.List.{slice_split}
-use Rattle.std.specs.Str.Lines.{lines, lines_of_parts, strip_carriage_return}
-use Rattle.std.proofs.Math.Seq.{take-append_seam, drop-append_seam, take-length, drop-length}
+use Rattle.mpslp_lines.proofs.Prelude
+use Prelude.{◌≡◌, refl, sym, ap, ◌∙◌, List, [], ◌∷◌, ◌++◌, length, take, drop, ℕ, zero, suc, Bool, true, false, map, arith, ◌<◌, ◌≤◌, ◌+◌}
+use Prelude.{nat_lt, ◌==◌, slice_index, slice_split, lines, lines_of_parts, strip_carriage_return, nat_tests}
+use Rattle.std.proofs.{Common.{◌-◌, ◌⊎◌, inl, inr, length-append}, Math.Seq.{take-append_seam, drop-append_seam, take-length, drop-length}}
 use Rattle.std.proofs.lemmas.Bool.{lt-ltb}
-use Rattle.std.proofs.lemmas.Bool.Decides.{nat_tests}
-use Rattle.bstr.specs.Text.{lines_of, line_len, without_terminator, no_cr}
-use Rattle.bstr.proofs.lemmas.LineLemmas.{lines-nil, lines-step}
+use Rattle.bstr.{proofs.lemmas.LineLemmas.{lines-nil, lines-step}, specs.Text.{lines_of, line_len, without_terminator, no_cr}}
 
 abbrev pub is_feed : ℕ → Bool
 is_feed b = b == 10
@@ -23,11 +20,8 @@ pub record Cut (w first rest : List ℕ) : Type 0 where
   pub split : slice_split is_feed w ≡ first ∷ slice_split is_feed rest
   pub len : line_len w ≡ length (first ++ 10 ∷ [])
 
-not_empty : (n : ℕ) → (suc n == 0) ≡ false
-not_empty n = grind (arith, nat_tests)
-
 feed_is : (b : ℕ) → is_feed b ≡ true → b ≡ 10
-feed_is b h = grind (arith, nat_tests)
+feed_is = grind (arith, nat_tests)
 
 none_more : (b : ℕ) (w : List ℕ) → is_feed b ≡ false → ((i : ℕ) → i < length w → is_feed (slice_index w i) ≡ false)
     → (i : ℕ) → i < length (b ∷ w) → is_feed (slice_index (b ∷ w) i) ≡ false
@@ -36,11 +30,11 @@ none_more b w e h (suc i) l = h i (omega arith)
 
 one_byte : (b : ℕ) (w : List ℕ) → is_feed b ≡ true → Cut (b ∷ w) [] w
 unfolding line_len
-one_byte b w h = record { is = ap (λ (x : ℕ). x ∷ w) (feed_is b h); split = rw h refl; len = rw h refl }
+one_byte b w h = record { is = ap (λ x. x ∷ w) (feed_is b h); split = rw h refl; len = rw h refl }
 
 one_more : (b : ℕ) (w first rest : List ℕ) → is_feed b ≡ false → Cut w first rest → Cut (b ∷ w) (b ∷ first) rest
 unfolding line_len
-one_more b w first rest h c = record { is = ap (λ (x : List ℕ). b ∷ x) c.is; split = rw (h, c.split) refl; len = rw (h, c.len) refl }
+one_more b w first rest h c = record { is = ap (λ x. b ∷ x) c.is; split = rw (h, c.split) refl; len = rw (h, c.len) refl }
 
 no_more : (b : ℕ) (w : List ℕ) → is_feed b ≡ false → Whole w → Whole (b ∷ w)
 unfolding line_len

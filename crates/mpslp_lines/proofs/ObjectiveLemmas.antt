@@ -1,9 +1,11 @@
 -- The name of the objective in the draft of some declarations.
-use Rattle.std.proofs.Common.{◌≡◌, refl, ap, [], ◌∷◌, Bool, true, false}
-use Rattle.std.specs.Prelude.{◌||◌, is_some}
-use Rattle.mpslp_builder.specs.Declaration.{Declaration, declare_sense, declare_objective, declare_constant, declare_row, declare_rhs, declare_range, declare_column, declare_coefficient, declare_lower, declare_upper, declare_marked, declare_integer, declare_binary, declare_semi, Declarations, Draft, with_declaration, with_declarations}
-use Rattle.mpslp_builder.specs.Consistency.{has_objective}
+use Rattle.mpslp_lines.proofs.Prelude
+use Prelude.{◌≡◌, refl, ap, [], ◌∷◌, true, false, ◌||◌, Declaration, declare_sense, declare_objective, declare_constant, declare_row}
+use Prelude.{declare_rhs, declare_range, declare_column, declare_coefficient, declare_lower, declare_upper, declare_marked, declare_integer}
+use Prelude.{declare_binary, declare_semi, Declarations, Draft, with_declaration, with_declarations}
+use Rattle.std.specs.Prelude.{is_some}
 use Rattle.mpslp_types.proofs.BoolLemmas.{or_right}
+use Rattle.mpslp_builder.specs.Consistency.{has_objective}
 
 -- a name of the objective stays
 stays-named : (all : Draft) (d : Declaration) → is_some all.objective ≡ true → is_some (with_declaration all d).objective ≡ true
@@ -28,11 +30,11 @@ named-after (d ∷ ds) all h = named-after ds (with_declaration all d) (stays-na
 
 -- an objective that exists after declarations existed before or is declared by them
 pub objective-declared : (ds : Declarations) (all : Draft) → is_some (with_declarations all ds).objective ≡ true → (is_some all.objective || has_objective ds) ≡ true
-objective-declared [] all h = ap (λ (b : Bool). b || false) h
+objective-declared [] all h = ap (λ b. b || false) h
 objective-declared (d ∷ ds) all h = by d (objective-declared ds (with_declaration all d) h)
   where
     by : (x : Declaration) → (is_some (with_declaration all x).objective || has_objective ds) ≡ true → (is_some all.objective || has_objective (x ∷ ds)) ≡ true
-    by (declare_objective n) k = or_right (is_some all.objective) true refl
+    by (declare_objective n) k = or_right _ _ refl
     by (declare_sense s) k = k
     by (declare_constant v) k = k
     by (declare_row n f) k = k

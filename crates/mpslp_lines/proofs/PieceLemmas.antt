@@ -1,40 +1,34 @@
 -- A text that comes in pieces: what a reader has read after each, and what it keeps.
-use Rattle.std.proofs.Common.{◌≡◌, refl, sym, ap, subst, ◌∙◌, ℕ, ◌+◌, ◌<◌, List, [], ◌∷◌, ◌++◌, length, take, slice_index, length-take-le, Bool, true, false, cond, append-nil, append_assoc, arith}
-use Rattle.std.specs.Prelude.{◌-◌, ◌==◌, nat_le, Result, Ok, Err, IsErrAnd}
-use Rattle.std.specs.Str.Lines.{lines, strip_carriage_return}
-use Rattle.std.proofs.lemmas.Bool.Decides.{nat_tests}
-use Rattle.mpslp_types.specs.declared.faults.Fault.{Fault}
-use Rattle.mpslp_types.specs.declared.faults.ReadFault.{ReadFault}
-use Rattle.mpslp_types.specs.declared.faults.ReadFault.TheVariants.{File, Failed, OutOfMemory}
-use Rattle.mpslp_model.specs.Readers.{IsFedBy}
-use Rattle.mpslp_model.specs.CompleteLines.{complete_lines, open_tail, HasNoFeed}
-use Rattle.mpslp_model.proofs.CompleteLineLemmas.{complete-more, complete-same, open_tail-on, complete-ended, open_tail-ended, complete-from, open_tail-from, lines-are, last_line}
-use Rattle.mpslp_lines.specs.FaultTests.{has_legal_length}
-use Rattle.mpslp_lines.specs.declared.legal_line.TheConstants.{MAX_LINE_LEN}
+use Rattle.mpslp_lines.proofs.Prelude
+use Prelude.{◌≡◌, refl, sym, ap, subst, ◌∙◌, ℕ, ◌+◌, ◌<◌, List, [], ◌∷◌, ◌++◌, length, take, Bool, true, false, cond, append-nil}
+use Prelude.{append_assoc, arith, ◌==◌, nat_le, Result, Ok, Err, IsErrAnd, lines, strip_carriage_return, nat_tests, Fault, ReadFault, File}
+use Prelude.{Failed, OutOfMemory, open_tail, HasNoFeed, open_tail-ended, has_legal_length, RefusesLines, ReadsOn}
+use Rattle.std.{proofs.Common.{length-take-le}, specs.Prelude.{◌-◌}}
+use Rattle.mpslp_model.proofs.CompleteLineLemmas.{complete-more, complete-same, open_tail-on, complete-ended, complete-from, open_tail-from}
+use Rattle.mpslp_model.{proofs.CompleteLineLemmas.{lines-are, last_line}, specs.CompleteLines.{complete_lines}, specs.Readers.{IsFedBy}}
 use Rattle.mpslp_lines.specs.OpenLine.{KeptLine, Keeps, is_beyond}
-use Rattle.mpslp_lines.specs.LinesRead.{IsReader, RefusesLines, ReadsOn}
 use Rattle.mpslp_lines.specs.Pieces.{unread, IsFed, WasFed, RefusesPiece, Feeds, RefusesText, EndsText}
-use Rattle.mpslp_lines.specs.declared.piece_reader.PieceReader.{PieceReader}
+use Rattle.mpslp_lines.specs.declared.{legal_line.TheConstants.{MAX_LINE_LEN}, piece_reader.PieceReader.{PieceReader}}
 
 -- ---- the line that is kept
 
 pub keeps-none : (kept : KeptLine) (line : List ℕ) → Keeps kept [] → Keeps kept line → line ≡ []
 keeps-none kept line none h =
     let short : is_beyond line ≡ false = sym h.too_long ∙ none.too_long in
-    sym (ap (λ (b : Bool). cond b [] line) short) ∙ sym h.bytes ∙ none.bytes
+    sym (ap (λ b. cond b [] line) short) ∙ sym h.bytes ∙ none.bytes
 
 short_of : (line : List ℕ) (b : Bool) → MAX_LINE_LEN + 1 < length line → MAX_LINE_LEN < length (cond b (take (length line - 1) line) line)
 short_of line true h = omega (arith, length-take-le (length line - 1) line (omega arith))
 short_of line false h = omega arith
 
 not_within : (n : ℕ) → MAX_LINE_LEN < n → nat_le n MAX_LINE_LEN ≡ false
-not_within n h = grind arith
+not_within = grind arith
 
 pub longer-line : (line : List ℕ) → MAX_LINE_LEN + 1 < length line → has_legal_length line ≡ false
-longer-line line h = not_within (length line) (omega arith)
+longer-line line h = not_within _ (omega arith)
 
 pub longer-ended : (line : List ℕ) → MAX_LINE_LEN + 1 < length line → has_legal_length (strip_carriage_return line) ≡ false
-longer-ended line h = not_within (length (strip_carriage_return line)) (short_of line (slice_index line (length line - 1) == 13) h)
+longer-ended line h = not_within _ (short_of line _ h)
 
 unread-none : (b : Bool) (bytes : List ℕ) → open_tail bytes ≡ [] → unread b bytes ≡ []
 unread-none true bytes none = refl
@@ -44,19 +38,13 @@ lone : (line : List ℕ) → (line ≡ [] → ⊥) → last_line line ≡ line �
 lone [] some = absurd (some refl)
 lone (byte ∷ line) some =
     let full : (length (byte ∷ line) == 0) ≡ false = grind (arith, nat_tests) in
-    ap (λ (b : Bool). cond b [] ((byte ∷ line) ∷ [])) full
+    ap (λ b. cond b [] ((byte ∷ line) ∷ [])) full
 
 module _ {L : Type 0} (has_read : L → List (List ℕ) → Type 0) (at_end : L → Bool) where
   -- ---- what is unread
 
   pub fed-open : (reader : PieceReader L) (bytes : List ℕ) → IsFed has_read at_end reader bytes → at_end reader.lines ≡ false → Keeps reader.open_line (open_tail bytes)
-  fed-open reader bytes h unended = subst (Keeps reader.open_line) (ap (λ (b : Bool). unread b bytes) unended) h.kept
-
-  pub fed-lines : (reader : PieceReader L) → WasFed has_read at_end reader → IsReader has_read reader.lines
-  fed-lines reader was = record { text = complete_lines was.bytes; read = was.fed.complete }
-
-  pub was-more : (old new : PieceReader L) (part : List ℕ) → WasFed has_read at_end old → ((bytes : List ℕ) → IsFed has_read at_end old bytes → IsFed has_read at_end new (bytes ++ part)) → WasFed has_read at_end new
-  was-more old new part was h = record { bytes = was.bytes ++ part; fed = h was.bytes was.fed }
+  fed-open reader bytes h unended = subst (Keeps reader.open_line) (ap (λ b. unread b bytes) unended) h.kept
 
   -- ---- parts of a piece
 
@@ -66,10 +54,10 @@ module _ {L : Type 0} (has_read : L → List (List ℕ) → Type 0) (at_end : L 
   keep-fed old new part unended one_line same kept bytes h =
       let complete = complete-same bytes part one_line in
       let still : at_end new.lines ≡ false = ap at_end same ∙ unended in
-      let rest : unread (at_end new.lines) (bytes ++ part) ≡ open_tail bytes ++ part = ap (λ (b : Bool). unread b (bytes ++ part)) still ∙ open_tail-on bytes part one_line in
+      let rest : unread (at_end new.lines) (bytes ++ part) ≡ open_tail bytes ++ part = ap (λ b. unread b (bytes ++ part)) still ∙ open_tail-on bytes part one_line in
       record {
         complete = subst (λ r. has_read r (complete_lines (bytes ++ part))) (sym same) (subst (has_read old.lines) (sym complete) h.complete);
-        kept = subst (Keeps new.open_line) (sym rest) (kept (open_tail bytes) (fed-open old bytes h unended));
+        kept = subst (Keeps new.open_line) (sym rest) (kept _ (fed-open old bytes h unended));
       }
 
   -- the line feed of the line that is kept
@@ -80,20 +68,20 @@ module _ {L : Type 0} (has_read : L → List (List ℕ) → Type 0) (at_end : L 
       let is = line_is (open_tail bytes) (fed-open old bytes h unended) in
       let complete : complete_lines bytes ++ line ∷ [] ≡ complete_lines (bytes ++ 10 ∷ []) = ap (λ l. complete_lines bytes ++ l ∷ []) is ∙ sym (complete-ended bytes) in
       record {
-        complete = subst (has_read new.lines) complete (read (complete_lines bytes) h.complete);
+        complete = subst (has_read new.lines) complete (read _ h.complete);
         kept = subst (Keeps new.open_line) (sym (unread-none (at_end new.lines) (bytes ++ 10 ∷ []) (open_tail-ended bytes))) anew;
       }
 
   -- whole lines, if no line is kept
   from_start : (old : PieceReader L) (bytes : List ℕ) → at_end old.lines ≡ false → Keeps old.open_line [] → IsFed has_read at_end old bytes → open_tail bytes ≡ []
-  from_start old bytes unended anew h = keeps-none old.open_line (open_tail bytes) anew (fed-open old bytes h unended)
+  from_start old bytes unended anew h = keeps-none old.open_line _ anew (fed-open old bytes h unended)
 
   pub lines-fed : (old new : PieceReader L) (part : List ℕ) → at_end old.lines ≡ false → Keeps old.open_line [] → Keeps new.open_line [] → open_tail part ≡ []
       → ((before : List (List ℕ)) → has_read old.lines before → has_read new.lines (before ++ lines part)) → (bytes : List ℕ) → IsFed has_read at_end old bytes → IsFed has_read at_end new (bytes ++ part)
   lines-fed old new part unended anew still whole read bytes h =
       let start = from_start old bytes unended anew h in
       record {
-        complete = subst (has_read new.lines) (sym (complete-from bytes part start whole)) (read (complete_lines bytes) h.complete);
+        complete = subst (has_read new.lines) (sym (complete-from bytes part start whole)) (read _ h.complete);
         kept = subst (Keeps new.open_line) (sym (unread-none (at_end new.lines) (bytes ++ part) (open_tail-from bytes part start ∙ whole))) still;
       }
 
@@ -108,13 +96,13 @@ module _ {L : Type 0} (has_read : L → List (List ℕ) → Type 0) (at_end : L 
   whole_last reader bytes line unended some h is =
       let kept = fed-open reader bytes h unended in
       ap (λ l. complete_lines bytes ++ l ∷ []) is
-      ∙ ap (λ l. complete_lines bytes ++ l) (sym (lone (open_tail bytes) (λ none. some (subst (Keeps reader.open_line) none kept)))) ∙ sym (lines-are bytes)
+      ∙ ap (λ l. complete_lines bytes ++ l) (sym (lone _ (λ none. some (subst (Keeps reader.open_line) none kept)))) ∙ sym (lines-are bytes)
 
   pub whole-line : (old new : PieceReader L) (line : List ℕ) → at_end old.lines ≡ false → (Keeps old.open_line [] → ⊥)
       → ((l : List ℕ) → Keeps old.open_line l → line ≡ l) → ((before : List (List ℕ)) → has_read old.lines before → has_read new.lines (before ++ line ∷ []))
       → (bytes : List ℕ) → IsFed has_read at_end old bytes → has_read new.lines (lines bytes)
   whole-line old new line unended some line_is read bytes h =
-      subst (has_read new.lines) (whole_last old bytes line unended some h (line_is (open_tail bytes) (fed-open old bytes h unended))) (read (complete_lines bytes) h.complete)
+      subst (has_read new.lines) (whole_last old bytes line unended some h (line_is (open_tail bytes) (fed-open old bytes h unended))) (read _ h.complete)
 
   -- ---- after the line that ends it
 
@@ -123,8 +111,8 @@ module _ {L : Type 0} (has_read : L → List (List ℕ) → Type 0) (at_end : L 
     pub after-fed : (reader : PieceReader L) (more bytes : List ℕ) → at_end reader.lines ≡ true → IsFed has_read at_end reader bytes → IsFed has_read at_end reader (bytes ++ more)
     after-fed reader more bytes ended h =
         let r = reader.lines in
-        let none : unread (at_end r) bytes ≡ [] = ap (λ (b : Bool). unread b bytes) ended in
-        let still : unread (at_end r) (bytes ++ more) ≡ [] = ap (λ (b : Bool). unread b (bytes ++ more)) ended in
+        let none : unread (at_end r) bytes ≡ [] = ap (λ b. unread b bytes) ended in
+        let still : unread (at_end r) (bytes ++ more) ≡ [] = ap (λ b. unread b (bytes ++ more)) ended in
         record {
           complete = subst (has_read r) (sym (complete-more bytes more)) (after_end r (complete_lines bytes) (complete_lines (open_tail bytes ++ more)) h.complete ended);
           kept = subst (Keeps reader.open_line) (none ∙ sym still) h.kept;
@@ -177,7 +165,7 @@ module _ {L : Type 0} (has_read : L → List (List ℕ) → Type 0) (at_end : L 
         → RefusesPiece has_read at_end lines_fault reader piece error → IsFedBy after (λ bytes fault. lines_fault (complete_lines bytes) fault) refused old piece new answer
     feed-refused after refused old new reader piece error (Ok x) is fed h = absurd is
     feed-refused after refused old new reader piece error (Err found) is fed h =
-        subst (λ (e : ReadFault). IsFedBy after (λ bytes fault. lines_fault (complete_lines bytes) fault) refused old piece new (Err e)) (sym is) (by error h)
+        subst (λ e. IsFedBy after (λ bytes fault. lines_fault (complete_lines bytes) fault) refused old piece new (Err e)) (sym is) (by error h)
       where
         by : (e : ReadFault) → RefusesPiece has_read at_end lines_fault reader piece e
             → IsFedBy after (λ bytes fault. lines_fault (complete_lines bytes) fault) refused old piece new (Err e)
@@ -199,7 +187,7 @@ module _ {L : Type 0} (has_read : L → List (List ℕ) → Type 0) (at_end : L 
       pub refuses-text : (old : PieceReader L) (error : ReadFault) → WasFed has_read at_end old → at_end old.lines ≡ false → (Keeps old.open_line [] → ⊥)
           → ((line : List ℕ) → Keeps old.open_line line → RefusesLines has_read lines_fault old.lines (line ∷ []) error) → RefusesText has_read at_end first_fault old error
       refuses-text old (File fault) was unended some h = λ bytes fed.
-          let all = whole_last old bytes (open_tail bytes) unended some fed refl in
+          let all = whole_last old bytes _ unended some fed refl in
           fault_is_first bytes fault
           (subst (λ l. lines_fault l fault) all (h (open_tail bytes) (fed-open old bytes fed unended) (complete_lines bytes) fed.complete))
       refuses-text old Failed was unended some h = h (open_tail was.bytes) (fed-open old was.bytes was.fed unended)
@@ -209,4 +197,4 @@ module _ {L : Type 0} (has_read : L → List (List ℕ) → Type 0) (at_end : L 
           → (Keeps old.open_line [] → ⊥) → ((l : List ℕ) → Keeps old.open_line l → line ≡ l) → ReadsOn has_read lines_fault old.lines (line ∷ []) new.lines answer → EndsText has_read at_end first_fault old new answer
       line-ends old new line (Ok x) was unended some line_is h = whole-line old new line unended some line_is h
       line-ends old new line (Err error) was unended some line_is h =
-          refuses-text old error was unended some (λ l kept. subst (λ (found : List ℕ). RefusesLines has_read lines_fault old.lines (found ∷ []) error) (line_is l kept) h)
+          refuses-text old error was unended some (λ l kept. subst (λ found. RefusesLines has_read lines_fault old.lines (found ∷ []) error) (line_is l kept) h)

@@ -1,10 +1,7 @@
 -- Lines that are read one after another: some were read, and the others are left.
-use Rattle.std.proofs.Common.{◌≡◌, sym, ap, subst, ◌∙◌, ℕ, List, [], ◌∷◌, ◌++◌, Bool, true, append-nil, append_assoc}
-use Rattle.std.specs.Prelude.{Result, Ok, Err, IsErrAnd}
-use Rattle.mpslp_types.specs.declared.faults.Fault.{Fault}
-use Rattle.mpslp_types.specs.declared.faults.ReadFault.{ReadFault}
-use Rattle.mpslp_types.specs.declared.faults.ReadFault.TheVariants.{File, Failed, OutOfMemory}
-use Rattle.mpslp_lines.specs.LinesRead.{IsReader, RefusesLines, ReadsOn}
+use Rattle.mpslp_lines.proofs.Prelude
+use Prelude.{◌≡◌, sym, ap, subst, ◌∙◌, ℕ, List, [], ◌∷◌, ◌++◌, Bool, true, append-nil, append_assoc, Result, Ok, Err, IsErrAnd, Fault}
+use Prelude.{ReadFault, File, Failed, OutOfMemory, IsReader, RefusesLines, ReadsOn}
 
 -- some of these lines were read, and the others are left
 pub record Passed {L : Type 0} (has_read : L → List (List ℕ) → Type 0) (old now : L) (all left : List (List ℕ)) : Type 0 where
@@ -47,8 +44,8 @@ module _ {L : Type 0} (has_read : L → List (List ℕ) → Type 0) where
       refuses-next : (old now : L) (all left more : List (List ℕ)) (line : List ℕ) (error : ReadFault) → Passed has_read old now all left → left ≡ line ∷ more
           → RefusesLines has_read lines_fault now (line ∷ []) error → RefusesLines has_read lines_fault old all error
       refuses-next old now all left more line (File fault) p e h = λ before led.
-          let split : (before ++ p.done) ++ line ∷ more ≡ before ++ all = append_assoc before p.done (line ∷ more) ∙ ap (λ l. before ++ l) (sym (p.split ∙ ap (λ l. p.done ++ l) e)) in
-          subst (λ l. lines_fault l fault) (sym (one_more (before ++ p.done) more line) ∙ split)
+          let split : _ ++ line ∷ more ≡ before ++ all = append_assoc before p.done (line ∷ more) ∙ ap (λ l. before ++ l) (sym (p.split ∙ ap (λ l. p.done ++ l) e)) in
+          subst (λ l. lines_fault l fault) (sym (one_more _ more line) ∙ split)
           (fault_stays ((before ++ p.done) ++ line ∷ []) more fault (h (before ++ p.done) (p.reads before led)))
       refuses-next old now all left more line Failed p e h = h
       refuses-next old now all left more line OutOfMemory p e h = tt

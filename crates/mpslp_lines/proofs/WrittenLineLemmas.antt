@@ -1,10 +1,8 @@
 -- Lines that are written one after another are read as these lines.
-use Rattle.std.proofs.Common.{◌≡◌, refl, ap, ◌∙◌, List, [], ◌∷◌, ◌++◌, ℕ, zero, suc, Bool, false}
-use Rattle.std.specs.Prelude.{◌==◌, slice_index}
-use Rattle.std.specs.List.{slice_split}
-use Rattle.std.specs.Str.Lines.{lines, lines_of_parts, strip_carriage_return}
-use Rattle.mpslp_types.proofs.EachLemmas.{Each}
-use Rattle.mpslp_types.specs.Lists.{with_line_feeds}
+use Rattle.mpslp_lines.proofs.Prelude
+use Prelude.{◌≡◌, refl, ap, ◌∙◌, List, [], ◌∷◌, ◌++◌, ℕ, zero, suc, Bool, false, ◌==◌, slice_index, slice_split, lines, lines_of_parts}
+use Prelude.{strip_carriage_return}
+use Rattle.mpslp_types.{proofs.EachLemmas.{Each}, specs.Lists.{with_line_feeds}}
 
 abbrev pub is_feed : ℕ → Bool
 is_feed b = b == 10
@@ -19,7 +17,7 @@ split-feed (b ∷ bs) rest h = rw (h.0.0, split-feed bs rest h.1) refl
 
 split-with_line_feeds : (ls : List (List ℕ)) → Each (Each IsPlain) ls → slice_split is_feed (with_line_feeds ls) ≡ ls ++ [] ∷ []
 split-with_line_feeds [] h = refl
-split-with_line_feeds (l ∷ ls) h = split-feed l (with_line_feeds ls) h.0 ∙ ap (λ (x : List (List ℕ)). l ∷ x) (split-with_line_feeds ls h.1)
+split-with_line_feeds (l ∷ ls) h = split-feed l _ h.0 ∙ ap (λ x. l ∷ x) (split-with_line_feeds ls h.1)
 
 no-return : (line : List ℕ) (k : ℕ) → Each IsPlain line → (slice_index line k == 13) ≡ false
 no-return [] k h = refl
@@ -31,7 +29,7 @@ strip-plain line h = rw (no-return line _ h) refl
 
 parts-lines : (ls : List (List ℕ)) → Each (Each IsPlain) ls → lines_of_parts (ls ++ [] ∷ []) ≡ ls
 parts-lines [] h = refl
-parts-lines (l ∷ []) h = ap (λ (x : List ℕ). x ∷ []) (strip-plain l h.0)
+parts-lines (l ∷ []) h = ap (λ x. x ∷ []) (strip-plain l h.0)
 parts-lines (l ∷ k ∷ ls) h = λ i. strip-plain l h.0 i ∷ parts-lines (k ∷ ls) h.1 i
 
 pub lines-with_line_feeds : (ls : List (List ℕ)) → Each (Each IsPlain) ls → lines (with_line_feeds ls) ≡ ls

@@ -1,21 +1,15 @@
 -- Lines that would make a column both integer and semi-continuous: the first error of their form, and of no other line.
-use Rattle.std.proofs.Common.{arith, ◌≡◌, refl, sym, ap, ◌∙◌, ℕ, List, [], ◌∷◌, ◌++◌, Bool, true, false, not, cond}
-use Rattle.std.{proofs.lemmas.List.Folds.list_any-append, specs.{Prelude.{◌||◌, ◌&&◌, Option, Some, None, Ok, Err}, List.list_any}}
-use Rattle.std.specs.{List.{list_all, flat_map}, Option.{option_map, option_map_or}}
-use Rattle.mpslp_decimal.specs.Decimal.{Number}
-use Rattle.mpslp_builder.specs.{Answer.{Answer, first_refusal}, Declaration.{Declaration, declare_column, declare_marked, declare_integer}}
-use Rattle.mpslp_builder.specs.{Declaration.{declare_semi, Declarations, Draft, has_column, is_integer, is_semi}, Made.IsMade}
-use Rattle.mpslp_builder.{specs.Refusal.refusals, proofs.MadeDrafts.declared_names-from_made}
-use Rattle.mpslp_types.specs.{Lists.{those_of, when}, declared.kinds.Limit.Limit}
+use Rattle.mpslp_mps.proofs.Prelude
+use Prelude.{arith, ◌≡◌, refl, sym, ap, ◌∙◌, ℕ, List, [], ◌∷◌, ◌++◌, Bool, true, false, cond, list_any-append, ◌||◌, ◌&&◌, Option, Some}
+use Prelude.{None, Ok, Err, list_any, list_all, flat_map, option_map, option_map_or, Number, Answer, first_refusal, Declaration}
+use Prelude.{declare_column, declare_marked, declare_integer, declare_semi, Declarations, Draft, is_integer, is_semi, IsMade, refusals}
+use Prelude.{declared_names-from_made, those_of, when, Limit, is_kind_clash, has_kind_clash, says_no_kind, no-clash, Fields, ValuesLine}
+use Prelude.{column_shape, is_marker_line, BoundLine, bound_type, bound_shape, BoundType, Section, ObjSense, Rows, Columns, Rhs, Ranges}
+use Prelude.{Context, declared_if_some, coefficient_declared, column_declared, bound_declared, bound_value, bound_line_declared}
+use Prelude.{data_declared, header_declared, named_values, column_clash, type_clash, bound_clash}
+use Rattle.std.proofs.Common.{not}
+use Rattle.mpslp_mps.proofs.{OrderLemmas.{each-flat, sense-passes, sides-passes, ranges-passes}, SectionLemmas.{or_false}}
 use Rattle.mpslp_types.specs.declared.faults.BuildFault.TheVariants as builds
-use Rattle.mpslp_lines.{specs.Declaring.is_kind_clash, proofs.ClashLemmas.{has_kind_clash, says_no_kind, no-clash}}
-use Rattle.mpslp_mps_fields.specs.{Line.Fields, DataLine.{ValuesLine, column_shape, is_marker_line, BoundLine, bound_type, bound_shape}}
-use Rattle.mpslp_mps_fields.specs.declared.{bound_types.BoundType.BoundType, sections.Section.{Section, TheVariants.{ObjSense, Rows}}}
-use Rattle.mpslp_mps_fields.specs.declared.sections.Section.TheVariants.{Columns, Rhs, Ranges}
-use Rattle.mpslp_mps.specs.{Context.Context, LineDeclarations.{declared_if_some, coefficient_declared, column_declared, bound_declared}}
-use Rattle.mpslp_mps.specs.{LineDeclarations.{bound_value, bound_line_declared, data_declared, header_declared}, LineValues.named_values}
-use Rattle.mpslp_mps.{specs.KindClash.{column_clash, type_clash, bound_clash}, proofs.OrderLemmas.{each-flat, sense-passes, sides-passes}}
-use Rattle.mpslp_mps.proofs.{OrderLemmas.ranges-passes, SectionLemmas.or_false}
 
 -- ---- checks by the builder
 
@@ -26,37 +20,37 @@ is_clash_answer (Err fault) = is_kind_clash fault
 
 stated_so : (known other : Bool) → (other ≡ true → known ≡ true)
     → is_clash_answer (first_refusal (those_of ((not known, builds.UnknownColumn) ∷ (other, builds.SemiContinuous) ∷ []))) ≡ other
-stated_so known other h = grind arith
+stated_so = grind arith
 
 pub integer-answered : (all : Draft) (c : List ℕ) (answer : Answer) → IsMade all → answer ≡ first_refusal (refusals all (declare_integer c)) → is_clash_answer answer ≡ is_semi all c
-integer-answered all c answer made is = ap is_clash_answer is ∙ stated_so (has_column all c) (is_semi all c) ((declared_names-from_made all made).semis c)
+integer-answered all c answer made is = ap is_clash_answer is ∙ stated_so _ _ ((declared_names-from_made all made).semis c)
 
 pub semi-answered : (all : Draft) (c : List ℕ) (answer : Answer) → IsMade all → answer ≡ first_refusal (refusals all (declare_semi c)) → is_clash_answer answer ≡ is_integer all c
-semi-answered all c answer made is = ap is_clash_answer is ∙ stated_so (has_column all c) (is_integer all c) ((declared_names-from_made all made).integers c)
+semi-answered all c answer made is = ap is_clash_answer is ∙ stated_so _ _ ((declared_names-from_made all made).integers c)
 
 -- ---- what a line declares
 
 -- declaring the type of a column clashes if the column is of the other type
 kind_clash : (unknown other : Bool) → list_any is_kind_clash (those_of ((unknown, builds.UnknownColumn) ∷ (other, builds.SemiContinuous) ∷ [])) ≡ other
-kind_clash unknown other = grind arith
+kind_clash = grind arith
 
 then_none : (earlier : Draft) (d : Declaration) (more : Declarations) (other : Bool) → list_any is_kind_clash (refusals earlier d) ≡ other → list_all says_no_kind more ≡ true
     → has_kind_clash earlier (d ∷ more) ≡ (other || false)
-then_none earlier d more other is none = grind (arith, list_any-append, no-clash)
+then_none = grind (arith, list_any-append, no-clash)
 
 and_none : (b : Bool) → (b && false) ≡ false
-and_none b = grind arith
+and_none = grind arith
 
 -- of COLUMNS
 pub column-clashes : (context : Context) (earlier : Draft) (fields : Fields) → is_marker_line fields ≡ false
     → has_kind_clash earlier (data_declared context earlier fields (Some Columns)) ≡ column_clash context earlier fields
 column-clashes context earlier fields plain =
-    ap (λ (b : Bool). has_kind_clash earlier (cond b [] (declared_if_some (column_declared context) (column_shape fields)))) plain ∙ of (column_shape fields)
+    ap (λ b. has_kind_clash earlier (cond b [] (declared_if_some (column_declared context) (column_shape fields)))) plain ∙ of (column_shape fields)
   where
     front : (line : ValuesLine) (marked : Bool)
         → has_kind_clash earlier (declare_column line.name ∷ (when marked (declare_marked line.name) ++ flat_map (coefficient_declared line.name) line.pairs))
         ≡ (marked && is_semi earlier line.name)
-    front line marked = grind (arith, then_none, kind_clash, each-flat, says_no_kind, or_false, no-clash)
+    front = grind (arith, then_none, kind_clash, each-flat, says_no_kind, or_false, no-clash)
 
     of : (o : Option ValuesLine) → has_kind_clash earlier (declared_if_some (column_declared context) o)
         ≡ (context.in_integer_part && option_map_or (λ line. is_semi earlier line.name) o false)
@@ -67,7 +61,7 @@ column-clashes context earlier fields plain =
 pub column-apart : (context : Context) (earlier : Draft) (fields : Fields) (column : List ℕ) (values : List (List ℕ × Number))
     → option_map named_values (column_shape fields) ≡ Some (column, values) → column_clash context earlier fields ≡ false
     → (context.in_integer_part && is_semi earlier column) ≡ false
-column-apart context earlier fields column values is apart = grind arith
+column-apart = grind arith
 
 -- of BOUNDS
 type-clashes : (earlier : Draft) (type : BoundType) (c : List ℕ) (v : Limit) → has_kind_clash earlier (bound_declared type c v) ≡ type_clash earlier type c
@@ -80,7 +74,7 @@ bound-clashes earlier (letters ∷ more) = typed (bound_type letters)
     lined : (type : BoundType) (o : Option BoundLine) → has_kind_clash earlier (declared_if_some (λ (line : BoundLine). bound_declared type line.column (bound_value line)) o)
         ≡ option_map_or (λ line. type_clash earlier type line.column) o false
     lined type None = refl
-    lined type (Some line) = type-clashes earlier type line.column (bound_value line)
+    lined type (Some line) = type-clashes earlier type line.column _
 
     typed : (o : Option BoundType)
         → has_kind_clash earlier (declared_if_some (λ type. declared_if_some (λ (line : BoundLine). bound_declared type line.column (bound_value line)) (bound_shape type more)) o)
@@ -91,14 +85,14 @@ bound-clashes earlier (letters ∷ more) = typed (bound_type letters)
 -- the column of a bound that does not clash
 pub bound-apart : (earlier : Draft) (letters : List ℕ) (more : Fields) (type : BoundType) (line : BoundLine) → bound_type letters ≡ Some type → bound_shape type more ≡ Some line
     → bound_clash earlier (letters ∷ more) ≡ false → type_clash earlier type line.column ≡ false
-bound-apart earlier letters more type line t l apart = grind arith
+bound-apart = grind arith
 
 -- in the other sections nothing clashes
 pub sense-apart : (context : Context) (earlier : Draft) (fields : Fields) → has_kind_clash earlier (data_declared context earlier fields (Some ObjSense)) ≡ false
 sense-apart context earlier fields = no-clash (data_declared context earlier fields (Some ObjSense)) earlier (sense-passes says_no_kind (λ s. refl) fields)
 
 pub rows-apart : (context : Context) (earlier : Draft) (fields : Fields) → has_kind_clash earlier (data_declared context earlier fields (Some Rows)) ≡ false
-rows-apart context earlier fields = grind arith
+rows-apart = grind arith
 
 pub sides-apart : (context : Context) (earlier : Draft) (fields : Fields) → has_kind_clash earlier (data_declared context earlier fields (Some Rhs)) ≡ false
 sides-apart context earlier fields = no-clash (data_declared context earlier fields (Some Rhs)) earlier (sides-passes says_no_kind (λ r v. refl) earlier fields)
@@ -107,4 +101,4 @@ pub ranges-apart : (context : Context) (earlier : Draft) (fields : Fields) → h
 ranges-apart context earlier fields = no-clash (data_declared context earlier fields (Some Ranges)) earlier (ranges-passes says_no_kind (λ r v. refl) fields)
 
 pub header-apart : (context : Context) (earlier : Draft) (more : Fields) (section : Option Section) → has_kind_clash earlier (header_declared context earlier more section) ≡ false
-header-apart context earlier more section = grind arith
+header-apart = grind arith

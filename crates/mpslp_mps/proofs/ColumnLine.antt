@@ -1,23 +1,16 @@
 -- The first error of a line of a column: of its form, or an unknown row, a split column, or a repeated coefficient.
-use Rattle.std.{proofs.Common.{◌≡◌, refl, ap, ◌∙◌, ℕ, List, [], ◌∷◌, ◌++◌, Bool, true, false, cond, arith}, specs.Prelude.{not, Option}}
-use Rattle.std.specs.{Prelude.{Some, None}, List.{list_all, flat_map}, Option.option_map}
-use Rattle.mpslp_decimal.specs.Decimal.{Number}
-use Rattle.mpslp_types.specs.{Name.is_mps_name, Lists.those_of, FaultOrder.least_kind, declared.faults.FaultKind.FaultKind}
-use Rattle.mpslp_types.specs.declared.faults.FaultKind.TheVariants as kinds
-use Rattle.mpslp_builder.specs.Declaration.{Draft, with_declarations, has_column}
-use Rattle.mpslp_mps_fields.specs.{Line.{Fields, data_line}, DataLine.{ValuesLine, column_shape, is_marker_line}}
-use Rattle.mpslp_mps_fields.specs.declared.sections.Section.{Section, TheVariants.Columns}
-use Rattle.mpslp_mps.specs.{Context.Context, LineFault.{literals_of, is_split, marker_tests, column_tests, data_tests}}
-use Rattle.mpslp_mps.specs.{LineValues.named_values, LineDeclarations.data_declared, LineAnswer.item_fault, ColumnDeclared.front_declared}
-use Rattle.mpslp_mps.{specs.{ColumnDeclared.{value_declared, has_duplicate}, KindClash.column_clash}, proofs.RisingTests.data-rising}
-use Rattle.mpslp_mps.proofs.{TakingLemmas.is_early, TakenLemmas.clash-reported, ClashLemmas.{column-clashes, column-apart}}
+use Rattle.mpslp_mps.proofs.Prelude
+use Prelude.{◌≡◌, refl, ap, ◌∙◌, ℕ, List, [], ◌∷◌, ◌++◌, Bool, true, false, cond, arith, not, Option, Some, None, list_all, flat_map}
+use Prelude.{option_map, Number, is_mps_name, those_of, least_kind, FaultKind, Draft, with_declarations, has_column, Fields, data_line}
+use Prelude.{ValuesLine, column_shape, is_marker_line, Section, Columns, Context, literals_of, is_split, marker_tests, column_tests}
+use Prelude.{data_tests, named_values, data_declared, item_fault, front_declared, value_declared, has_duplicate, column_clash, FaultTests}
+use Prelude.{judged_by, first_held, name_tests, number_tests, declaring_faults, declared_fault, IsErrorOf, LineError, held-third}
+use Prelude.{held-among, is_from, earlier_of, stays-least, least-those_of, least-append, form-first, is_after_clash, declared-after}
+use Prelude.{are_from}
+use Rattle.mpslp_mps.proofs.ClashLemmas.{column-clashes, column-apart}
 use Rattle.mpslp_mps.proofs.ColumnTaking.{are_rows, front-none, front-there, front-rows, values-late, values-unknown, values-double}
-use Rattle.mpslp_mps.proofs.ColumnTaking.{front-double}
-use Rattle.mpslp_lines.specs.{FaultTests.{FaultTests, judged_by, first_held, name_tests, number_tests}, Declaring.declaring_faults}
-use Rattle.mpslp_lines.specs.{Declaring.declared_fault, LineAnswer.IsErrorOf, declared.errors.LineError.LineError}
-use Rattle.mpslp_lines.proofs.{HeldLemmas.{held-third, held-among}, LeastLemmas.{is_from, earlier_of, stays-least, least-those_of}}
-use Rattle.mpslp_lines.proofs.{LeastLemmas.least-append, FirstFaultLemmas.{form-first, is_after_clash}, DeclaringLemmas.declared-after}
-use Rattle.mpslp_lines.proofs.DeclaringLemmas.{are_from}
+use Rattle.mpslp_mps.proofs.{ColumnTaking.{front-double}, RisingTests.{data-rising}, TakenLemmas.{clash-reported}, TakingLemmas.{is_early}}
+use Rattle.mpslp_types.specs.declared.faults.FaultKind.TheVariants as kinds
 use Rattle.mpslp_lines.specs.declared.errors.LineError.TheVariants as errors
 
 -- ---- the form
@@ -31,7 +24,7 @@ split_test context earlier column = (is_split context earlier column, kinds.Colu
 
 pub plain-tests : (context : Context) (earlier : Draft) (fields : Fields) → is_marker_line fields ≡ false
     → data_tests context earlier fields (Some Columns) ≡ judged_by (column_tests context earlier) (column_shape fields)
-plain-tests context earlier fields h = ap (λ (b : Bool). cond b (marker_tests context fields) (judged_by (column_tests context earlier) (column_shape fields))) h
+plain-tests context earlier fields h = ap (λ b. cond b (marker_tests context fields) (judged_by (column_tests context earlier) (column_shape fields))) h
 
 -- an error of the fields is the first error of the line
 held_fields : (context : Context) (earlier : Draft) (parts : Option ValuesLine) (kind : FaultKind) → first_held (judged_by field_tests parts) ≡ Some kind
@@ -40,7 +33,7 @@ held_fields context earlier None kind h = h
 held_fields context earlier (Some line) kind h = grind (arith, held-third)
 
 early_fields : (parts : Option ValuesLine) → list_all is_early (judged_by field_tests parts) ≡ true
-early_fields parts = grind arith
+early_fields = grind arith
 
 abbrev fault_under : Context → Draft → Fields → Option Section → Option FaultKind
 fault_under context earlier fields section = least_kind (those_of (data_tests context earlier fields section) ++ declaring_faults earlier (data_declared context earlier fields section))
@@ -64,11 +57,11 @@ column-judged context earlier fields errors.OutOfMemory here plain apart held = 
 
 -- a clash of column types, which is reported before all errors of the fields
 after_fields : (context : Context) (earlier : Draft) (parts : Option ValuesLine) → list_all (λ test. is_after_clash test.1) (judged_by (column_tests context earlier) parts) ≡ true
-after_fields context earlier parts = grind arith
+after_fields = grind arith
 
 pub column-clash-reported : (context : Context) (earlier : Draft) (fields : Fields) → context.section ≡ Some Columns → is_marker_line fields ≡ false
     → column_clash context earlier fields ≡ true → item_fault context earlier (data_line fields) ≡ Some kinds.SemiContinuous
-column-clash-reported context earlier fields here plain clash = grind (arith, clash-reported, is_after_clash, plain-tests, after_fields, column-clashes)
+column-clash-reported = grind (arith, clash-reported, is_after_clash, plain-tests, after_fields, column-clashes)
 
 -- ---- the form and what is declared
 
@@ -82,7 +75,7 @@ held_split context earlier (Some line) column values h is = grind (arith, held-t
 pub column-declares : (context : Context) (earlier : Draft) (fields : Fields) (column : List ℕ) (values : List (List ℕ × Number)) → is_marker_line fields ≡ false
     → option_map named_values (column_shape fields) ≡ Some (column, values)
     → data_declared context earlier fields (Some Columns) ≡ front_declared context.in_integer_part column ++ flat_map (value_declared column) values
-column-declares context earlier fields column values plain is = grind arith
+column-declares = grind arith
 
 -- the draft after the column is declared
 abbrev pub with_column : Context → Draft → List ℕ → Draft
@@ -100,9 +93,9 @@ column-fault context earlier fields column values here plain apart held is =
     let coefficients = flat_map (value_declared column) values in
     ap (fault_under context earlier fields) here
     ∙ least-append (those_of tests) (declaring_faults earlier ds)
-    ∙ ap (λ (o : Option FaultKind). earlier_of o (declared_fault earlier ds))
+    ∙ ap (λ o. earlier_of o (declared_fault earlier ds))
     (least-those_of tests (data-rising context earlier fields (Some Columns)) ∙ ap first_held (plain-tests context earlier fields plain)
-    ∙ held_split context earlier (column_shape fields) column values held is)
+    ∙ held_split context earlier _ column values held is)
     ∙ ap (earlier_of (first_held (split_test context earlier column)))
     (ap (declared_fault earlier) (column-declares context earlier fields column values plain is)
     ∙ declared-after earlier front coefficients (front-none earlier context.in_integer_part column (column-apart context earlier fields column values is apart)))
@@ -114,7 +107,7 @@ abbrev pub place_tests : Context → Draft → List ℕ → List (List ℕ × Nu
 place_tests context earlier column values = (not (are_rows earlier values), kinds.UnknownRow) ∷ split_test context earlier column
 
 late_enough : (o : Option FaultKind) → are_from kinds.DuplicateEntry o ≡ true → are_from kinds.ColumnSplit o ≡ true
-late_enough o h = grind arith
+late_enough = grind arith
 
 pub place-fault : (context : Context) (earlier : Draft) (fields : Fields) (column : List ℕ) (values : List (List ℕ × Number)) (kind : FaultKind) → context.section ≡ Some Columns
     → is_marker_line fields ≡ false → column_clash context earlier fields ≡ false → first_held (judged_by field_tests (column_shape fields)) ≡ None
@@ -140,13 +133,13 @@ place-fault context earlier fields column values kind here plain apart held is p
         → earlier_of (cond split (Some kinds.ColumnSplit) None) coefficients ≡ Some kind
     by false e true h = ap (earlier_of (Some kinds.ColumnSplit)) (values-unknown values draft column there (rows ∙ e)) ∙ h
     by false e false h = values-unknown values draft column there (rows ∙ e) ∙ h
-    by true e true h = ap (λ (k : FaultKind). Some k) (stays-least kinds.ColumnSplit coefficients (late_enough coefficients (values-late values draft column there (rows ∙ e)))) ∙ h
+    by true e true h = ap (λ k. Some k) (stays-least kinds.ColumnSplit coefficients (late_enough coefficients (values-late values draft column there (rows ∙ e)))) ∙ h
     by true e false h = cc
 
 -- if these tests pass, the coefficients decide
 pub placed : (context : Context) (earlier : Draft) (column : List ℕ) (values : List (List ℕ × Number)) → first_held (place_tests context earlier column values) ≡ None
     → (are_rows earlier values ≡ true) × (is_split context earlier column ≡ false)
-placed context earlier column values h = grind arith
+placed = grind arith
 
 pub placed-fault : (context : Context) (earlier : Draft) (fields : Fields) (column : List ℕ) (values : List (List ℕ × Number)) → context.section ≡ Some Columns
     → is_marker_line fields ≡ false → column_clash context earlier fields ≡ false → first_held (judged_by field_tests (column_shape fields)) ≡ None
@@ -155,7 +148,7 @@ pub placed-fault : (context : Context) (earlier : Draft) (fields : Fields) (colu
 placed-fault context earlier fields column values here plain apart held is in_order =
     let coefficients = declared_fault (with_column context earlier column) (flat_map (value_declared column) values) in
     column-fault context earlier fields column values here plain apart held is
-    ∙ ap (λ (b : Bool). earlier_of (cond b (Some kinds.ColumnSplit) None) coefficients) (placed context earlier column values in_order).1
+    ∙ ap (λ b. earlier_of (cond b (Some kinds.ColumnSplit) None) coefficients) (placed context earlier column values in_order).1
 
 -- and they also do before the column is declared
 pub double-fault : (context : Context) (earlier : Draft) (fields : Fields) (column : List ℕ) (values : List (List ℕ × Number)) → context.section ≡ Some Columns
@@ -165,12 +158,12 @@ pub double-fault : (context : Context) (earlier : Draft) (fields : Fields) (colu
 double-fault context earlier fields column values here plain apart held is in_order =
     let marked = context.in_integer_part in
     placed-fault context earlier fields column values here plain apart held is in_order
-    ∙ values-double values (with_column context earlier column) column (front-there earlier marked column)
+    ∙ values-double values _ column (front-there earlier marked column)
     (front-rows earlier marked column values ∙ (placed context earlier column values in_order).0)
-    ∙ ap (λ (b : Bool). cond b (Some kinds.DuplicateEntry) None) (front-double earlier marked column values)
+    ∙ ap (λ b. cond b (Some kinds.DuplicateEntry) None) (front-double earlier marked column values)
 
 -- ---- the name of the column
 
 pub column-named : (parts : Option ValuesLine) (column : List ℕ) (values : List (List ℕ × Number)) → first_held (judged_by field_tests parts) ≡ None
     → option_map named_values parts ≡ Some (column, values) → is_mps_name column ≡ true
-column-named parts column values h is = grind arith
+column-named = grind arith

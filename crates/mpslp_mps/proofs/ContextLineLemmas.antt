@@ -1,12 +1,9 @@
 -- Lines after other lines: what they declare, and that they are well-formed.
-use Rattle.std.{proofs.Common.{arith, ◌≡◌, refl, ap, ◌∙◌, ℕ, List, [], ◌∷◌, ◌++◌, Bool, true, map}, specs.Prelude.{◌&&◌, not}}
-use Rattle.std.specs.{List.{flat_map, list_all}, Cmp.{first_so, second_so}}
-use Rattle.mpslp_builder.specs.Declaration.{Declarations, Draft, with_declarations}
-use Rattle.mpslp_types.{specs.{Lists.{is_nonempty, those_of}, declared.faults.FaultKind.FaultKind}, proofs.BoolLemmas.both_so}
-use Rattle.mpslp_lines.{specs.FaultTests.{has_legal_length, is_legal_byte}, proofs.{HeldLemmas.later_tests, FirstFaultLemmas.legal-only}}
-use Rattle.mpslp_mps_fields.specs.Line.{LineContent, content_of, outside_comment}
-use Rattle.mpslp_mps.specs.{LegalLine.is_legal_line, Context.{Context, context_of}, LineDeclarations.line_declares, LineFault.item_tests}
-use Rattle.mpslp_mps.specs.{LineFault.line_tests, MpsText.{declared_at, is_well_formed, lines_in_context_after}}
+use Rattle.mpslp_mps.proofs.Prelude
+use Prelude.{arith, ◌≡◌, refl, ap, ◌∙◌, ℕ, List, [], ◌∷◌, ◌++◌, Bool, true, map, ◌&&◌, not, flat_map, list_all, first_so, second_so}
+use Prelude.{Declarations, Draft, with_declarations, is_nonempty, those_of, FaultKind, both_so, has_legal_length, later_tests, legal-only}
+use Prelude.{LineContent, content_of, outside_comment, is_legal_line, Context, context_of, line_declares, item_tests, line_tests}
+use Prelude.{declared_at, is_well_formed, lines_in_context_after}
 
 -- the errors of the form of the content of a line
 abbrev pub form_faults : Context → Draft → LineContent → List FaultKind
@@ -24,7 +21,7 @@ are_well_formed before earlier (item ∷ items) =
     not (is_nonempty (form_faults (context_of before) earlier item)) && are_well_formed (before ++ item ∷ []) (with_declarations earlier (line_declares (context_of before) earlier item)) items
 
 pub no_faults : (faults : List FaultKind) → not (is_nonempty faults) ≡ true → faults ≡ []
-no_faults faults h = grind arith
+no_faults = grind arith
 
 -- ---- lines and their contents
 
@@ -32,7 +29,7 @@ pub lines-declare : (before : List LineContent) (earlier : Draft) (lines : List 
 lines-declare before earlier [] = refl
 lines-declare before earlier (line ∷ lines) =
     let here = line_declares (context_of before) earlier (content_of line) in
-    ap (λ (more : Declarations). here ++ more) (lines-declare (before ++ content_of line ∷ []) (with_declarations earlier here) lines)
+    ap (λ more. here ++ more) (lines-declare (before ++ content_of line ∷ []) (with_declarations earlier here) lines)
 
 abbrev are_good : List LineContent → Draft → List (List ℕ) → Bool
 are_good before earlier lines = list_all is_well_formed (lines_in_context_after before earlier lines)
@@ -48,9 +45,9 @@ items-good before earlier (line ∷ lines) h =
     let next = with_declarations earlier (line_declares (context_of before) earlier item) in
     let forms = those_of (line_tests (context_of before) earlier line) in
     let more = are_good (before ++ item ∷ []) next lines in
-    both_so (not (is_nonempty (form_faults (context_of before) earlier item))) (are_well_formed (before ++ item ∷ []) next (map content_of lines))
-    (ap (λ (faults : List FaultKind). not (is_nonempty faults)) (item-form (context_of before) earlier line (no_faults forms (first_so (not (is_nonempty forms)) more h))))
-    (items-good (before ++ item ∷ []) next lines (second_so (not (is_nonempty forms)) more h))
+    both_so _ _
+    (ap (λ faults. not (is_nonempty faults)) (item-form _ earlier line (no_faults forms (first_so _ _ h))))
+    (items-good (before ++ item ∷ []) next lines (second_so _ _ h))
 
 -- and conversely, if the lines have legal lengths and bytes
 pub lines-good : (before : List LineContent) (earlier : Draft) (lines : List (List ℕ)) → list_all is_legal_line lines ≡ true → are_well_formed before earlier (map content_of lines) ≡ true → are_good before earlier lines ≡ true
@@ -60,9 +57,9 @@ lines-good before earlier (line ∷ lines) legal h =
     let next = with_declarations earlier (line_declares (context_of before) earlier item) in
     let forms = form_faults (context_of before) earlier item in
     let more = are_well_formed (before ++ item ∷ []) next (map content_of lines) in
-    let here = first_so (is_legal_line line) (list_all is_legal_line lines) legal in
-    let only = legal-only line (outside_comment line) (item_tests (context_of before) earlier item) (first_so (has_legal_length line) (list_all is_legal_byte (outside_comment line)) here)
-    (second_so (has_legal_length line) (list_all is_legal_byte (outside_comment line)) here) in
-    both_so (not (is_nonempty (those_of (line_tests (context_of before) earlier line)))) (are_good (before ++ item ∷ []) next lines)
-    (ap (λ (faults : List FaultKind). not (is_nonempty faults)) only ∙ first_so (not (is_nonempty forms)) more h)
-    (lines-good (before ++ item ∷ []) next lines (second_so (is_legal_line line) (list_all is_legal_line lines) legal) (second_so (not (is_nonempty forms)) more h))
+    let here = first_so _ _ legal in
+    let only = legal-only line (outside_comment line) (item_tests (context_of before) earlier item) (first_so _ _ here)
+    (second_so (has_legal_length line) _ here) in
+    both_so _ _
+    (ap (λ faults. not (is_nonempty faults)) only ∙ first_so _ more h)
+    (lines-good (before ++ item ∷ []) next lines (second_so _ _ legal) (second_so _ _ h))

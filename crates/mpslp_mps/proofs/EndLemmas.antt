@@ -1,7 +1,7 @@
 -- The lines up to that of ENDATA, one after another.
-use Rattle.std.{proofs.Common.{arith, ◌≡◌, ℕ, suc, List, [], ◌∷◌, take, true, false}, specs.List.position_or_len}
-use Rattle.mpslp_mps_fields.specs.{Line.{LineContent, is_section, begins}, declared.sections.Section.TheVariants.EndData}
-use Rattle.mpslp_mps.specs.{Context.Context, NextContext.next_context, MpsText.is_end, FedLaws.{to_end-last, to_end-more}}
+use Rattle.mpslp_mps.proofs.Prelude
+use Prelude.{arith, ◌≡◌, ℕ, suc, List, [], ◌∷◌, take, true, false, position_or_len, LineContent, is_section, begins, EndData, Context}
+use Prelude.{next_context, is_end, to_end-last, to_end-more}
 
 -- the lines up to that of ENDATA, as in `read_lines`
 abbrev pub up_to_end : List (List ℕ) → List (List ℕ)
@@ -15,4 +15,4 @@ up_to_end-more = to_end-more
 
 -- a context before the end is at the end only after the line of ENDATA
 pub at_end-after : (c : Context) (item : LineContent) → is_section EndData c.section ≡ false → is_section EndData (next_context c item).section ≡ begins EndData item
-at_end-after c item h = grind arith
+at_end-after = grind arith

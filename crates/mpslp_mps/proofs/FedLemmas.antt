@@ -1,32 +1,30 @@
 -- Lines that are read one after another, and the rest of a text that comes in pieces.
-use Rattle.std.proofs.Common.{◌≡◌, refl, sym, ap, subst, ◌∙◌, ℕ, ◌+◌, ◌-◌, ◌^◌, min, List, [], ◌∷◌, ◌++◌, length, Bool, true, false}
-use Rattle.std.{proofs.{Common.{append-nil, arith}, lemmas.List.{length-append, Folds.list_any-append}}, specs.Prelude.{◌||◌, Option, Some}}
-use Rattle.std.specs.{Prelude.{None, is_some, if◌then◌else◌}, List.list_any, Option.{option_or, option_map}}
-use Rattle.mpslp_builder.specs.Declaration.{Draft, empty_draft}
-use Rattle.mpslp_types.specs.declared.faults.{Fault.Fault, FaultKind.FaultKind}
-use Rattle.mpslp_lines.specs.FaultTests.{fault_on_line}
-use Rattle.mpslp_mps_fields.specs.{Line.{is_section, content_of}, declared.sections.Section.TheVariants.EndData}
-use Rattle.mpslp_mps.specs.{Context.{Context, context_of}, NextContext.{without_names, kept_context}, MpsText.is_end, FirstFault.line_fault}
-use Rattle.mpslp_mps.specs.LineByLine.{placed_in, draft_after, context_after, fault_from, draft_from, context_from}
-use Rattle.mpslp_mps.specs.{ReadAnswer.lines_to_end, Fed.{lines_fault, LedTo}, FedLaws.to_end-more, VectorDeclared.HasMpsSides}
-use Rattle.mpslp_mps.proofs.{EndLemmas.at_end-after, LoopLemmas.sides-next, NamedLemmas.named-lines_to_end, ReadingLemmas.fault_from-is}
+use Rattle.mpslp_mps.proofs.Prelude
+use Prelude.{◌≡◌, refl, sym, ap, subst, ◌∙◌, ℕ, ◌+◌, ◌^◌, min, List, [], ◌∷◌, ◌++◌, length, Bool, true, false, arith, length-append}
+use Prelude.{list_any-append, ◌||◌, Option, Some, None, is_some, if◌then◌else◌, list_any, option_or, option_map, Draft, empty_draft, Fault}
+use Prelude.{FaultKind, fault_on_line, is_section, content_of, EndData, Context, context_of, without_names, kept_context, is_end}
+use Prelude.{line_fault, placed_in, draft_after, context_after, fault_from, draft_from, context_from, lines_to_end, lines_fault, LedTo}
+use Prelude.{to_end-more, HasMpsSides}
+use Rattle.std.proofs.Common.{◌-◌, append-nil}
+use Rattle.mpslp_mps.proofs.{EndLemmas.{at_end-after}, LoopLemmas.{sides-next}, NamedLemmas.{named-lines_to_end}}
+use Rattle.mpslp_mps.proofs.ReadingLemmas.{fault_from-is}
 
 -- ---- lines after others
 
 or-after : (a b c : Option Fault) → option_or (option_or a b) c ≡ option_or a (option_or b c)
-or-after a b c = grind arith
+or-after = grind arith
 
 fault_from-append : (xs ys : List (List ℕ)) (n : ℕ) (context : Context) (earlier : Draft)
     → fault_from n context earlier (xs ++ ys) ≡ option_or (fault_from n context earlier xs) (fault_from (n + length xs) (context_from context xs) (draft_from context earlier xs) ys)
-fault_from-append [] ys n context earlier = let e : n ≡ n + 0 = omega arith in ap (λ (m : ℕ). fault_from m context earlier ys) e
+fault_from-append [] ys n context earlier = let e : n ≡ n + 0 = omega arith in ap (λ m. fault_from m context earlier ys) e
 fault_from-append (line ∷ xs) ys n context earlier =
     let own = option_map (fault_on_line n) (line_fault (placed_in context earlier line)) in
     let next = context_after context line in
     let later = draft_after context earlier line in
     let e : n + 1 + length xs ≡ n + length (line ∷ xs) = omega arith in
     ap (option_or own) (fault_from-append xs ys (n + 1) next later)
-    ∙ sym (or-after own (fault_from (n + 1) next later xs) (fault_from (n + 1 + length xs) (context_from next xs) (draft_from next later xs) ys))
-    ∙ ap (λ (m : ℕ). option_or (option_or own (fault_from (n + 1) next later xs)) (fault_from m (context_from next xs) (draft_from next later xs) ys)) e
+    ∙ sym (or-after own _ _)
+    ∙ ap (λ m. option_or (option_or own (fault_from (n + 1) next later xs)) (fault_from m (context_from next xs) (draft_from next later xs) ys)) e
 
 context_from-append : (xs ys : List (List ℕ)) (context : Context) → context_from context (xs ++ ys) ≡ context_from (context_from context xs) ys
 context_from-append [] ys context = refl
@@ -40,23 +38,22 @@ draft_from-append (line ∷ xs) ys context earlier = draft_from-append xs ys (co
 -- ---- up to that of ENDATA
 
 first_none : (a b : Bool) → (a || b) ≡ false → a ≡ false
-first_none a b h = grind arith
+first_none = grind arith
 
 rest_none : (a b : Bool) → (a || b) ≡ false → b ≡ false
-rest_none a b h = grind arith
+rest_none = grind arith
 
 -- without a line of ENDATA all lines are read, and so are those after them
 unended-more : (xs ys : List (List ℕ)) → list_any is_end xs ≡ false → lines_to_end (xs ++ ys) ≡ xs ++ lines_to_end ys
 unended-more [] ys h = refl
 unended-more (line ∷ xs) ys h =
-    to_end-more line (xs ++ ys) (first_none (is_end line) (list_any is_end xs) h)
-    ∙ ap (λ (read : List (List ℕ)). line ∷ read) (unended-more xs ys (rest_none (is_end line) (list_any is_end xs) h))
+    to_end-more line (xs ++ ys) (first_none _ (list_any is_end xs) h) ∙ ap (λ read. line ∷ read) (unended-more xs ys (rest_none _ _ h))
 
 unended-all : (xs : List (List ℕ)) → list_any is_end xs ≡ false → lines_to_end xs ≡ xs
 unended-all xs h = ap lines_to_end (sym (append-nil xs)) ∙ unended-more xs [] h ∙ append-nil xs
 
 one-read : (line : List ℕ) → lines_to_end (line ∷ []) ≡ line ∷ []
-one-read line = grind arith
+one-read = grind arith
 
 -- ---- one more line
 
@@ -72,7 +69,7 @@ sides-from (line ∷ text) n context earlier sides h =
     let own = line_fault (placed_in context earlier line) in
     let rest = fault_from (n + 1) (context_after context line) (draft_after context earlier line) text in
     sides-from text (n + 1) (context_after context line) (draft_after context earlier line)
-    (sides-next line context earlier (draft_after context earlier line) sides (own_none own rest h) refl) (later_none own rest h)
+    (sides-next line context earlier _ sides (own_none own rest h) refl) (later_none own rest h)
   where
     own_none : (own : Option FaultKind) (rest : Option Fault) → option_or (option_map (fault_on_line n) own) rest ≡ None → own ≡ None
     own_none None rest h = refl
@@ -88,7 +85,7 @@ kept-section : (c : Context) → (kept_context c).section ≡ c.section
 kept-section c = elim (is_section EndData c.section) as (λ b. (if b then without_names c else c).section ≡ c.section) [ true ↦ refl | false ↦ refl ]
 
 kept-here : (c : Context) → is_section EndData c.section ≡ false → kept_context c ≡ c
-kept-here c h = ap (λ (b : Bool). if b then without_names c else c) h
+kept-here c h = ap (λ b. if b then without_names c else c) h
 
 module _ (text : List (List ℕ)) (context : Context) (earlier : Draft) (number : ℕ) (led : LedTo text context earlier number) where
   module _ (unended : is_section EndData context.section ≡ false) where
@@ -99,16 +96,13 @@ module _ (text : List (List ℕ)) (context : Context) (earlier : Draft) (number 
     all_read = unended-all text none_yet
 
     read_on : (line : List ℕ) → lines_to_end (text ++ line ∷ []) ≡ text ++ line ∷ []
-    read_on line = unended-more text (line ∷ []) none_yet ∙ ap (λ (read : List (List ℕ)). text ++ read) (one-read line)
+    read_on line = unended-more text _ none_yet ∙ ap (λ read. text ++ read) (one-read line)
 
     unended_there : is_section EndData (context_from (context_of []) (lines_to_end text)).section ≡ false
-    unended_there =
-        ap (is_section EndData) (sym (ap (λ (c : Context). c.section) led.context_is ∙ kept-section (context_from (context_of []) (lines_to_end text)))) ∙ unended
+    unended_there = ap (is_section EndData) (sym (ap (λ c. c.section) led.context_is ∙ kept-section _)) ∙ unended
 
     context_here : context_from (context_of []) text ≡ context
-    context_here =
-        ap (context_from (context_of [])) (sym all_read)
-        ∙ sym (led.context_is ∙ kept-here (context_from (context_of []) (lines_to_end text)) unended_there)
+    context_here = ap (context_from (context_of [])) (sym all_read) ∙ sym (led.context_is ∙ kept-here _ unended_there)
 
     draft_here : draft_from (context_of []) empty_draft text ≡ earlier
     draft_here = ap (draft_from (context_of []) empty_draft) (sym all_read) ∙ sym led.draft
@@ -120,15 +114,14 @@ module _ (text : List (List ℕ)) (context : Context) (earlier : Draft) (number 
     fault_next : (line : List ℕ) → lines_fault (text ++ line ∷ []) ≡ fault_from (1 + length text) context earlier (line ∷ [])
     fault_next line =
         lines_fault-is (text ++ line ∷ []) ∙ ap (fault_from 1 (context_of []) empty_draft) (read_on line)
-        ∙ fault_from-append text (line ∷ []) 1 (context_of []) empty_draft
+        ∙ fault_from-append text _ 1 _ empty_draft
         ∙ (λ i. option_or (clean_here i) (fault_from (1 + length text) (context_here i) (draft_here i) (line ∷ [])))
 
     pub led-fault : (line : List ℕ) (kind : FaultKind) → line_fault (placed_in context earlier line) ≡ Some kind
         → lines_fault (text ++ line ∷ []) ≡ Some (record { kind = kind; line = number; name = None })
     led-fault line kind h =
-        fault_next line
-        ∙ ap (λ (o : Option FaultKind). option_or (option_map (fault_on_line (1 + length text)) o) None) h
-        ∙ ap (λ (n : ℕ). Some (record { kind = kind; line = n; name = None })) (sym (led.counted none_yet))
+        fault_next line ∙ ap (λ o. option_or (option_map (fault_on_line (1 + length text)) o) None) h
+        ∙ ap (λ n. Some (record { kind = kind; line = n; name = None })) (sym (led.counted none_yet))
 
     pub led-line : (line : List ℕ) (next : Context) (later : Draft) (following : ℕ) → line_fault (placed_in context earlier line) ≡ None
         → next ≡ kept_context (context_after context line) → later ≡ draft_after context earlier line → following ≡ min (number + 1) (2 ^ 64 - 1)
@@ -159,4 +152,4 @@ module _ (text : List (List ℕ)) (context : Context) (earlier : Draft) (number 
 
   -- after the line of ENDATA the objective has a name
   pub led-named : is_section EndData context.section ≡ true → is_some earlier.objective ≡ true
-  led-named at_end = grind (arith, named-lines_to_end, lines_fault-is)
+  led-named = grind (arith, named-lines_to_end, lines_fault-is)

@@ -1,9 +1,7 @@
 -- The first six fields of a line determine all that is checked of it: no data line of a known shape has so many.
-use Rattle.std.{proofs.Common.{arith, ◌≡◌, refl, ℕ, List, [], ◌∷◌, take}, specs.Prelude.Option}
-use Rattle.mpslp_builder.specs.Declaration.{Draft}
-use Rattle.mpslp_mps_fields.specs.{Line.{Fields, data_line}, declared.sections.Section.Section}
-use Rattle.mpslp_mps.specs.{Context.Context, NextContext.next_context, LineDeclarations.{data_declared, header_declared}}
-use Rattle.mpslp_mps.specs.LineFault.{header_tests, data_tests}
+use Rattle.mpslp_mps.proofs.Prelude
+use Prelude.{arith, ◌≡◌, refl, ℕ, List, [], ◌∷◌, take, Option, Draft, Fields, data_line, Section, Context, next_context, data_declared}
+use Prelude.{header_declared, header_tests, data_tests}
 
 -- what is the same for seven or more fields as for the first six
 by-front : {X : Type 0} (g : Fields → X)
@@ -27,7 +25,7 @@ next_context-front context fields = by-front (λ f. next_context context (data_l
 
 pub header_tests-front : (context : Context) (earlier : Draft) (keyword : List ℕ) (section : Option Section) (more : Fields)
     → header_tests context earlier keyword (take 5 more) section ≡ header_tests context earlier keyword more section
-header_tests-front context earlier keyword section more = grind arith
+header_tests-front = grind arith
 
 pub header_declared-front : (context : Context) (earlier : Draft) (section : Option Section) (more : Fields) → header_declared context earlier (take 5 more) section ≡ header_declared context earlier more section
-header_declared-front context earlier section more = grind arith
+header_declared-front = grind arith

@@ -1,19 +1,16 @@
 -- A line is read as its first six fields are.
-use Rattle.std.proofs.Common.{◌≡◌, refl, sym, ap, ◌∙◌, ℕ, List, [], ◌∷◌, map, length, take, Bor, Bool, true, false, cond, arith}
-use Rattle.std.{proofs.lemmas.Bool.Decides.nat_tests, specs.{Cmp.{first_so, second_so}, List.list_all, Prelude.◌==◌}}
-use Rattle.mpslp_builder.specs.Declaration.{Draft}
-use Rattle.mpslp_mps_fields.specs.Line.{Fields, LineContent, skipped, header, data_line, header_of, fields, is_blank, is_comment}
-use Rattle.mpslp_mps_fields.specs.Line.{is_skipped, is_data, content_of}
-use Rattle.mpslp_mps.specs.{Context.Context, NextContext.next_context, LineDeclarations.line_declares, LineFault.item_tests}
-use Rattle.mpslp_mps.{specs.LineAnswer.ReadsContent, proofs.FrontLemmas.{data_tests-front, data_declared-front, next_context-front}}
-use Rattle.mpslp_mps.proofs.FrontLemmas.{header_tests-front, header_declared-front}
-use Rattle.mpslp_lines.specs.LineAnswer.{LineResult}
+use Rattle.mpslp_mps.proofs.Prelude
+use Prelude.{◌≡◌, refl, sym, ap, ◌∙◌, ℕ, List, [], ◌∷◌, map, length, take, Bor, Bool, true, false, cond, arith, nat_tests, first_so}
+use Prelude.{second_so, list_all, ◌==◌, Draft, Fields, LineContent, skipped, header, data_line, header_of, fields, is_blank, is_comment}
+use Prelude.{is_skipped, is_data, content_of, Context, next_context, line_declares, item_tests, ReadsContent, LineResult}
+use Rattle.mpslp_mps.proofs.FrontLemmas.{data_tests-front, data_declared-front, next_context-front, header_tests-front}
+use Rattle.mpslp_mps.proofs.FrontLemmas.{header_declared-front}
 
 -- contents with the same errors, declarations and next context have the same result
 taken_as : (context : Context) (earlier : Draft) (item other : LineContent) (answer : LineResult) (next : Context) (later : Draft)
     → item_tests context earlier item ≡ item_tests context earlier other → line_declares context earlier item ≡ line_declares context earlier other
     → next_context context item ≡ next_context context other → ReadsContent context earlier item answer next later → ReadsContent context earlier other answer next later
-taken_as context earlier item other answer next later tests ds step h = grind arith
+taken_as = grind arith
 
 pub data-front : (context : Context) (earlier : Draft) (fields : Fields) (answer : LineResult) (next : Context) (later : Draft)
     → ReadsContent context earlier (data_line (take 6 fields)) answer next later → ReadsContent context earlier (data_line fields) answer next later
@@ -28,7 +25,7 @@ next_header context keyword (word ∷ second ∷ more) = refl
 
 pub header-front : (context : Context) (earlier : Draft) (fields : Fields) (answer : LineResult) (next : Context) (later : Draft)
     → ReadsContent context earlier (header_of (take 6 fields)) answer next later → ReadsContent context earlier (header_of fields) answer next later
-header-front context earlier fields answer next later taken = grind (arith, taken_as, header_tests-front, header_declared-front, next_header)
+header-front = grind (arith, taken_as, header_tests-front, header_declared-front, next_header)
 
 -- ---- lines without fields
 
@@ -37,7 +34,7 @@ blank-next b line blank = rw blank refl
 
 blank-fields : (line : List ℕ) → list_all is_blank line ≡ true → fields line ≡ []
 blank-fields [] all = refl
-blank-fields (b ∷ line) all = blank-next b line (first_so (is_blank b) (list_all is_blank line) all) ∙ blank-fields line (second_so (is_blank b) (list_all is_blank line) all)
+blank-fields (b ∷ line) all = blank-next b line (first_so _ _ all) ∙ blank-fields line (second_so _ _ all)
 
 fields-blank : (line : List ℕ) → fields line ≡ [] → list_all is_blank line ≡ true
 fields-blank [] none = refl
@@ -45,11 +42,11 @@ fields-blank (b ∷ line) none = grind (arith, fields-blank line)
 
 -- and so is a line without fields
 pub empty-item : (line : List ℕ) → is_comment line ≡ false → take 6 (fields line) ≡ [] → content_of line ≡ skipped
-empty-item line text none = grind (arith, fields-blank)
+empty-item = grind (arith, fields-blank)
 
 -- but no other line
 pub read-item : (line : List ℕ) → is_comment line ≡ false → (take 6 (fields line) ≡ [] → ⊥) → is_skipped line ≡ false
-read-item line text some = grind (arith, blank-fields)
+read-item = grind (arith, blank-fields)
 
 -- the fields that a reader took
 pub no_fields : (taken : List (Bor (List ℕ))) (front : Fields) → map (λ field. field.now) taken ≡ front → (length taken == 0) ≡ true → front ≡ []
@@ -69,5 +66,5 @@ data-item line unread is =
 
 pub header-item : (line : List ℕ) → is_skipped line ≡ false → is_data line ≡ false → content_of line ≡ header_of (fields line)
 header-item line unread is =
-    ap (λ (b : Bool). cond b skipped (cond (is_data line) (data_line (fields line)) (header_of (fields line)))) unread
-    ∙ ap (λ (b : Bool). cond b (data_line (fields line)) (header_of (fields line))) is
+    ap (λ b. cond b skipped (cond (is_data line) (data_line (fields line)) (header_of (fields line)))) unread
+    ∙ ap (λ b. cond b (data_line (fields line)) (header_of (fields line))) is

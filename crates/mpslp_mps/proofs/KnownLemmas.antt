@@ -1,54 +1,42 @@
 -- In well-formed lines each row and column is declared before it is used.
-use Rattle.std.proofs.Common.{arith, ◌≡◌, refl, sym, subst, ◌∙◌, List, [], ◌∷◌, ◌++◌, ℕ, Bool, true, false, cond}
-use Rattle.std.{proofs.lemmas.List.Folds.list_all-append, specs.{Prelude.{Option, Some, None, ◌&&◌, not}, List.{list_all, flat_map}}}
-use Rattle.std.specs.Cmp.{first_so, second_so}
-use Rattle.mpslp_builder.specs.Declaration.{Declaration, declare_rhs, declare_range, declare_column, declare_coefficient, declare_marked}
-use Rattle.mpslp_builder.specs.Declaration.{Declarations, Draft, with_declaration, with_declarations, has_row, has_column, is_free_row}
-use Rattle.mpslp_builder.{specs.{Declaration.rhs_declared, Consistency.is_known}, proofs.RefusalLemmas.are_known_in_turn}
-use Rattle.mpslp_builder.proofs.{LaterDrafts.itself_named, SlotLemmas.has-put, MadeDrafts.with_declarations-append}
-use Rattle.mpslp_types.{specs.{Name.same_bytes, Lists.{those_of, is_nonempty, when}, declared.kinds.Limit.Limit}, proofs.BoolLemmas.both_so}
-use Rattle.mpslp_types.proofs.BoolLemmas.{or_left}
-use Rattle.mpslp_mps_fields.specs.Line.{Fields, LineContent, skipped, header, data_line, has, section_named, begins, is_section}
-use Rattle.mpslp_mps_fields.specs.DataLine.{Pair, ValuesLine, word_shape, row_shape, column_shape, is_marker_line, vector_shape, BoundLine}
-use Rattle.mpslp_mps_fields.specs.{DataLine.{bound_type, bound_shape}, declared.sections.Section.{Section, TheVariants.{Name, ObjSense}}}
-use Rattle.mpslp_mps_fields.specs.declared.sections.Section.TheVariants.{ObjName, Rows, Columns, Rhs, Ranges, Bounds, EndData}
-use Rattle.mpslp_mps_fields.specs.declared.bound_types.BoundType.{BoundType}
+use Rattle.mpslp_mps.proofs.Prelude
+use Prelude.{arith, ◌≡◌, refl, sym, subst, ◌∙◌, List, [], ◌∷◌, ◌++◌, ℕ, Bool, true, false, cond, list_all-append, Option, Some, None}
+use Prelude.{list_all, flat_map, first_so, second_so, Declaration, declare_rhs, declare_range, declare_column, declare_coefficient}
+use Prelude.{declare_marked, Declarations, Draft, with_declaration, with_declarations, has_row, has_column, is_free_row, rhs_declared}
+use Prelude.{is_known, are_known_in_turn, itself_named, has-put, with_declarations-append, those_of, when, Limit, both_so, or_left, Fields}
+use Prelude.{LineContent, skipped, header, data_line, has, section_named, is_section, Pair, ValuesLine, word_shape, row_shape, column_shape}
+use Prelude.{is_marker_line, vector_shape, BoundLine, bound_type, bound_shape, Section, Name, ObjSense, ObjName, Rows, Columns, Rhs, Ranges}
+use Prelude.{Bounds, EndData, BoundType, Context, context_of, current_section, has_section, declared_if_some, sense_declared, row_declared}
+use Prelude.{coefficient_declared, column_declared, columns_line_declared, rhs_line_declared, ranges_declared, bound_declared, bound_value}
+use Prelude.{bound_line_declared, data_declared, header_declared, line_declares, header_tests, value_of}
+use Rattle.mpslp_mps.proofs.ContextLineLemmas.{declared_items, are_well_formed, no_faults}
+use Rattle.mpslp_mps.proofs.OrderLemmas.{Past, past-rows, past-columns, IsGood, is_late, Ordered, ordered-push, no_rows, no_columns}
+use Rattle.mpslp_mps.proofs.{OrderLemmas.{rows-kept, columns-kept}, SectionLemmas.{has_section-push}}
 use Rattle.mpslp_mps_fields.specs.declared.bound_types.BoundType.TheVariants as bounds
-use Rattle.mpslp_mps.specs.{Context.{Context, context_of, current_section}, SeenSection.has_section, LineDeclarations.declared_if_some}
-use Rattle.mpslp_mps.specs.LineDeclarations.{sense_declared, row_declared, coefficient_declared, column_declared, columns_line_declared}
-use Rattle.mpslp_mps.specs.LineDeclarations.{rhs_line_declared, ranges_declared, bound_declared, bound_value, bound_line_declared}
-use Rattle.mpslp_mps.specs.{LineDeclarations.{data_declared, header_declared, line_declares}, LineFault.header_tests}
-use Rattle.mpslp_mps.proofs.{ContextLineLemmas.{form_faults, declared_items, are_well_formed, no_faults}, SectionLemmas.has_section-push}
-use Rattle.mpslp_mps.proofs.OrderLemmas.{Past, past-rows, past-columns, IsGood, is_late, Ordered, ordered-push, declares_row}
-use Rattle.mpslp_mps.proofs.OrderLemmas.{declares_column, no_rows, no_columns, rows-kept, columns-kept}
-use Rattle.mpslp_lines.specs.FaultTests.{value_of}
 
 -- ---- no rows are declared after ROWS, and no columns after COLUMNS
 
 no-rows-header : (context : Context) (earlier : Draft) (keyword : List ℕ) (more : Fields) (o : Option Section) → those_of (header_tests context earlier keyword more o) ≡ [] → has context.sections_seen Columns ≡ true
     → no_rows (header_declared context earlier more o) ≡ true
-no-rows-header context earlier keyword more o h c = grind arith
+no-rows-header = grind arith
 
 pub no-rows-data : (context : Context) (earlier : Draft) (fields : Fields) (o : Option Section) → is_section Rows o ≡ false → no_rows (data_declared context earlier fields o) ≡ true
-no-rows-data context earlier fields o h = grind arith
+no-rows-data = grind arith
 
 no-rows-line : (before : List LineContent) (earlier : Draft) (item : LineContent) → IsGood before earlier item → Past Rows before → has_section before Columns ≡ true
     → no_rows (line_declares (context_of before) earlier item) ≡ true
-no-rows-line before earlier item h past columns = grind (arith, no-rows-header, no-rows-data)
+no-rows-line = grind (arith, no-rows-header, no-rows-data)
 
 no-columns-line : (before : List LineContent) (earlier : Draft) (item : LineContent) → Past Columns before → no_columns (line_declares (context_of before) earlier item) ≡ true
 no-columns-line before earlier item past = grind arith
 
 -- the first of some well-formed lines, and the rest
 pub good-first : (before : List LineContent) (earlier : Draft) (item : LineContent) (items : List LineContent) → are_well_formed before earlier (item ∷ items) ≡ true → IsGood before earlier item
-good-first before earlier item items h =
-    no_faults (form_faults (context_of before) earlier item)
-    (first_so (not (is_nonempty (form_faults (context_of before) earlier item))) (are_well_formed (before ++ item ∷ []) (with_declarations earlier (line_declares (context_of before) earlier item)) items) h)
+good-first before earlier item items h = no_faults _ (first_so _ _ h)
 
 pub good-rest : (before : List LineContent) (earlier : Draft) (item : LineContent) (items : List LineContent) → are_well_formed before earlier (item ∷ items) ≡ true
     → are_well_formed (before ++ item ∷ []) (with_declarations earlier (line_declares (context_of before) earlier item)) items ≡ true
-good-rest before earlier item items h =
-    second_so (not (is_nonempty (form_faults (context_of before) earlier item))) (are_well_formed (before ++ item ∷ []) (with_declarations earlier (line_declares (context_of before) earlier item)) items) h
+good-rest before earlier item items h = second_so _ _ h
 
 no-rows-later : (items before : List LineContent) (earlier : Draft) → are_well_formed before earlier items ≡ true → Past Rows before → has_section before Columns ≡ true
     → no_rows (declared_items before earlier items) ≡ true
@@ -56,11 +44,11 @@ no-rows-later [] before earlier h past columns = refl
 no-rows-later (item ∷ items) before earlier h past columns =
     let here = line_declares (context_of before) earlier item in
     let good = good-first before earlier item items h in
-    list_all-append (λ d. not (declares_row d)) here (declared_items (before ++ item ∷ []) (with_declarations earlier here) items)
-    ∙ both_so (no_rows here) (no_rows (declared_items (before ++ item ∷ []) (with_declarations earlier here) items))
+    list_all-append _ here (declared_items (before ++ item ∷ []) (with_declarations earlier here) items)
+    ∙ both_so _ _
     (no-rows-line before earlier item good past columns)
     (no-rows-later items (before ++ item ∷ []) (with_declarations earlier here) (good-rest before earlier item items h) (past-rows before earlier item good past)
-    (has_section-push Columns before item ∙ or_left (has_section before Columns) (begins Columns item) columns))
+    (has_section-push Columns before item ∙ or_left _ _ columns))
 
 no-columns-later : (items before : List LineContent) (earlier : Draft) → are_well_formed before earlier items ≡ true → Past Columns before
     → no_columns (declared_items before earlier items) ≡ true
@@ -68,8 +56,8 @@ no-columns-later [] before earlier h past = refl
 no-columns-later (item ∷ items) before earlier h past =
     let here = line_declares (context_of before) earlier item in
     let good = good-first before earlier item items h in
-    list_all-append (λ d. not (declares_column d)) here (declared_items (before ++ item ∷ []) (with_declarations earlier here) items)
-    ∙ both_so (no_columns here) (no_columns (declared_items (before ++ item ∷ []) (with_declarations earlier here) items))
+    list_all-append _ here (declared_items (before ++ item ∷ []) (with_declarations earlier here) items)
+    ∙ both_so _ _
     (no-columns-line before earlier item past)
     (no-columns-later items (before ++ item ∷ []) (with_declarations earlier here) (good-rest before earlier item items h) (past-columns before earlier item good past))
 
@@ -90,13 +78,13 @@ cells-known : (final before : Draft) (column : List ℕ) (pairs : List Pair) →
 cells-known final before column [] rows c h = refl
 cells-known final before column (pair ∷ pairs) rows c h =
     let d : Declaration = declare_coefficient (record { row = pair.row; column = column }) (value_of pair.literal) in
-    let row = first_so (has_row final pair.row) (has_column final column) (first_so (is_known final d) (list_all (is_known final) (flat_map (coefficient_declared column) pairs)) h) in
-    both_so (is_known before d) (are_known_in_turn (with_declaration before d) (flat_map (coefficient_declared column) pairs))
-    (both_so (has_row before pair.row) (has_column before column) (rows pair.row row) c)
-    (cells-known final (with_declaration before d) column pairs rows c (second_so (is_known final d) (list_all (is_known final) (flat_map (coefficient_declared column) pairs)) h))
+    let row = first_so _ _ (first_so _ _ h) in
+    both_so _ _
+    (both_so _ _ (rows pair.row row) c)
+    (cells-known final (with_declaration before d) column pairs rows c (second_so _ _ h))
 
 pub column-there : (before : Draft) (column : List ℕ) → has_column (with_declaration before (declare_column column)) column ≡ true
-column-there before column = has-put column column tt before.columns ∙ or_left (same_bytes column column) _ (itself_named column)
+column-there before column = has-put column column tt before.columns ∙ or_left _ _ (itself_named column)
 
 column-line-known : (final before : Draft) (marked : Bool) (line : ValuesLine) → HasRowsOf final before
     → AreKnown final (declare_column line.name ∷ (when marked (declare_marked line.name) ++ flat_map (coefficient_declared line.name) line.pairs))
@@ -104,10 +92,10 @@ column-line-known : (final before : Draft) (marked : Bool) (line : ValuesLine) �
 column-line-known final before true line rows h =
     let next = with_declaration before (declare_column line.name) in
     let c = column-there before line.name in
-    both_so (has_column next line.name) (are_known_in_turn (with_declaration next (declare_marked line.name)) (flat_map (coefficient_declared line.name) line.pairs)) c
-    (cells-known final (with_declaration next (declare_marked line.name)) line.name line.pairs rows c
-    (second_so (has_column final line.name) (list_all (is_known final) (flat_map (coefficient_declared line.name) line.pairs)) h))
-column-line-known final before false line rows h = cells-known final (with_declaration before (declare_column line.name)) line.name line.pairs rows (column-there before line.name) h
+    both_so _ _ c
+    (cells-known final _ line.name line.pairs rows c
+    (second_so _ _ h))
+column-line-known final before false line rows h = cells-known final _ line.name line.pairs rows (column-there before line.name) h
 
 columns-known : (context : Context) (final before : Draft) (fields : Fields) → HasRowsOf final before
     → AreKnown final (columns_line_declared context fields) → are_known_in_turn before (columns_line_declared context fields) ≡ true
@@ -141,17 +129,17 @@ ranges-known final before [] rows h = refl
 ranges-known final before (pair ∷ pairs) rows h =
     let more = ranges_declared (record { name = []; pairs = pairs }) in
     let d : Declaration = declare_range pair.row (value_of pair.literal) in
-    both_so (has_row before pair.row) (are_known_in_turn (with_declaration before d) more)
-    (rows pair.row (first_so (has_row final pair.row) (list_all (is_known final) more) h))
-    (ranges-known final (with_declaration before d) pairs rows (second_so (has_row final pair.row) (list_all (is_known final) more) h))
+    both_so _ _
+    (rows pair.row (first_so _ _ h))
+    (ranges-known final (with_declaration before d) pairs rows (second_so _ _ h))
 
 bound-known : (final before : Draft) (type : BoundType) (c : List ℕ) (v : Limit) → HasColumnsOf final before
     → AreKnown final (bound_declared type c v) → are_known_in_turn before (bound_declared type c v) ≡ true
-bound-known final before bounds.Lower c v columns h = let k = columns c (first_so (has_column final c) true h) in rw k refl
-bound-known final before bounds.Upper c v columns h = let k = columns c (first_so (has_column final c) true h) in rw k refl
-bound-known final before bounds.NoLower c v columns h = let k = columns c (first_so (has_column final c) true h) in rw k refl
-bound-known final before bounds.NoUpper c v columns h = let k = columns c (first_so (has_column final c) true h) in rw k refl
-bound-known final before bounds.Binary c v columns h = let k = columns c (first_so (has_column final c) (has_column final c && (has_column final c && true)) h) in rw k refl
+bound-known final before bounds.Lower c v columns h = let k = columns c (first_so _ _ h) in rw k refl
+bound-known final before bounds.Upper c v columns h = let k = columns c (first_so _ _ h) in rw k refl
+bound-known final before bounds.NoLower c v columns h = let k = columns c (first_so _ _ h) in rw k refl
+bound-known final before bounds.NoUpper c v columns h = let k = columns c (first_so _ _ h) in rw k refl
+bound-known final before bounds.Binary c v columns h = let k = columns c (first_so _ _ h) in rw k refl
 bound-known final before type c v columns h = grind arith
 
 bounds-known : (final before : Draft) (fields : Fields) → HasColumnsOf final before → AreKnown final (bound_line_declared fields) → are_known_in_turn before (bound_line_declared fields) ≡ true
@@ -177,13 +165,13 @@ is_rowed _ = false
 
 -- a sense, an objective and a row refer to no other name
 sense-known : (before : Draft) (fields : Fields) → are_known_in_turn before (declared_if_some sense_declared (word_shape fields)) ≡ true
-sense-known before fields = grind arith
+sense-known = grind arith
 
 rows-known : (context : Context) (earlier before : Draft) (fields : Fields) → are_known_in_turn before (declared_if_some (row_declared context earlier) (row_shape fields)) ≡ true
-rows-known context earlier before fields = grind arith
+rows-known = grind arith
 
 header-known : (context : Context) (earlier : Draft) (more : Fields) (o : Option Section) → are_known_in_turn earlier (header_declared context earlier more o) ≡ true
-header-known context earlier more o = grind arith
+header-known = grind arith
 
 data-known : (context : Context) (final earlier : Draft) (fields : Fields) (o : Option Section) → (is_rowed o ≡ true → HasRowsOf final earlier) → (is_section Bounds o ≡ true → HasColumnsOf final earlier)
     → AreKnown final (data_declared context earlier fields o) → are_known_in_turn earlier (data_declared context earlier fields o) ≡ true
@@ -222,10 +210,10 @@ same-columns : (before : List LineContent) (earlier : Draft) (items : List LineC
 same-columns before earlier items h past c known = sym (columns-kept (declared_items before earlier items) earlier c (no-columns-later items before earlier h past)) ∙ known
 
 rowed-late : (o : Option Section) → is_rowed o ≡ true → (is_late o ≡ true) × (is_section Rows o ≡ false)
-rowed-late o h = grind arith
+rowed-late = grind arith
 
 bounds-late : (o : Option Section) → is_section Bounds o ≡ true → (is_late o ≡ true) × (is_section Columns o ≡ false)
-bounds-late o h = grind arith
+bounds-late = grind arith
 
 line-known : (before : List LineContent) (earlier : Draft) (item : LineContent) (items : List LineContent) → are_well_formed before earlier (item ∷ items) ≡ true → Ordered before
     → AreKnown (with_declarations earlier (declared_items before earlier (item ∷ items))) (line_declares (context_of before) earlier item)
@@ -233,17 +221,17 @@ line-known : (before : List LineContent) (earlier : Draft) (item : LineContent) 
 line-known before earlier skipped items h o known = refl
 line-known before earlier (header keyword more) items h o known = header-known (context_of before) earlier more (section_named keyword)
 line-known before earlier (data_line fields) items h o known =
-    data-known (context_of before) (with_declarations earlier (declared_items before earlier (data_line fields ∷ items))) earlier fields (current_section before) rows columns known
+    data-known (context_of before) (with_declarations earlier (declared_items before earlier (data_line fields ∷ items))) earlier fields _ rows columns known
   where
     rows : is_rowed (current_section before) ≡ true → HasRowsOf (with_declarations earlier (declared_items before earlier (data_line fields ∷ items))) earlier
     rows rowed =
-        let late = rowed-late (current_section before) rowed in
+        let late = rowed-late _ rowed in
         let begun = o.columns late.0 in
         same-rows before earlier (data_line fields ∷ items) h (record { begun = o.rows begun; left = late.1 }) begun
 
     columns : is_section Bounds (current_section before) ≡ true → HasColumnsOf (with_declarations earlier (declared_items before earlier (data_line fields ∷ items))) earlier
     columns bound =
-        let late = bounds-late (current_section before) bound in
+        let late = bounds-late _ bound in
         same-columns before earlier (data_line fields ∷ items) h (record { begun = o.columns late.0; left = late.1 })
 
 -- Each row and column that the lines name, and that is declared somewhere, is declared before.
@@ -255,9 +243,9 @@ known-lines (item ∷ items) before earlier h o known =
     let here = line_declares (context_of before) earlier item in
     let more = declared_items (before ++ item ∷ []) (with_declarations earlier here) items in
     let final = with_declarations earlier (here ++ more) in
-    let parts = sym (list_all-append (is_known final) here more) ∙ known in
+    let parts = sym (list_all-append _ here more) ∙ known in
     let same : final ≡ with_declarations (with_declarations earlier here) more = with_declarations-append here more earlier in
     known-append earlier here more
-    (line-known before earlier item items h o (first_so (list_all (is_known final) here) (list_all (is_known final) more) parts))
+    (line-known before earlier item items h o (first_so _ _ parts))
     (known-lines items (before ++ item ∷ []) (with_declarations earlier here) (good-rest before earlier item items h) (ordered-push before earlier item (good-first before earlier item items h) o)
-    (subst (λ (all : Draft). AreKnown all more) same (second_so (list_all (is_known final) here) (list_all (is_known final) more) parts)))
+    (subst (λ all. AreKnown all more) same (second_so _ _ parts)))

@@ -1,38 +1,34 @@
 -- What well-formed lines declare has legal names and decimals.
-use Rattle.std.proofs.{Common.{arith, ◌≡◌, refl, ◌∙◌, List, [], ◌∷◌, ◌++◌, ℕ, Bool, true, false, cond}, lemmas.List.Folds.list_all-append}
-use Rattle.std.specs.{Prelude.{Option, Some, None}, List.{list_all, flat_map}}
-use Rattle.mpslp_types.{specs.{Limit.is_given, Lists.those_of, declared.kinds.Limit.Limit}, proofs.BoolLemmas.both_so}
-use Rattle.mpslp_builder.specs.{Declaration.{declare_rhs, Draft, with_declarations, is_free_row, rhs_declared}, Made.is_legal}
-use Rattle.mpslp_lines.{proofs.FieldLemmas.{name-legal, value-decimal, limit-given}, specs.FaultTests.{value_of, judged_by}}
-use Rattle.mpslp_mps_fields.specs.{Line.{Fields, LineContent, skipped, header, data_line, section_named}, DataLine.{RowLine, Pair}}
-use Rattle.mpslp_mps_fields.specs.DataLine.{ValuesLine, word_shape, row_shape, vector_shape, BoundLine, bound_type, bound_shape}
-use Rattle.mpslp_mps_fields.specs.declared.sections.Section.{Section, TheVariants.{Name, ObjSense, ObjName, Rows, Columns, Rhs, Ranges}}
-use Rattle.mpslp_mps_fields.specs.declared.{sections.Section.TheVariants.{Bounds, EndData}, bound_types.BoundType.BoundType}
-use Rattle.mpslp_mps.specs.{Context.{Context, context_of, current_section}, LineDeclarations.{declared_if_some, sense_declared}}
-use Rattle.mpslp_mps.specs.LineDeclarations.{row_declared, coefficient_declared, column_declared, columns_line_declared, rhs_line_declared}
-use Rattle.mpslp_mps.specs.LineDeclarations.{ranges_declared, bound_declared, bound_value, bound_line_declared, data_declared}
-use Rattle.mpslp_mps.specs.{LineDeclarations.{header_declared, line_declares}, LineFault.{row_line_tests, column_tests, columns_line_tests}}
-use Rattle.mpslp_mps.{specs.LineFault.data_tests, proofs.{ContextLineLemmas.{declared_items, are_well_formed}, OrderLemmas.IsGood}}
-use Rattle.mpslp_mps.proofs.{OrderLemmas.{each-declared, each-flat, each-mapped}, KnownLemmas.{good-first, good-rest}}
+use Rattle.mpslp_mps.proofs.Prelude
+use Prelude.{arith, ◌≡◌, refl, ◌∙◌, List, [], ◌∷◌, ◌++◌, ℕ, Bool, true, false, cond, list_all-append, Option, Some, None, list_all}
+use Prelude.{flat_map, is_given, those_of, Limit, both_so, declare_rhs, Draft, with_declarations, is_free_row, rhs_declared, is_legal}
+use Prelude.{name-legal, value-decimal, limit-given, value_of, judged_by, Fields, LineContent, skipped, header, data_line, section_named}
+use Prelude.{RowLine, Pair, ValuesLine, word_shape, row_shape, vector_shape, BoundLine, bound_type, bound_shape, Section, Name, ObjSense}
+use Prelude.{ObjName, Rows, Columns, Rhs, Ranges, Bounds, EndData, BoundType, Context, context_of, declared_if_some, sense_declared}
+use Prelude.{row_declared, coefficient_declared, column_declared, columns_line_declared, rhs_line_declared, ranges_declared, bound_declared}
+use Prelude.{bound_value, bound_line_declared, data_declared, header_declared, line_declares, row_line_tests, column_tests}
+use Prelude.{columns_line_tests, data_tests}
+use Rattle.mpslp_mps.proofs.{ContextLineLemmas.{declared_items, are_well_formed}, KnownLemmas.{good-first, good-rest}}
+use Rattle.mpslp_mps.proofs.OrderLemmas.{IsGood, each-declared, each-flat, each-mapped}
 
 -- ---- lines
 
 sense-legal : (fields : Fields) → list_all is_legal (declared_if_some sense_declared (word_shape fields)) ≡ true
-sense-legal fields = grind arith
+sense-legal = grind arith
 
 row-legal : (context : Context) (earlier : Draft) (o : Option RowLine) → those_of (judged_by row_line_tests o) ≡ [] → list_all is_legal (declared_if_some (row_declared context earlier) o) ≡ true
-row-legal context earlier o h = grind arith
+row-legal = grind arith
 
 cells-legal : (column : List ℕ) (pairs : List Pair) → list_all is_legal (flat_map (coefficient_declared column) pairs) ≡ true
 cells-legal column pairs = each-flat is_legal (coefficient_declared column) pairs (λ pair. rw (value-decimal pair.literal) refl)
 
 column-legal : (context : Context) (earlier : Draft) (o : Option ValuesLine) → those_of (judged_by (column_tests context earlier) o) ≡ []
     → list_all is_legal (declared_if_some (column_declared context) o) ≡ true
-column-legal context earlier o h = grind (arith, both_so, name-legal, cells-legal)
+column-legal = grind (arith, both_so, name-legal, cells-legal)
 
 columns-legal : (context : Context) (earlier : Draft) (fields : Fields) → those_of (columns_line_tests context earlier fields) ≡ []
     → list_all is_legal (columns_line_declared context fields) ≡ true
-columns-legal context earlier fields h = grind (arith, column-legal)
+columns-legal = grind (arith, column-legal)
 
 sides-legal : (earlier : Draft) (fields : Fields) → list_all is_legal (declared_if_some (rhs_line_declared earlier) (vector_shape fields)) ≡ true
 sides-legal earlier fields =
@@ -44,13 +40,13 @@ sides-legal earlier fields =
     one pair false = rw (value-decimal pair.literal) refl
 
 ranges-legal : (fields : Fields) → list_all is_legal (declared_if_some ranges_declared (vector_shape fields)) ≡ true
-ranges-legal fields = grind (arith, each-declared, each-mapped, value-decimal)
+ranges-legal = grind (arith, each-declared, each-mapped, value-decimal)
 
 bound-legal : (type : BoundType) (c : List ℕ) (v : Limit) → is_given v ≡ true → list_all is_legal (bound_declared type c v) ≡ true
-bound-legal type c v h = grind arith
+bound-legal = grind arith
 
 bound-value-given : (line : BoundLine) → is_given (bound_value line) ≡ true
-bound-value-given line = grind (arith, limit-given, value-decimal)
+bound-value-given = grind (arith, limit-given, value-decimal)
 
 bounds-legal : (fields : Fields) → list_all is_legal (bound_line_declared fields) ≡ true
 bounds-legal [] = refl
@@ -60,7 +56,7 @@ bounds-legal (letters ∷ more) =
     (λ line. bound-legal type line.column (bound_value line) (bound-value-given line)))
 
 header-legal : (context : Context) (earlier : Draft) (more : Fields) (o : Option Section) → list_all is_legal (header_declared context earlier more o) ≡ true
-header-legal context earlier more o = grind arith
+header-legal = grind arith
 
 data-legal : (context : Context) (earlier : Draft) (fields : Fields) (o : Option Section) → those_of (data_tests context earlier fields o) ≡ []
     → list_all is_legal (data_declared context earlier fields o) ≡ true
@@ -78,7 +74,7 @@ data-legal context earlier fields (Some EndData) h = refl
 pub line-legal : (before : List LineContent) (earlier : Draft) (item : LineContent) → IsGood before earlier item → list_all is_legal (line_declares (context_of before) earlier item) ≡ true
 line-legal before earlier skipped h = refl
 line-legal before earlier (header keyword more) h = header-legal (context_of before) earlier more (section_named keyword)
-line-legal before earlier (data_line fields) h = data-legal (context_of before) earlier fields (current_section before) h
+line-legal before earlier (data_line fields) h = data-legal (context_of before) earlier fields _ h
 
 pub lines-legal : (items before : List LineContent) (earlier : Draft) → are_well_formed before earlier items ≡ true → list_all is_legal (declared_items before earlier items) ≡ true
 lines-legal [] before earlier h = refl
@@ -86,5 +82,5 @@ lines-legal (item ∷ items) before earlier h =
     let here = line_declares (context_of before) earlier item in
     let more = declared_items (before ++ item ∷ []) (with_declarations earlier here) items in
     list_all-append is_legal here more
-    ∙ both_so (list_all is_legal here) (list_all is_legal more) (line-legal before earlier item (good-first before earlier item items h))
+    ∙ both_so _ _ (line-legal before earlier item (good-first before earlier item items h))
     (lines-legal items (before ++ item ∷ []) (with_declarations earlier here) (good-rest before earlier item items h))

@@ -1,3 +1,4 @@
+pub mod Prelude
 pub mod WorkedFaults
 pub mod WorkedFiles
 pub mod SectionLemmas

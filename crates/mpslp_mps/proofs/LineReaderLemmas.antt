@@ -1,15 +1,11 @@
 -- What a reader of lines returns for the next line, and at the end.
-use Rattle.std.{proofs.Common.{arith, ◌≡◌, sym, subst, ◌∙◌, ℕ, List, [], ◌∷◌, true, false}, specs.Prelude.{Some, None, Result}}
-use Rattle.std.specs.Str.Lines.{lines}
-use Rattle.mpslp_model_core.specs.Model.{LinearModel}
-use Rattle.mpslp_builder.specs.{FileFault.whole_fault, Finish.Finishes}
-use Rattle.mpslp_types.specs.declared.faults.{FaultKind.TheVariants.MissingEnd, ReadFault.ReadFault}
-use Rattle.mpslp_lines.specs.{LinesRead.RefusesLines, LineAnswer.{IsErrorOf, IsFaultOn}, declared.errors.LineError.LineError}
+use Rattle.mpslp_mps.proofs.Prelude
+use Prelude.{arith, ◌≡◌, sym, subst, ◌∙◌, ℕ, List, [], ◌∷◌, true, false, Some, None, Result, lines, LinearModel, whole_fault, Finishes}
+use Prelude.{MissingEnd, ReadFault, RefusesLines, IsErrorOf, IsFaultOn, LineError, is_section, EndData, line_fault, first_mps_fault}
+use Prelude.{placed_in, ReadsMps, HasRead, IsFaultOfLines, LineReader}
+use Rattle.mpslp_mps.proofs.{FedLemmas.{lines_fault-is, led-fault}, ReadLemmas.{finished-reads}}
+use Rattle.mpslp_mps.proofs.TextLemmas.{fault_of_lines, first_fault-whole, draft-whole}
 use Rattle.mpslp_lines.specs.declared.errors.LineError.TheVariants as errors
-use Rattle.mpslp_mps_fields.specs.{Line.is_section, declared.sections.Section.TheVariants.EndData}
-use Rattle.mpslp_mps.specs.{FirstFault.{line_fault, first_mps_fault}, LineByLine.placed_in, ReadAnswer.ReadsMps, Fed.HasRead}
-use Rattle.mpslp_mps.{specs.{Fed.IsFaultOfLines, declared.line_reader.LineReader.LineReader}, proofs.FedLemmas.{lines_fault-is, led-fault}}
-use Rattle.mpslp_mps.proofs.{TextLemmas.{fault_of_lines, first_fault-whole, draft-whole}, ReadLemmas.finished-reads}
 
 -- the next line is rejected
 pub refuses-line : (reader : LineReader) (line : List ℕ) (error : LineError) (answer : ReadFault) → is_section EndData reader.context.section ≡ false
@@ -29,4 +25,4 @@ module _ (bytes : List ℕ) (reader : LineReader) (read : HasRead reader (lines 
   ends-missing unended = first_fault-whole bytes false none (sym read.ended ∙ unended)
 
   pub ends-text : (answer : Result LinearModel ReadFault) → is_section EndData reader.context.section ≡ true → Finishes reader.builder.draft answer → ReadsMps bytes answer
-  ends-text answer at_end = grind (arith, draft-whole, finished-reads, first_fault-whole, none)
+  ends-text = grind (arith, draft-whole, finished-reads, first_fault-whole, none)

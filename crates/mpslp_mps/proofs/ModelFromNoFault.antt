@@ -1,26 +1,20 @@
 -- Bytes without a first error declare a model.
-use Rattle.std.proofs.Common.{◌≡◌, refl, sym, ap, subst, ◌∙◌, List, [], ◌∷◌, ◌++◌, ℕ, suc, ◌+◌, true, false, cond, map, arith, take}
-use Rattle.std.specs.{Prelude.{Option, None, is_some, ◌||◌, not}, List.{list_all, list_any, flat_map, position_or_len}, Option.option_map}
-use Rattle.std.specs.{Option.option_or, Str.Lines.lines}
-use Rattle.mpslp_builder.specs.{Declaration.{Declarations, Draft, with_declarations, empty_draft, draft_of}, Refusal.refusals_in_turn}
-use Rattle.mpslp_builder.{specs.{Made.is_legal, Meaning.model_of, FileFault.file_fault}, proofs.RefusalLemmas.join_none}
-use Rattle.mpslp_builder.proofs.{MadeDrafts.refusals_in_turn-append, Acceptance.means-from_none}
-use Rattle.mpslp_types.{specs.{Lists.is_nonempty, declared.faults.FaultKind.FaultKind}, proofs.BoolLemmas.{both_so, or_left, or_right}}
-use Rattle.mpslp_lines.{specs.FaultTests.fault_on_line, proofs.{FirstFaultLemmas.faultless, ObjectiveLemmas.objective-declared}}
-use Rattle.mpslp_lines.proofs.AnswerLemmas.{no_fault-unless}
-use Rattle.mpslp_mps_fields.specs.Line.{LineContent, content_of}
-use Rattle.mpslp_mps.specs.{Context.context_of, MpsText.{LineInContext, is_end, read_lines, has_end, declared_at, tests_at, is_well_formed}}
-use Rattle.mpslp_mps.specs.{MpsText.{lines_in_context_after, lines_in_context, declarations_of, DeclaresMps}, FirstFault.line_fault}
-use Rattle.mpslp_mps.specs.{FirstFault.{first_line_fault, whole_mps_fault, first_mps_fault}, Laws.DeclareUnlessFaulty}
-use Rattle.mpslp_mps.proofs.{ContextLineLemmas.{lines-declare, items-good}, LegalLemmas.lines-legal, ObjectiveLemmas.named-lines}
+use Rattle.mpslp_mps.proofs.Prelude
+use Prelude.{◌≡◌, refl, sym, ap, subst, ◌∙◌, List, [], ◌∷◌, ◌++◌, ℕ, suc, ◌+◌, true, false, cond, map, arith, take, Option, None, is_some}
+use Prelude.{◌||◌, not, list_all, list_any, flat_map, position_or_len, option_map, option_or, lines, Draft, with_declarations, empty_draft}
+use Prelude.{draft_of, refusals_in_turn, is_legal, model_of, file_fault, join_none, refusals_in_turn-append, means-from_none, is_nonempty}
+use Prelude.{both_so, or_left, or_right, fault_on_line, faultless, objective-declared, no_fault-unless, LineContent, content_of, context_of}
+use Prelude.{LineInContext, is_end, read_lines, has_end, declared_at, tests_at, is_well_formed, lines_in_context_after, declarations_of}
+use Prelude.{DeclaresMps, first_line_fault, whole_mps_fault, first_mps_fault, DeclareUnlessFaulty}
+use Rattle.mpslp_mps.proofs.{ContextLineLemmas.{lines-declare, items-good}, LegalLemmas.{lines-legal}, ObjectiveLemmas.{named-lines}}
 
 -- ---- lines without an error
 
 or-none : {X : Type 0} (o p : Option X) → option_or o p ≡ None → (o ≡ None) × (p ≡ None)
-or-none o p h = grind arith
+or-none = grind arith
 
 mapped-none : {X Y : Type 0} (f : X → Y) (o : Option X) → option_map f o ≡ None → o ≡ None
-mapped-none f o h = grind arith
+mapped-none = grind arith
 
 pub record AreFaultless (lines : List (List ℕ)) (before : List LineContent) (earlier : Draft) : Type 0 where
   pub good : list_all is_well_formed (lines_in_context_after before earlier lines) ≡ true
@@ -33,13 +27,13 @@ lines-faultless n (line ∷ lines) before earlier h =
     let here = declared_at placed in
     let next = with_declarations earlier here in
     let later = lines_in_context_after (before ++ content_of line ∷ []) next lines in
-    let parts = or-none (option_map (fault_on_line n) (line_fault placed)) (first_line_fault (n + 1) later) h in
-    let fine = faultless (tests_at placed) earlier here (mapped-none (fault_on_line n) (line_fault placed) parts.0) in
+    let parts = or-none _ _ h in
+    let fine = faultless (tests_at placed) earlier here (mapped-none (fault_on_line n) _ parts.0) in
     let more = lines-faultless (n + 1) lines (before ++ content_of line ∷ []) next parts.1 in
     record {
-      good = both_so (is_well_formed placed) (list_all is_well_formed later) (ap (λ (faults : List FaultKind). not (is_nonempty faults)) fine.form) more.good;
-      unrefused = refusals_in_turn-append here (flat_map declared_at later) earlier
-          ∙ join_none (refusals_in_turn earlier here) (refusals_in_turn next (flat_map declared_at later)) fine.unrefused more.unrefused;
+      good = both_so _ _ (ap (λ faults. not (is_nonempty faults)) fine.form) more.good;
+      unrefused = refusals_in_turn-append here _ earlier
+          ∙ join_none _ _ fine.unrefused more.unrefused;
     }
 
 -- ---- the whole
@@ -49,11 +43,11 @@ end-read : (ls : List (List ℕ)) → list_any is_end ls ≡ true → list_any i
 end-read [] h = cc
 end-read (l ∷ ls) h =
     elim (is_end l) as (λ b. is_end l ≡ b → (b || list_any is_end ls) ≡ true → list_any is_end (take (suc (cond (not b) (1 + position_or_len is_end ls) 0)) (l ∷ ls)) ≡ true) [
-      | true ↦ λ e _. or_left (is_end l) (list_any is_end (take 0 ls)) e
+      | true ↦ λ e _. or_left _ _ e
       | false ↦ λ _ k.
           let next : 1 + position_or_len is_end ls ≡ suc (position_or_len is_end ls) = omega arith in
-          subst (λ (n : ℕ). list_any is_end (take (suc n) (l ∷ ls)) ≡ true) (sym next)
-          (or_right (is_end l) (list_any is_end (take (suc (position_or_len is_end ls)) ls)) (end-read ls k))
+          subst (λ n. list_any is_end (take (suc n) (l ∷ ls)) ≡ true) (sym next)
+          (or_right _ _ (end-read ls k))
     ] refl h
 
 pub record IsWholeFaultless (bytes : List ℕ) : Type 0 where
@@ -61,22 +55,22 @@ pub record IsWholeFaultless (bytes : List ℕ) : Type 0 where
   pub file : file_fault (draft_of (declarations_of bytes)) ≡ None
 
 whole-faultless : (bytes : List ℕ) → whole_mps_fault bytes ≡ None → IsWholeFaultless bytes
-whole-faultless bytes h = grind arith
+whole-faultless = grind arith
 
 -- Bytes without a first error declare the model of what their lines declare.
 pub declares-from_no_fault : (bytes : List ℕ) → first_mps_fault bytes ≡ None → DeclaresMps bytes (model_of (draft_of (declarations_of bytes)))
 declares-from_no_fault bytes h =
     let items = map content_of (read_lines bytes) in
-    let parts = or-none (first_line_fault 1 (lines_in_context bytes)) (whole_mps_fault bytes) h in
+    let parts = or-none _ _ h in
     let fine = lines-faultless 1 (read_lines bytes) [] empty_draft parts.0 in
     let whole = whole-faultless bytes parts.1 in
     let good = items-good [] empty_draft (read_lines bytes) fine.good in
     let same = lines-declare [] empty_draft (read_lines bytes) in
     let named = named-lines (read_lines bytes) [] empty_draft (end-read (lines bytes) whole.ends) good (λ e. cc) in
     record {
-      text = both_so (has_end bytes) (list_all is_well_formed (lines_in_context bytes)) whole.ends fine.good;
-      means = means-from_none (declarations_of bytes)
-          (objective-declared (declarations_of bytes) empty_draft (ap (λ (ds : Declarations). is_some (with_declarations empty_draft ds).objective) same ∙ named))
+      text = both_so _ _ whole.ends fine.good;
+      means = means-from_none _
+          (objective-declared (declarations_of bytes) empty_draft (ap (λ ds. is_some (with_declarations empty_draft ds).objective) same ∙ named))
           (ap (list_all is_legal) same ∙ lines-legal items [] empty_draft good) fine.unrefused whole.file;
     }
 

@@ -1,18 +1,12 @@
 -- Bytes that declare a model have no first error.
-use Rattle.std.{proofs.Common.{◌≡◌, refl, sym, ap, subst, ◌∙◌, List, [], ◌∷◌, ◌++◌, ℕ, ◌+◌, true, map}, specs.Prelude.{Option, None}}
-use Rattle.std.specs.{List.{list_all, flat_map}, Option.{option_map, option_or}, Cmp.{first_so, second_so}}
-use Rattle.mpslp_model_core.specs.Model.{LinearModel}
-use Rattle.mpslp_builder.specs.{Declaration.{Declarations, Draft, empty_draft, with_declarations, draft_of}, Refusal.refusals_in_turn}
-use Rattle.mpslp_builder.{specs.{Meaning.Means, FileFault.file_fault}, proofs.RefusalLemmas.{left_none, right_none}}
-use Rattle.mpslp_builder.proofs.{MadeDrafts.refusals_in_turn-append, Acceptance.none-from_means}
-use Rattle.mpslp_types.specs.{Lists.those_of, declared.faults.FaultKind.FaultKind}
-use Rattle.mpslp_lines.{specs.FaultTests.fault_on_line, proofs.{FirstFaultLemmas.no_fault, AnswerLemmas.model-or_fault as one_of_both}}
-use Rattle.mpslp_mps_fields.specs.Line.{LineContent, content_of}
-use Rattle.mpslp_mps.specs.{Context.context_of, MpsText.{LineInContext, read_lines, has_end, declared_at, tests_at, is_well_formed}}
-use Rattle.mpslp_mps.specs.{MpsText.{lines_in_context_after, lines_in_context, DeclaresMps}, FirstFault.{first_line_fault, whole_mps_fault}}
-use Rattle.mpslp_mps.{specs.{FirstFault.first_mps_fault, Laws.DeclareOrFail}, proofs.ContextLineLemmas.{declared_items, are_well_formed}}
-use Rattle.mpslp_mps.proofs.{ContextLineLemmas.{no_faults, lines-declare, items-good}, OrderLemmas.ordered-nil, KnownLemmas.known-lines}
-use Rattle.mpslp_mps.proofs.LegalLemmas.{lines-legal}
+use Rattle.mpslp_mps.proofs.Prelude
+use Prelude.{◌≡◌, refl, sym, ap, subst, ◌∙◌, List, [], ◌∷◌, ◌++◌, ℕ, ◌+◌, true, map, None, list_all, flat_map, option_map, option_or}
+use Prelude.{first_so, second_so, LinearModel, Draft, empty_draft, with_declarations, draft_of, refusals_in_turn, Means, file_fault}
+use Prelude.{left_none, right_none, refusals_in_turn-append, none-from_means, fault_on_line, no_fault, one_of_both, LineContent, content_of}
+use Prelude.{context_of, LineInContext, read_lines, has_end, declared_at, tests_at, is_well_formed, lines_in_context_after}
+use Prelude.{lines_in_context, DeclaresMps, first_line_fault, whole_mps_fault, first_mps_fault, DeclareOrFail}
+use Rattle.mpslp_mps.proofs.ContextLineLemmas.{declared_items, are_well_formed, no_faults, lines-declare, items-good}
+use Rattle.mpslp_mps.proofs.{KnownLemmas.{known-lines}, LegalLemmas.{lines-legal}, OrderLemmas.{ordered-nil}}
 
 -- well-formed lines, none of whose declarations is rejected
 lines-no_fault : (n : ℕ) (lines : List (List ℕ)) (before : List LineContent) (earlier : Draft) → list_all is_well_formed (lines_in_context_after before earlier lines) ≡ true
@@ -25,23 +19,23 @@ lines-no_fault n (line ∷ lines) before earlier good none =
     let later = lines_in_context_after (before ++ content_of line ∷ []) next lines in
     let more = flat_map declared_at later in
     let parts = sym (refusals_in_turn-append here more earlier) ∙ none in
-    let form = no_faults (those_of (tests_at placed)) (first_so (is_well_formed placed) (list_all is_well_formed later) good) in
-    let fine = no_fault (tests_at placed) earlier here form (left_none (refusals_in_turn earlier here) (refusals_in_turn next more) parts) in
-    ap (λ (o : Option FaultKind). option_or (option_map (fault_on_line n) o) (first_line_fault (n + 1) later)) fine
-    ∙ lines-no_fault (n + 1) lines (before ++ content_of line ∷ []) next (second_so (is_well_formed placed) (list_all is_well_formed later) good)
-    (right_none (refusals_in_turn earlier here) (refusals_in_turn next more) parts)
+    let form = no_faults _ (first_so _ _ good) in
+    let fine = no_fault (tests_at placed) earlier here form (left_none _ _ parts) in
+    ap (λ o. option_or (option_map (fault_on_line n) o) (first_line_fault (n + 1) later)) fine
+    ∙ lines-no_fault (n + 1) lines (before ++ content_of line ∷ []) next (second_so _ _ good)
+    (right_none _ _ parts)
 
 pub no_fault-from_declares : (bytes : List ℕ) (m : LinearModel) → DeclaresMps bytes m → first_mps_fault bytes ≡ None
 no_fault-from_declares bytes m declares =
     let items = map content_of (read_lines bytes) in
     let same = lines-declare [] empty_draft (read_lines bytes) in
-    let formed = second_so (has_end bytes) (list_all is_well_formed (lines_in_context bytes)) declares.text in
+    let formed = second_so (has_end bytes) _ declares.text in
     let good : are_well_formed [] empty_draft items ≡ true = items-good [] empty_draft (read_lines bytes) formed in
-    let means : Means (declared_items [] empty_draft items) m = subst (λ (ds : Declarations). Means ds m) same declares.means in
+    let means : Means (declared_items [] empty_draft items) m = subst (λ ds. Means ds m) same declares.means in
     let known = known-lines items [] empty_draft good ordered-nil means.consistent.known in
-    let none = none-from_means (declared_items [] empty_draft items) m (lines-legal items [] empty_draft good) known means in
+    let none = none-from_means _ m (lines-legal items [] empty_draft good) known means in
     (λ i. option_or (lines-no_fault 1 (read_lines bytes) [] empty_draft formed (ap (refusals_in_turn empty_draft) same ∙ none.0) i) (whole_mps_fault bytes))
-    ∙ rw (first_so (has_end bytes) (list_all is_well_formed (lines_in_context bytes)) declares.text) (ap (λ (ds : Declarations). file_fault (draft_of ds)) same ∙ none.1)
+    ∙ rw (first_so (has_end bytes) (list_all is_well_formed (lines_in_context bytes)) declares.text) (ap (λ ds. file_fault (draft_of ds)) same ∙ none.1)
 
 pub model-or_fault : DeclareOrFail
 model-or_fault = one_of_both DeclaresMps first_mps_fault no_fault-from_declares

@@ -1,26 +1,19 @@
 -- Lines of MPS text without an error declare right-hand sides only of declared rows that are not of type N.
-use Rattle.std.proofs.Common.{arith, rules, ◌≡◌, refl, sym, ap, subst, ◌∙◌, ℕ, List, [], ◌∷◌, Bool, true, false, cond}
-use Rattle.std.specs.{Prelude.{Option, Some, None, is_none}, List.{list_all, flat_map}, Option.option_map_or, Cmp.{first_so, second_so}}
-use Rattle.mpslp_types.specs.{Name.same_bytes, FaultOrder.least_kind, declared.kinds.RowType.{RowType, TheVariants.{Free, AtMost, AtLeast}}}
-use Rattle.mpslp_types.specs.declared.{kinds.RowType.TheVariants.Equal, faults.FaultKind.FaultKind}
-use Rattle.mpslp_builder.specs.Declaration.{RowDefinition, by_type, Declaration, declare_objective, declare_constant, declare_row}
-use Rattle.mpslp_builder.specs.Declaration.{declare_rhs, Declarations, Draft, with_declaration, with_declarations, has_row, is_free_row}
-use Rattle.mpslp_builder.{specs.Declaration.rhs_declared, proofs.{MadeDrafts.with_declarations-append, SlotLemmas.{at-put, has-put}}}
-use Rattle.mpslp_builder.proofs.SlotLemmas.{same_name}
-use Rattle.mpslp_mps_fields.specs.{Line.{Fields, LineContent, skipped, header, data_line, section_named}, DataLine.{RowLine, Pair}}
-use Rattle.mpslp_mps_fields.specs.{DataLine.{ValuesLine, word_shape, row_shape, row_type, vector_shape}, declared.sections.Section.Section}
-use Rattle.mpslp_mps_fields.specs.declared.sections.Section.TheVariants.{Name, ObjSense, ObjName, Rows, Columns, Rhs, Ranges, Bounds}
-use Rattle.mpslp_mps_fields.specs.declared.sections.Section.TheVariants.{EndData}
-use Rattle.mpslp_mps.specs.{Context.Context, LineDeclarations.{declared_if_some, sense_declared, is_new_objective, row_of_type}}
-use Rattle.mpslp_mps.specs.LineDeclarations.{row_declared, columns_line_declared, rhs_line_declared, ranges_declared, bound_line_declared}
-use Rattle.mpslp_mps.specs.{LineDeclarations.{data_declared, header_declared, line_declares}, LineAnswer.item_fault}
-use Rattle.mpslp_mps.{specs.VectorDeclared.HasMpsSides, proofs.{ContextLineLemmas.form_faults, OrderLemmas.sense-passes}}
+use Rattle.mpslp_mps.proofs.Prelude
+use Prelude.{arith, rules, ◌≡◌, refl, sym, ap, subst, ◌∙◌, ℕ, List, [], ◌∷◌, Bool, true, false, cond, Option, Some, None, is_none, list_all}
+use Prelude.{flat_map, first_so, second_so, least_kind, RowType, Free, AtMost, AtLeast, Equal, FaultKind, RowDefinition, by_type}
+use Prelude.{Declaration, declare_objective, declare_constant, declare_row, declare_rhs, Declarations, Draft, with_declaration}
+use Prelude.{with_declarations, has_row, is_free_row, rhs_declared, with_declarations-append, at-put, has-put, same_name, Fields}
+use Prelude.{LineContent, skipped, header, data_line, RowLine, Pair, ValuesLine, word_shape, row_shape, row_type, vector_shape, Section}
+use Prelude.{Name, ObjSense, ObjName, Rows, Columns, Rhs, Ranges, Bounds, EndData, Context, declared_if_some, sense_declared}
+use Prelude.{is_new_objective, row_of_type, row_declared, columns_line_declared, rhs_line_declared, ranges_declared, bound_line_declared}
+use Prelude.{data_declared, header_declared, line_declares, item_fault, HasMpsSides, value_of, declaring_faults, declared_fault, earlier_of}
+use Prelude.{least-append, declared-append}
+use Rattle.mpslp_mps.proofs.{ContextLineLemmas.{form_faults}, OrderLemmas.{sense-passes}}
 use Rattle.mpslp_mps.proofs.RhsLemmas.{side_kind, limited, side_fault, same_free, sides-after}
-use Rattle.mpslp_lines.{specs.{FaultTests.value_of, Declaring.{declaring_faults, declared_fault}}, proofs.LeastLemmas.earlier_of}
-use Rattle.mpslp_lines.proofs.{LeastLemmas.least-append, RefusedLemmas.declared-append}
 
 both_none : (o p : Option FaultKind) → earlier_of o p ≡ None → (o ≡ None) × (p ≡ None)
-both_none o p h = grind arith
+both_none = grind arith
 
 -- ---- declarations that do not concern rows, right-hand sides, the objective and the constant
 
@@ -36,19 +29,19 @@ stays-one all d h sides = grind arith
 
 stays-kept : (ds : Declarations) (all : Draft) → list_all stays ds ≡ true → HasMpsSides all → HasMpsSides (with_declarations all ds)
 stays-kept [] all h sides = sides
-stays-kept (d ∷ ds) all h sides = stays-kept ds (with_declaration all d) (second_so (stays d) (list_all stays ds) h) (stays-one all d (first_so (stays d) (list_all stays ds) h) sides)
+stays-kept (d ∷ ds) all h sides = stays-kept ds (with_declaration all d) (second_so _ _ h) (stays-one all d (first_so _ _ h) sides)
 
 sense-stays : (fields : Fields) → list_all stays (declared_if_some sense_declared (word_shape fields)) ≡ true
 sense-stays fields = sense-passes stays (λ s. refl) fields
 
 columns-stay : (context : Context) (fields : Fields) → list_all stays (columns_line_declared context fields) ≡ true
-columns-stay context fields = grind arith
+columns-stay = grind arith
 
 ranges-stay : (fields : Fields) → list_all stays (declared_if_some ranges_declared (vector_shape fields)) ≡ true
-ranges-stay fields = grind arith
+ranges-stay = grind arith
 
 bounds-stay : (fields : Fields) → list_all stays (bound_line_declared fields) ≡ true
-bounds-stay fields = grind arith
+bounds-stay = grind arith
 
 -- ---- the objective and rows
 
@@ -58,21 +51,21 @@ objective-kept all name none sides = grind arith
 
 -- a row of a new name
 row-kept : (all : Draft) (name : List ℕ) (form : RowDefinition) → has_row all name ≡ false → HasMpsSides all → HasMpsSides (with_declaration all (declare_row name form))
-row-kept all name form new sides = search (rules, limited, has-put, at-put, same_name)
+row-kept = search (rules, limited, has-put, at-put, same_name)
 
 none_so : (o : Option (List ℕ)) → is_none o ≡ true → o ≡ None
-none_so o h = grind arith
+none_so = grind arith
 
 new_row : (all : Draft) (name : List ℕ) (type : RowType) → declared_fault all (declare_row name (by_type type) ∷ []) ≡ None → has_row all name ≡ false
-new_row all name type fault_is = grind arith
+new_row = grind arith
 
 objective-or_row : (context : Context) (all : Draft) (name : List ℕ) → declared_fault all (row_of_type context all name Free) ≡ None → HasMpsSides all → HasMpsSides (with_declarations all (row_of_type context all name Free))
 objective-or_row context all name fault_is sides = by (is_new_objective context all name) refl fault_is
   where
     by : (b : Bool) → is_new_objective context all name ≡ b → declared_fault all (cond b (declare_objective name ∷ []) (declare_row name (by_type Free) ∷ [])) ≡ None
         → HasMpsSides (with_declarations all (cond b (declare_objective name ∷ []) (declare_row name (by_type Free) ∷ [])))
-    by true new k = objective-kept all name (none_so all.objective (first_so (is_none all.objective) (option_map_or (same_bytes name) context.objname true) new)) sides
-    by false there k = row-kept all name (by_type Free) (new_row all name Free k) sides
+    by true new k = objective-kept all name (none_so all.objective (first_so _ _ new)) sides
+    by false there k = row-kept all name _ (new_row all name Free k) sides
 
 rows-kept : (context : Context) (all : Draft) (fields : Fields) → declared_fault all (declared_if_some (row_declared context all) (row_shape fields)) ≡ None → HasMpsSides all
     → HasMpsSides (with_declarations all (declared_if_some (row_declared context all) (row_shape fields)))
@@ -81,9 +74,9 @@ rows-kept context all fields fault_is sides = lined (row_shape fields) fault_is
     typed : (name : List ℕ) (o : Option RowType) → declared_fault all (declared_if_some (row_of_type context all name) o) ≡ None → HasMpsSides (with_declarations all (declared_if_some (row_of_type context all name) o))
     typed name None k = sides
     typed name (Some Free) k = objective-or_row context all name k sides
-    typed name (Some AtMost) k = row-kept all name (by_type AtMost) (new_row all name AtMost k) sides
-    typed name (Some AtLeast) k = row-kept all name (by_type AtLeast) (new_row all name AtLeast k) sides
-    typed name (Some Equal) k = row-kept all name (by_type Equal) (new_row all name Equal k) sides
+    typed name (Some AtMost) k = row-kept all name _ (new_row all name AtMost k) sides
+    typed name (Some AtLeast) k = row-kept all name _ (new_row all name AtLeast k) sides
+    typed name (Some Equal) k = row-kept all name _ (new_row all name Equal k) sides
 
     lined : (o : Option RowLine) → declared_fault all (declared_if_some (row_declared context all) o) ≡ None → HasMpsSides (with_declarations all (declared_if_some (row_declared context all) o))
     lined None k = sides
@@ -92,7 +85,7 @@ rows-kept context all fields fault_is sides = lined (row_shape fields) fault_is
 -- ---- right-hand sides
 
 there_so : (there sided : Bool) → side_kind there sided ≡ None → there ≡ true
-there_so there sided h = grind arith
+there_so = grind arith
 
 -- in terms of the rows before the line, which are those after each of its right-hand sides
 pairs-kept : (pairs : List Pair) (earlier all : Draft) → ((row : List ℕ) → is_free_row all row ≡ is_free_row earlier row) → HasMpsSides all
@@ -102,14 +95,14 @@ pairs-kept [] earlier all free sides fault_is = sides
 pairs-kept (pair ∷ pairs) earlier all free sides fault_is =
     let value = value_of pair.literal in
     let here = rhs_declared earlier pair.row value in
-    let more = flat_map (λ (pair : Pair). rhs_declared earlier pair.row (value_of pair.literal)) pairs in
-    let same : rhs_declared all pair.row value ≡ here = ap (λ (b : Bool). cond b [] (declare_rhs pair.row value ∷ [])) (free pair.row) in
-    let none = both_none (declared_fault all here) (declared_fault (with_declarations all here) more) (sym (declared-append here more all) ∙ fault_is) in
-    let there = there_so (has_row all pair.row) _ (sym (side_fault all pair.row value (limited all sides)) ∙ ap (declared_fault all) same ∙ none.0) in
-    let next = subst (λ (ds : Declarations). HasMpsSides (with_declarations all ds)) same (sides-after all pair.row value sides there) in
+    let more = flat_map (λ pair. rhs_declared earlier pair.row _) pairs in
+    let same : rhs_declared all pair.row value ≡ here = ap (λ b. cond b [] (declare_rhs pair.row value ∷ [])) (free pair.row) in
+    let none = both_none _ (declared_fault (with_declarations all here) more) (sym (declared-append here more all) ∙ fault_is) in
+    let there = there_so _ _ (sym (side_fault all pair.row value (limited all sides)) ∙ ap (declared_fault all) same ∙ none.0) in
+    let next = subst (λ ds. HasMpsSides (with_declarations all ds)) same (sides-after all pair.row value sides there) in
     let after : (row : List ℕ) → is_free_row (with_declarations all here) row ≡ is_free_row earlier row =
-    λ row. ap (λ (ds : Declarations). is_free_row (with_declarations all ds) row) (sym same) ∙ same_free all pair.row value row ∙ free row in
-    subst HasMpsSides (sym (with_declarations-append here more all)) (pairs-kept pairs earlier (with_declarations all here) after next none.1)
+    λ row. ap (λ ds. is_free_row (with_declarations all ds) row) (sym same) ∙ same_free all pair.row value row ∙ free row in
+    subst HasMpsSides (sym (with_declarations-append here more all)) (pairs-kept pairs earlier _ after next none.1)
 
 rhs_values-kept : (all : Draft) (fields : Fields) → declared_fault all (declared_if_some (rhs_line_declared all) (vector_shape fields)) ≡ None → HasMpsSides all
     → HasMpsSides (with_declarations all (declared_if_some (rhs_line_declared all) (vector_shape fields)))
@@ -141,7 +134,7 @@ data-kept context earlier fields (Some EndData) fault_is sides = sides
 pub sides-kept : (context : Context) (earlier : Draft) (item : LineContent) → item_fault context earlier item ≡ None → HasMpsSides earlier
     → HasMpsSides (with_declarations earlier (line_declares context earlier item))
 sides-kept context earlier skipped fault_is sides = sides
-sides-kept context earlier (header keyword more) fault_is sides = header-kept context earlier more (section_named keyword) sides
+sides-kept context earlier (header keyword more) fault_is sides = header-kept context earlier more _ sides
 sides-kept context earlier (data_line fields) fault_is sides =
     let faults = form_faults context earlier (data_line fields) in
     let ds = data_declared context earlier fields context.section in

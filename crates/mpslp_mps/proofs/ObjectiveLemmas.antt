@@ -1,14 +1,11 @@
 -- By ENDATA the objective is declared: by an N row, or by the header of COLUMNS.
-use Rattle.std.proofs.{Common.{arith, ◌≡◌, refl, ap, ◌∙◌, List, [], ◌∷◌, ◌++◌, ℕ, true, false, map}, lemmas.Bool.false≢true}
-use Rattle.std.specs.{Prelude.{Option, is_some, ◌||◌}, List.list_any}
-use Rattle.mpslp_builder.{specs.Declaration.{Draft, with_declarations}, proofs.MadeDrafts.with_declarations-append}
-use Rattle.mpslp_types.specs.Lists.{those_of}
-use Rattle.mpslp_lines.proofs.ObjectiveLemmas.{named-after}
-use Rattle.mpslp_mps_fields.specs.Line.{Fields, LineContent, skipped, header, data_line, content_of, has, section_named, begins, is_section}
-use Rattle.mpslp_mps_fields.specs.declared.sections.Section.{Section, TheVariants.{Columns, EndData}}
-use Rattle.mpslp_mps.specs.{Context.{Context, context_of}, SeenSection.has_section, LineDeclarations.{header_declared, line_declares}}
-use Rattle.mpslp_mps.{specs.{LineFault.header_tests, MpsText.is_end}, proofs.SectionLemmas.has_section-push}
-use Rattle.mpslp_mps.proofs.{ContextLineLemmas.{declared_items, are_well_formed}, OrderLemmas.IsGood, KnownLemmas.{good-first, good-rest}}
+use Rattle.mpslp_mps.proofs.Prelude
+use Prelude.{arith, ◌≡◌, refl, ap, ◌∙◌, List, [], ◌∷◌, ◌++◌, ℕ, true, false, map, false≢true, Option, is_some, ◌||◌, list_any, Draft}
+use Prelude.{with_declarations, with_declarations-append, those_of, named-after, Fields, LineContent, skipped, header, data_line}
+use Prelude.{content_of, has, begins, is_section, Section, Columns, EndData, Context, context_of, has_section, header_declared}
+use Prelude.{line_declares, header_tests, is_end}
+use Rattle.mpslp_mps.proofs.{ContextLineLemmas.{declared_items, are_well_formed}, KnownLemmas.{good-first, good-rest}, OrderLemmas.{IsGood}}
+use Rattle.mpslp_mps.proofs.SectionLemmas.{has_section-push}
 
 -- once COLUMNS has begun, the objective exists
 abbrev pub IsNamed : List LineContent → Draft → Type 0
@@ -16,14 +13,14 @@ IsNamed before earlier = has_section before Columns ≡ true → is_some earlier
 
 pub columns-name : (context : Context) (earlier : Draft) (keyword : List ℕ) (more : Fields) (o : Option Section) → those_of (header_tests context earlier keyword more o) ≡ []
     → is_section Columns o ≡ true → is_some (with_declarations earlier (header_declared context earlier more o)).objective ≡ true
-columns-name context earlier keyword more o h e = grind arith
+columns-name = grind arith
 
 named-push : (before : List LineContent) (earlier : Draft) (item : LineContent) → IsGood before earlier item → IsNamed before earlier → IsNamed (before ++ item ∷ []) (with_declarations earlier (line_declares (context_of before) earlier item))
-named-push before earlier item good named begun = grind (arith, has_section-push, false≢true, columns-name, named-after)
+named-push = grind (arith, has_section-push, false≢true, columns-name, named-after)
 
 -- ENDATA comes after COLUMNS
 pub end-after : (context : Context) (earlier : Draft) (keyword : List ℕ) (more : Fields) (o : Option Section) → those_of (header_tests context earlier keyword more o) ≡ [] → is_section EndData o ≡ true → has context.sections_seen Columns ≡ true
-end-after context earlier keyword more o h e = grind arith
+end-after = grind arith
 
 -- well-formed lines, one of which is that of ENDATA
 pub named-lines : (lines : List (List ℕ)) (before : List LineContent) (earlier : Draft) → list_any is_end lines ≡ true → are_well_formed before earlier (map content_of lines) ≡ true → IsNamed before earlier
@@ -35,11 +32,11 @@ named-lines (line ∷ lines) before earlier h g named =
     let more = declared_items (before ++ item ∷ []) (with_declarations earlier here) (map content_of lines) in
     elim (is_end line) as (λ b. is_end line ≡ b → (b || list_any is_end lines) ≡ true → is_some (with_declarations earlier (here ++ more)).objective ≡ true) [
       | true ↦ λ e _. named-after (here ++ more) earlier (named (at_end item e (good-first before earlier item (map content_of lines) g)))
-      | false ↦ λ _ k. ap (λ (all : Draft). is_some all.objective) (with_declarations-append here more earlier)
+      | false ↦ λ _ k. ap (λ all. is_some all.objective) (with_declarations-append here more earlier)
           ∙ named-lines lines (before ++ item ∷ []) (with_declarations earlier here) k (good-rest before earlier item (map content_of lines) g) (named-push before earlier item (good-first before earlier item (map content_of lines) g) named)
     ] refl h
   where
     at_end : (x : LineContent) → begins EndData x ≡ true → IsGood before earlier x → has_section before Columns ≡ true
     at_end skipped e good = cc
-    at_end (header keyword m) e good = end-after (context_of before) earlier keyword m (section_named keyword) good e
+    at_end (header keyword m) e good = end-after (context_of before) earlier keyword m _ good e
     at_end (data_line fields) e good = cc

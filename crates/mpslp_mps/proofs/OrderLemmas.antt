@@ -1,20 +1,14 @@
 -- The order of sections in well-formed lines, and so the lines in which rows and columns are declared.
-use Rattle.std.proofs.{Common.{arith, ◌≡◌, refl, ◌∙◌, List, [], ◌∷◌, ◌++◌, ℕ, Bool, true, false, map}, lemmas.Bool.false≢true}
-use Rattle.std.{proofs.lemmas.List.Folds.list_all-append, specs.{Prelude.{Option, Some, None, ◌||◌, not}, List.{list_all, flat_map}}}
-use Rattle.std.specs.{Option.option_or, Cmp.{first_so, second_so}}
-use Rattle.mpslp_decimal.specs.Decimal.{Number}
-use Rattle.mpslp_builder.specs.Declaration.{Declaration, declare_sense, declare_objective, declare_row, declare_rhs, declare_range}
-use Rattle.mpslp_builder.specs.Declaration.{declare_column, Declarations, Draft, with_declaration, with_declarations, has_row, has_column}
-use Rattle.mpslp_types.{specs.{Lists.those_of, declared.kinds.Sense.Sense}, proofs.BoolLemmas.{both_so, or_left}}
+use Rattle.mpslp_mps.proofs.Prelude
+use Prelude.{arith, ◌≡◌, refl, ◌∙◌, List, [], ◌∷◌, ◌++◌, ℕ, Bool, true, false, map, false≢true, list_all-append, Option, Some, None, ◌||◌}
+use Prelude.{not, list_all, flat_map, option_or, first_so, second_so, Number, Declaration, declare_sense, declare_objective, declare_row}
+use Prelude.{declare_rhs, declare_range, declare_column, Declarations, Draft, with_declaration, with_declarations, has_row, has_column}
+use Prelude.{those_of, Sense, both_so, or_left, first_test, later_tests, value_of, FaultTests, Fields, LineContent, has, is_section}
+use Prelude.{may_follow, word_shape, sense_of, vector_shape, Section, Rows, Columns, Rhs, Ranges, Bounds, Context, context_of}
+use Prelude.{current_section, has_section, declared_if_some, sense_declared, rhs_line_declared, ranges_declared, may_begin, is_out_of_order}
+use Prelude.{lacks_objective, section_tests, header_tests}
+use Rattle.mpslp_mps.proofs.{ContextLineLemmas.{form_faults}, SectionLemmas.{current_section-push, has_section-push}}
 use Rattle.mpslp_types.specs.declared.faults.FaultKind.TheVariants as kinds
-use Rattle.mpslp_lines.{proofs.HeldLemmas.{first_test, later_tests}, specs.FaultTests.{value_of, FaultTests}}
-use Rattle.mpslp_mps_fields.specs.{Line.{Fields, LineContent, has, is_section, may_follow}, DataLine.{Pair, word_shape, sense_of}}
-use Rattle.mpslp_mps_fields.specs.{DataLine.vector_shape, declared.sections.Section.{Section, TheVariants.{Rows, Columns, Rhs, Ranges}}}
-use Rattle.mpslp_mps_fields.specs.declared.sections.Section.TheVariants.{Bounds}
-use Rattle.mpslp_mps.specs.{Context.{Context, context_of, current_section}, SeenSection.has_section, LineDeclarations.declared_if_some}
-use Rattle.mpslp_mps.specs.{LineDeclarations.{sense_declared, rhs_line_declared, ranges_declared}, LineFault.{may_begin, is_out_of_order}}
-use Rattle.mpslp_mps.{specs.LineFault.{lacks_objective, section_tests, header_tests}, proofs.ContextLineLemmas.form_faults}
-use Rattle.mpslp_mps.proofs.SectionLemmas.{current_section-push, has_section-push}
 
 -- ---- well-formed headers
 
@@ -26,22 +20,22 @@ tests_after_order context earlier more section = (has context.sections_seen sect
 
 pub header-ordered : (context : Context) (earlier : Draft) (keyword : List ℕ) (more : Fields) (section : Section) → those_of (header_tests context earlier keyword more (Some section)) ≡ []
     → is_out_of_order context section ≡ false
-header-ordered context earlier keyword more section h = first_test (is_out_of_order context section) kinds.SectionOrder (tests_after_order context earlier more section) h
+header-ordered context earlier keyword more section h = first_test _ kinds.SectionOrder (tests_after_order context earlier more section) h
 
 pub header-fresh : (context : Context) (earlier : Draft) (keyword : List ℕ) (more : Fields) (section : Section) → those_of (header_tests context earlier keyword more (Some section)) ≡ []
     → has context.sections_seen section ≡ false
 header-fresh context earlier keyword more section h =
-    first_test (has context.sections_seen section) kinds.SectionRepeated (tests_of_fields context earlier more section)
+    first_test _ kinds.SectionRepeated (tests_of_fields context earlier more section)
     (later_tests (is_out_of_order context section) kinds.SectionOrder (tests_after_order context earlier more section) h)
 
 pub header-begins : (context : Context) (earlier : Draft) (keyword : List ℕ) (more : Fields) (section : Section) → those_of (header_tests context earlier keyword more (Some section)) ≡ []
     → may_begin context section ≡ true
-header-begins context earlier keyword more section h = grind arith
+header-begins = grind arith
 
 -- at COLUMNS there is a row with the name that OBJNAME gives
 pub header-complete : (context : Context) (earlier : Draft) (keyword : List ℕ) (more : Fields) → those_of (header_tests context earlier keyword more (Some Columns)) ≡ []
     → lacks_objective context earlier ≡ false
-header-complete context earlier keyword more h = grind arith
+header-complete = grind arith
 
 -- ---- a section that is complete
 
@@ -51,13 +45,13 @@ pub record Past (section : Section) (before : List LineContent) : Type 0 where
   pub left : is_section section (current_section before) ≡ false
 
 rows-again : (context : Context) (earlier : Draft) (keyword : List ℕ) (more : Fields) (o : Option Section) → those_of (header_tests context earlier keyword more o) ≡ [] → is_section Rows o ≡ true → has context.sections_seen Rows ≡ false
-rows-again context earlier keyword more o h e = grind arith
+rows-again = grind arith
 
 columns-again : (context : Context) (earlier : Draft) (keyword : List ℕ) (more : Fields) (o : Option Section) → those_of (header_tests context earlier keyword more o) ≡ [] → is_section Columns o ≡ true → has context.sections_seen Columns ≡ false
-columns-again context earlier keyword more o h e = grind arith
+columns-again = grind arith
 
 stays-left : (section : Section) (o current : Option Section) → (is_section section o ≡ true → ⊥) → is_section section current ≡ false → is_section section (option_or o current) ≡ false
-stays-left section o current h e = grind arith
+stays-left = grind arith
 
 pub never : (b : Bool) → b ≡ true → b ≡ false → ⊥
 never true h k = cc
@@ -67,10 +61,10 @@ abbrev pub IsGood : List LineContent → Draft → LineContent → Type 0
 IsGood before earlier item = form_faults (context_of before) earlier item ≡ []
 
 pub past-rows : (before : List LineContent) (earlier : Draft) (item : LineContent) → IsGood before earlier item → Past Rows before → Past Rows (before ++ item ∷ [])
-past-rows before earlier item h past = grind (arith, has_section-push, or_left, current_section-push, stays-left, false≢true, never, rows-again)
+past-rows = grind (arith, has_section-push, or_left, current_section-push, stays-left, false≢true, never, rows-again)
 
 pub past-columns : (before : List LineContent) (earlier : Draft) (item : LineContent) → IsGood before earlier item → Past Columns before → Past Columns (before ++ item ∷ [])
-past-columns before earlier item h past = grind (arith, has_section-push, or_left, current_section-push, stays-left, false≢true, never, columns-again)
+past-columns = grind (arith, has_section-push, or_left, current_section-push, stays-left, false≢true, never, columns-again)
 
 -- ---- the order of sections
 
@@ -91,14 +85,14 @@ ordered-nil = record { rows = λ h. cc; columns = λ h. cc }
 
 -- COLUMNS begins after ROWS; what begins after COLUMNS
 columns-after : (context : Context) (earlier : Draft) (keyword : List ℕ) (more : Fields) (o : Option Section) → those_of (header_tests context earlier keyword more o) ≡ [] → is_section Columns o ≡ true → has context.sections_seen Rows ≡ true
-columns-after context earlier keyword more o h e = grind arith
+columns-after = grind arith
 
 late-after : (context : Context) (earlier : Draft) (keyword : List ℕ) (more : Fields) (o current : Option Section) → those_of (header_tests context earlier keyword more o) ≡ []
     → (is_late current ≡ true → has context.sections_seen Columns ≡ true) → is_late (option_or o current) ≡ true → (has context.sections_seen Columns || is_section Columns o) ≡ true
-late-after context earlier keyword more o current h old e = grind arith
+late-after = grind arith
 
 pub ordered-push : (before : List LineContent) (earlier : Draft) (item : LineContent) → IsGood before earlier item → Ordered before → Ordered (before ++ item ∷ [])
-ordered-push before earlier item h o = grind (arith, has_section-push, or_left, current_section-push, false≢true, columns-after, late-after)
+ordered-push = grind (arith, has_section-push, or_left, current_section-push, false≢true, columns-after, late-after)
 
 -- ---- what declares rows and columns
 
@@ -118,20 +112,18 @@ abbrev pub no_columns : Declarations → Bool
 no_columns ds = list_all (λ d. not (declares_column d)) ds
 
 row-kept : (all : Draft) (d : Declaration) (r : List ℕ) → not (declares_row d) ≡ true → has_row (with_declaration all d) r ≡ has_row all r
-row-kept all d r h = grind arith
+row-kept = grind arith
 
 pub rows-kept : (ds : Declarations) (all : Draft) (r : List ℕ) → no_rows ds ≡ true → has_row (with_declarations all ds) r ≡ has_row all r
 rows-kept [] all r h = refl
-rows-kept (d ∷ ds) all r h =
-    rows-kept ds (with_declaration all d) r (second_so (not (declares_row d)) (no_rows ds) h) ∙ row-kept all d r (first_so (not (declares_row d)) (no_rows ds) h)
+rows-kept (d ∷ ds) all r h = rows-kept ds (with_declaration all d) r (second_so _ _ h) ∙ row-kept all d r (first_so _ _ h)
 
 column-kept : (all : Draft) (d : Declaration) (c : List ℕ) → not (declares_column d) ≡ true → has_column (with_declaration all d) c ≡ has_column all c
-column-kept all d c h = grind arith
+column-kept = grind arith
 
 pub columns-kept : (ds : Declarations) (all : Draft) (c : List ℕ) → no_columns ds ≡ true → has_column (with_declarations all ds) c ≡ has_column all c
 columns-kept [] all c h = refl
-columns-kept (d ∷ ds) all c h =
-    columns-kept ds (with_declaration all d) c (second_so (not (declares_column d)) (no_columns ds) h) ∙ column-kept all d c (first_so (not (declares_column d)) (no_columns ds) h)
+columns-kept (d ∷ ds) all c h = columns-kept ds (with_declaration all d) c (second_so _ _ h) ∙ column-kept all d c (first_so _ _ h)
 
 -- ---- which lines declare none
 
@@ -142,25 +134,24 @@ each-declared p f (Some x) h = h x
 
 pub each-flat : {X : Type 0} (p : Declaration → Bool) (f : X → Declarations) (xs : List X) → ((x : X) → list_all p (f x) ≡ true) → list_all p (flat_map f xs) ≡ true
 each-flat p f [] h = refl
-each-flat p f (x ∷ xs) h = list_all-append p (f x) (flat_map f xs) ∙ both_so (list_all p (f x)) (list_all p (flat_map f xs)) (h x) (each-flat p f xs h)
+each-flat p f (x ∷ xs) h = list_all-append p _ (flat_map f xs) ∙ both_so _ _ (h x) (each-flat p f xs h)
 
 pub each-mapped : {X : Type 0} (p : Declaration → Bool) (f : X → Declaration) (xs : List X) → ((x : X) → p (f x) ≡ true) → list_all p (map f xs) ≡ true
 each-mapped p f [] h = refl
-each-mapped p f (x ∷ xs) h = both_so (p (f x)) (list_all p (map f xs)) (h x) (each-mapped p f xs h)
+each-mapped p f (x ∷ xs) h = both_so _ _ (h x) (each-mapped p f xs h)
 
 -- a sense that is declared
 pub sense-passes : (p : Declaration → Bool) → ((s : Sense) → p (declare_sense s) ≡ true) → (fields : Fields) → list_all p (declared_if_some sense_declared (word_shape fields)) ≡ true
 sense-passes p h fields =
     each-declared p sense_declared (word_shape fields)
-    (λ word. each-declared p (λ sense. declare_sense sense ∷ []) (sense_of word) (λ s. both_so (p (declare_sense s)) true (h s) refl))
+    (λ word. each-declared p (λ sense. declare_sense sense ∷ []) (sense_of word) (λ s. both_so _ _ (h s) refl))
 
 -- right-hand sides and ranges that are declared
 pub sides-passes : (p : Declaration → Bool) → ((r : List ℕ) (v : Number) → p (declare_rhs r v) ≡ true) → (earlier : Draft) (fields : Fields)
     → list_all p (declared_if_some (rhs_line_declared earlier) (vector_shape fields)) ≡ true
-sides-passes p h earlier fields = grind arith
+sides-passes = grind arith
 
 pub ranges-passes : (p : Declaration → Bool) → ((r : List ℕ) (v : Number) → p (declare_range r v) ≡ true) → (fields : Fields)
     → list_all p (declared_if_some ranges_declared (vector_shape fields)) ≡ true
 ranges-passes p h fields =
-    each-declared p ranges_declared (vector_shape fields)
-    (λ line. each-mapped p (λ (pair : Pair). declare_range pair.row (value_of pair.literal)) line.pairs (λ pair. h pair.row (value_of pair.literal)))
+    each-declared p ranges_declared _ (λ line. each-mapped p _ line.pairs (λ pair. h pair.row (value_of pair.literal)))

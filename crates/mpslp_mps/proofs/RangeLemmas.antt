@@ -1,13 +1,10 @@
 -- The first error of the ranges of a line.
-use Rattle.std.{proofs.Common.{arith, ◌≡◌, refl, ap, ◌∙◌, ℕ, List, [], ◌∷◌, Bool, true, false, not, cond}, specs.Prelude.{◌||◌, Option}}
-use Rattle.std.specs.Prelude.{Some, None, MatchResult}
-use Rattle.mpslp_decimal.specs.Decimal.{Number, is_infinite_size}
-use Rattle.mpslp_types.specs.{Name.same_bytes, declared.faults.FaultKind.FaultKind}
+use Rattle.mpslp_mps.proofs.Prelude
+use Prelude.{arith, ◌≡◌, refl, ap, ◌∙◌, ℕ, List, [], ◌∷◌, Bool, true, false, cond, ◌||◌, Option, Some, None, MatchResult, Number}
+use Prelude.{is_infinite_size, same_bytes, FaultKind, declare_range, Draft, with_declaration, has_name, has_row, is_objective, is_free_row}
+use Prelude.{is_row_by_limits, has-put, same_name, declared_fault, LineResult, IsErrorOf, earlier_of, declared-one, declared-append}
+use Rattle.std.proofs.Common.{not}
 use Rattle.mpslp_types.specs.declared.faults.FaultKind.TheVariants as kinds
-use Rattle.mpslp_builder.specs.Declaration.{declare_range, Draft, with_declaration, has_name, has_row, is_objective, is_free_row}
-use Rattle.mpslp_builder.{specs.Declaration.is_row_by_limits, proofs.SlotLemmas.{has-put, same_name}}
-use Rattle.mpslp_lines.{specs.{Declaring.declared_fault, LineAnswer.{LineResult, IsErrorOf}}, proofs.LeastLemmas.earlier_of}
-use Rattle.mpslp_lines.proofs.RefusedLemmas.{declared-one, declared-append}
 
 -- the kind of the error, by whether the row exists, has a range, cannot have one, and whether the value is infinite
 abbrev range_kind : Bool → Bool → Bool → Bool → Option FaultKind
@@ -22,13 +19,12 @@ has_no_sides all row = is_objective all row || is_free_row all row
 
 range_fault : (all : Draft) (row : List ℕ) (value : Number)
     → declared_fault all (declare_range row value ∷ []) ≡ range_kind (has_row all row) (is_ranged all row) (has_no_sides all row) (is_infinite_size value)
-range_fault all row value =
-    declared-one all (declare_range row value) refl
+range_fault all row value = declared-one all (declare_range row value) refl
 
 -- a range does not matter for another row
 range-apart : (all : Draft) (row : List ℕ) (value : Number) (other : List ℕ) (second : Number) → same_bytes other row ≡ false
     → declared_fault (with_declaration all (declare_range row value)) (declare_range other second ∷ []) ≡ declared_fault all (declare_range other second ∷ [])
-range-apart all row value other second apart = grind (arith, has-put, range_fault)
+range-apart = grind (arith, has-put, range_fault)
 
 pub ranges-apart : (all : Draft) (row : List ℕ) (value : Number) (other : List ℕ) (second : Number) → same_bytes other row ≡ false
     → declared_fault all (declare_range row value ∷ declare_range other second ∷ [])
@@ -43,13 +39,13 @@ pub second-range : (all : Draft) (row : List ℕ) (value : Number) (other : List
     → MatchResult answer (λ _. declared_fault all (declare_range other second ∷ []) ≡ None) (IsErrorOf (declared_fault all (declare_range other second ∷ [])))
     → MatchResult answer (λ _. declared_fault all (declare_range row value ∷ declare_range other second ∷ []) ≡ None)
     (IsErrorOf (declared_fault all (declare_range row value ∷ declare_range other second ∷ [])))
-second-range all row value other second answer apart none h = grind (arith, ranges-apart, earlier_of)
+second-range = grind (arith, ranges-apart, earlier_of)
 
 -- two ranges of the same row
 pub ranges-of_one : (all : Draft) (row : List ℕ) (value : Number) (other : List ℕ) (second : Number) → same_bytes other row ≡ true
     → declared_fault all (declare_range row value ∷ declare_range other second ∷ []) ≡ Some (cond (has_row all row) kinds.DuplicateRange kinds.UnknownRow)
 ranges-of_one all row value other second same =
-    let ranged = has-put other row value all.ranges ∙ ap (λ (b : Bool). b || has_name all.ranges other) same in
+    let ranged = has-put other row value all.ranges ∙ ap (λ b. b || has_name all.ranges other) same in
     let next = with_declaration all (declare_range row value) in
     declared-append (declare_range row value ∷ []) (declare_range other second ∷ []) all
     ∙ (λ i. earlier_of (range_fault all row value i) (range_fault next other second i))
@@ -58,4 +54,4 @@ ranges-of_one all row value other second same =
     ∙ by (has_row all row) (is_ranged all row) (has_no_sides all row) (is_infinite_size value)
   where
     by : (a b c d : Bool) → earlier_of (range_kind a b c d) (range_kind a true (has_no_sides all other) (is_infinite_size second)) ≡ Some (cond a kinds.DuplicateRange kinds.UnknownRow)
-    by a b c d = grind arith
+    by = grind arith

@@ -1,14 +1,11 @@
 -- The first error of the right-hand sides of a line.
-use Rattle.std.proofs.Common.{arith, rules, ◌≡◌, refl, sym, ap, ◌∙◌, ℕ, List, [], ◌∷◌, ◌++◌, Bool, true, false, not, cond}
-use Rattle.std.specs.Prelude.{◌&&◌, ◌||◌, Option, Some, None, is_some, MatchResult}
-use Rattle.mpslp_decimal.specs.Decimal.{Number}
-use Rattle.mpslp_types.specs.{Name.same_bytes, declared.faults.FaultKind.FaultKind}
+use Rattle.mpslp_mps.proofs.Prelude
+use Prelude.{arith, rules, ◌≡◌, refl, sym, ap, ◌∙◌, ℕ, List, [], ◌∷◌, ◌++◌, Bool, true, false, cond, ◌&&◌, ◌||◌, Option, Some, None}
+use Prelude.{is_some, MatchResult, Number, same_bytes, FaultKind, declare_rhs, Draft, with_declaration, with_declarations, has_name}
+use Prelude.{has_row, is_objective, is_free_row, is_row_by_limits, rhs_declared, has-put, same_name, declared_fault, LineResult, IsErrorOf}
+use Prelude.{LineError, earlier_of, declared-append, HasMpsSides}
+use Rattle.std.proofs.Common.{not}
 use Rattle.mpslp_types.specs.declared.faults.FaultKind.TheVariants as kinds
-use Rattle.mpslp_builder.specs.Declaration.{declare_rhs, Draft, with_declaration, with_declarations, has_name, has_row, is_objective}
-use Rattle.mpslp_builder.{specs.Declaration.{is_free_row, is_row_by_limits, rhs_declared}, proofs.SlotLemmas.{has-put, same_name}}
-use Rattle.mpslp_lines.specs.{Declaring.declared_fault, LineAnswer.{LineResult, IsErrorOf}, declared.errors.LineError.LineError}
-use Rattle.mpslp_lines.proofs.{LeastLemmas.earlier_of, RefusedLemmas.declared-append}
-use Rattle.mpslp_mps.specs.VectorDeclared.{HasMpsSides}
 
 -- ---- one right-hand side
 
@@ -21,14 +18,14 @@ abbrev pub side_kind : Bool → Bool → Option FaultKind
 side_kind there sided = cond (not there) (Some kinds.UnknownRow) (cond sided (Some kinds.DuplicateRhs) None)
 
 none_so : (b : Bool) (o : Option Number) → o ≡ None → (b && is_some o) ≡ false
-none_so b o h = grind arith
+none_so = grind arith
 
 -- N rows have no right-hand sides
 abbrev pub AreLimited : Draft → Type 0
 AreLimited all = (row : List ℕ) → is_free_row all row ≡ true → is_sided all row ≡ false
 
 limited-from : (all : Draft) → ((row : List ℕ) → is_free_row all row ≡ true → has_name all.rhs_values row ≡ false) → all.constant ≡ None → AreLimited all
-limited-from all limited constant row h = grind arith
+limited-from = grind arith
 
 pub limited : (all : Draft) → HasMpsSides all → AreLimited all
 limited all sides = limited-from all sides.limited sides.constant
@@ -36,7 +33,7 @@ limited all sides = limited-from all sides.limited sides.constant
 -- one right-hand side
 pub side_fault : (all : Draft) (row : List ℕ) (value : Number) → AreLimited all
     → declared_fault all (rhs_declared all row value) ≡ side_kind (has_row all row) (is_sided all row)
-side_fault all row value free_unsided = grind arith
+side_fault = grind arith
 
 -- ---- after a right-hand side
 
@@ -45,18 +42,18 @@ after_side all row value = with_declarations all (rhs_declared all row value)
 
 -- right-hand sides leave the rows unchanged
 same_row : (all : Draft) (row : List ℕ) (value : Number) (other : List ℕ) → has_row (after_side all row value) other ≡ has_row all other
-same_row all row value other = grind arith
+same_row = grind arith
 
 pub same_free : (all : Draft) (row : List ℕ) (value : Number) (other : List ℕ) → is_free_row (after_side all row value) other ≡ is_free_row all other
-same_free all row value other = grind arith
+same_free = grind arith
 
 same_side : (all : Draft) (row : List ℕ) (value : Number) (other : List ℕ) (second : Number)
     → rhs_declared (after_side all row value) other second ≡ rhs_declared all other second
-same_side all row value other second = ap (λ (b : Bool). cond b [] (declare_rhs other second ∷ [])) (same_free all row value other)
+same_side all row value other second = ap (λ b. cond b [] (declare_rhs other second ∷ [])) (same_free all row value other)
 
 side_known : (all : Draft) (row : List ℕ) (value : Number) → HasMpsSides all → has_row all row ≡ true → (q : List ℕ)
     → has_name (with_declaration all (declare_rhs row value)).rhs_values q ≡ true → has_row all q ≡ true
-side_known all row value sides there q h = search (rules, has-put, same_name)
+side_known = search (rules, has-put, same_name)
 
 side_limited : (all : Draft) (row : List ℕ) (value : Number) → HasMpsSides all → is_free_row all row ≡ false → (q : List ℕ)
     → is_free_row all q ≡ true → has_name (with_declaration all (declare_rhs row value)).rhs_values q ≡ false
@@ -70,7 +67,7 @@ limited-after all row value sides =
     ] refl
 
 pub sides-after : (all : Draft) (row : List ℕ) (value : Number) → HasMpsSides all → has_row all row ≡ true → HasMpsSides (after_side all row value)
-sides-after all row value sides there = grind (arith, limited, side_known, side_limited)
+sides-after = grind (arith, limited, side_known, side_limited)
 
 -- ---- two right-hand sides
 
@@ -88,11 +85,11 @@ both_fault all row value other second sides =
 
 pub row-unknown : (all : Draft) (row : List ℕ) (value : Number) (other : List ℕ) (second : Number) → HasMpsSides all → (has_row all row && has_row all other) ≡ false
     → both all row value other second ≡ Some kinds.UnknownRow
-row-unknown all row value other second sides h = grind (arith, both_fault, earlier_of)
+row-unknown = grind (arith, both_fault, earlier_of)
 
 pub first-refused : (all : Draft) (row : List ℕ) (value : Number) (other : List ℕ) (second : Number) (error : LineError) → HasMpsSides all → (has_row all row && has_row all other) ≡ true
     → IsErrorOf (declared_fault all (rhs_declared all row value)) error → IsErrorOf (both all row value other second) error
-first-refused all row value other second error sides h fault_is = grind (arith, both_fault, side_fault, limited, earlier_of)
+first-refused = grind (arith, both_fault, side_fault, limited, earlier_of)
 
 -- ---- right-hand sides that are checked before they are declared
 
@@ -101,19 +98,19 @@ abbrev is_again : Draft → List ℕ → List ℕ → Bool
 is_again all row other = same_bytes other row && not (is_free_row all row)
 
 sided_after : (all : Draft) (row : List ℕ) (value : Number) (other : List ℕ) → is_sided (after_side all row value) other ≡ (is_again all row other || is_sided all other)
-sided_after all row value other = grind (arith, has-put)
+sided_after = grind (arith, has-put)
 
 both_after : (all : Draft) (row : List ℕ) (value : Number) (other : List ℕ) (second : Number) → HasMpsSides all → declared_fault all (rhs_declared all row value) ≡ None
     → both all row value other second ≡ side_kind (has_row all other) (is_again all row other || is_sided all other)
-both_after all row value other second sides none = grind (arith, both_fault, earlier_of, sided_after, side_fault, limited)
+both_after = grind (arith, both_fault, earlier_of, sided_after, side_fault, limited)
 
 -- if the first one has no error
 pub given-again : (all : Draft) (row : List ℕ) (value : Number) (other : List ℕ) (second : Number) → HasMpsSides all → (has_row all row && has_row all other) ≡ true
     → declared_fault all (rhs_declared all row value) ≡ None → (same_bytes other row && not (is_free_row all row)) ≡ true → both all row value other second ≡ Some kinds.DuplicateRhs
-given-again all row value other second sides rows none again = grind (arith, both_after)
+given-again = grind (arith, both_after)
 
 pub given-apart : (all : Draft) (row : List ℕ) (value : Number) (other : List ℕ) (second : Number) (answer : LineResult) → HasMpsSides all
     → declared_fault all (rhs_declared all row value) ≡ None → (same_bytes other row && not (is_free_row all row)) ≡ false
     → MatchResult answer (λ _. declared_fault all (rhs_declared all other second) ≡ None) (IsErrorOf (declared_fault all (rhs_declared all other second)))
     → MatchResult answer (λ _. both all row value other second ≡ None) (IsErrorOf (both all row value other second))
-given-apart all row value other second answer sides none apart h = grind (arith, side_fault, limited, both_after)
+given-apart = grind (arith, side_fault, limited, both_after)

@@ -1,15 +1,11 @@
 -- The tests of a line are in the order of kinds.
-use Rattle.std.{proofs.Common.{arith, ◌≡◌, refl, ℕ, List, [], ◌∷◌, Bool, true, false, cond}, specs.Prelude.{not, is_some, Option, Some}}
-use Rattle.std.specs.Prelude.{None}
-use Rattle.mpslp_builder.specs.Declaration.{Draft}
+use Rattle.mpslp_mps.proofs.Prelude
+use Prelude.{arith, ◌≡◌, refl, ℕ, List, [], ◌∷◌, Bool, true, false, cond, not, is_some, Option, Some, None, Draft, Fields, LineContent}
+use Prelude.{word_shape, row_shape, column_shape, is_marker_line, marker_shape, vector_shape, bound_type, BoundType, Section, Name}
+use Prelude.{ObjSense, ObjName, Rows, Columns, Rhs, Ranges, Bounds, EndData, item_tests, header_tests, word_tests, row_line_tests}
+use Prelude.{is_sos_marker, marker_tests, marker_word_tests, typed_bound_tests, column_tests, vector_tests, data_tests, Context, FaultTests}
+use Prelude.{judged_by, are_rising}
 use Rattle.mpslp_types.specs.declared.faults.FaultKind.TheVariants as kinds
-use Rattle.mpslp_mps_fields.specs.{Line.{Fields, LineContent}, DataLine.{word_shape, row_shape, column_shape, is_marker_line, marker_shape}}
-use Rattle.mpslp_mps_fields.specs.{DataLine.{vector_shape, bound_type}, declared.bound_types.BoundType.BoundType}
-use Rattle.mpslp_mps_fields.specs.declared.sections.Section.{Section, TheVariants.{Name, ObjSense, ObjName, Rows, Columns, Rhs, Ranges}}
-use Rattle.mpslp_mps_fields.specs.declared.sections.Section.TheVariants.{Bounds, EndData}
-use Rattle.mpslp_mps.specs.LineFault.{item_tests, header_tests, word_tests, row_line_tests, is_sos_marker, marker_tests, marker_word_tests}
-use Rattle.mpslp_mps.specs.{LineFault.{typed_bound_tests, column_tests, vector_tests, data_tests}, Context.Context}
-use Rattle.mpslp_lines.{specs.FaultTests.{FaultTests, judged_by}, proofs.LeastLemmas.are_rising}
 
 -- tests in the order of kinds, after those of the length and the bytes of a line
 abbrev pub AreRising : FaultTests → Type 0
@@ -17,28 +13,27 @@ AreRising tests = are_rising ((false, kinds.LineTooLong) ∷ (false, kinds.BadBy
 
 -- and so are these tests without the latter
 pub rising-only : (tests : FaultTests) → AreRising tests → are_rising tests ≡ true
-rising-only tests h = grind arith
+rising-only = grind arith
 
 -- ---- by the shape of a line
 
 judged-rising : {X : Type 0} (tests : X → FaultTests) (o : Option X) → ((x : X) → AreRising (tests x)) → AreRising (judged_by tests o)
-judged-rising tests o h = grind arith
+judged-rising = grind arith
 
-typed-rising : (context : Context) (more : Fields) (o : Option BoundType)
-    → AreRising (typed_bound_tests context more o)
-typed-rising context more o = grind arith
+typed-rising : (context : Context) (more : Fields) (o : Option BoundType) → AreRising (typed_bound_tests context more o)
+typed-rising = grind arith
 
 rising-if : (b : Bool) (x y : FaultTests) → AreRising x → AreRising y → AreRising (cond b x y)
-rising-if b x y h k = grind arith
+rising-if = grind arith
 
 sense-rising : (b : Bool) (o : Option (List ℕ)) → AreRising ((b, kinds.SectionOrder) ∷ judged_by word_tests o)
-sense-rising b o = grind arith
+sense-rising = grind arith
 
 judged-after-order : (b : Bool) (o : Option (List ℕ)) → AreRising ((b, kinds.SectionOrder) ∷ judged_by (λ _. []) o)
-judged-after-order b o = grind arith
+judged-after-order = grind arith
 
 marker-rising : (b : Bool) (context : Context) (o : Option (List ℕ)) → AreRising ((b, kinds.Sos) ∷ judged_by (marker_word_tests context) o)
-marker-rising b context o = grind arith
+marker-rising = grind arith
 
 data-after : (context : Context) (earlier : Draft) (fields : Fields) (section : Option Section) → AreRising (data_tests context earlier fields section)
 data-after context earlier fields None = refl
@@ -55,10 +50,10 @@ data-after context earlier (letters ∷ more) (Some Bounds) = typed-rising conte
 data-after context earlier fields (Some EndData) = refl
 
 header-after : (context : Context) (earlier : Draft) (keyword : List ℕ) (more : Fields) (section : Option Section) → AreRising (header_tests context earlier keyword more section)
-header-after context earlier keyword more section = grind arith
+header-after = grind arith
 
 pub item-rising : (context : Context) (earlier : Draft) (item : LineContent) → AreRising (item_tests context earlier item)
-item-rising context earlier item = grind (arith, header-after)
+item-rising = grind (arith, header-after)
 
 pub data-rising : (context : Context) (earlier : Draft) (fields : Fields) (section : Option Section) → are_rising (data_tests context earlier fields section) ≡ true
 data-rising context earlier fields section = rising-only (data_tests context earlier fields section) (data-after context earlier fields section)

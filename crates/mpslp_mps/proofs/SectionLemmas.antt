@@ -1,40 +1,39 @@
 -- How one more line changes what is known of the lines before.
-use Rattle.std.proofs.{Common.{arith, ◌≡◌, refl, sym, ap, ◌∙◌, List, [], ◌∷◌, ◌++◌, append_assoc, Bool, false}, lemmas.List.append-nil}
-use Rattle.std.{proofs.lemmas.List.{Elements.filter_map-append, Folds.list_any-append}, specs.Prelude.{Option, Some, None, ◌||◌}}
-use Rattle.std.specs.{List.{last_or, cons_option}, Option.option_or}
-use Rattle.mpslp_mps_fields.specs.{Line.{LineContent, section_of_header, begins, is_section, has}, declared.sections.Section.Section}
-use Rattle.mpslp_mps.specs.{Context.{section_after, current_section, fields_under, said_after, data_lines}, SeenSection.has_section}
+use Rattle.mpslp_mps.proofs.Prelude
+use Prelude.{arith, ◌≡◌, refl, sym, ap, ◌∙◌, List, [], ◌∷◌, ◌++◌, append_assoc, Bool, false, append-nil, filter_map-append, list_any-append}
+use Prelude.{Option, Some, None, ◌||◌, last_or, cons_option, option_or, LineContent, section_of_header, begins, is_section, has, Section}
+use Prelude.{section_after, current_section, fields_under, said_after, data_lines, has_section}
 
 pub last_or-append : {X : Type 0} (o : Option X) (xs ys : List X) → last_or o (xs ++ ys) ≡ last_or (last_or o xs) ys
 last_or-append o [] ys = refl
 last_or-append o (x ∷ xs) ys = last_or-append (Some x) xs ys
 
 last-one : (o c : Option Section) → last_or c (cons_option o []) ≡ option_or o c
-last-one o c = grind arith
+last-one = grind arith
 
 -- the section after a line: the one that it begins, or the one before
 pub current_section-push : (before : List LineContent) (item : LineContent) → current_section (before ++ item ∷ []) ≡ option_or (section_of_header item) (current_section before)
-current_section-push before item = grind (arith, filter_map-append, last_or-append, last-one)
+current_section-push = grind (arith, filter_map-append, last_or-append, last-one)
 
 pub or_false : (b : Bool) → (b || false) ≡ b
-or_false b = grind arith
+or_false = grind arith
 
 -- sections, and optionally one more
 pub has-more : (section : Section) (begun : List Section) (o : Option Section) → has (begun ++ cons_option o []) section ≡ (has begun section || is_section section o)
-has-more section begun o = grind (arith, list_any-append, or_false)
+has-more = grind (arith, list_any-append, or_false)
 
 -- a section has begun after its header
 pub has_section-push : (section : Section) (before : List LineContent) (item : LineContent) → has_section (before ++ item ∷ []) section ≡ (has_section before section || begins section item)
-has_section-push section before item = grind (arith, filter_map-append, has-more)
+has_section-push = grind (arith, filter_map-append, has-more)
 
 pub has_section-append : (section : Section) (before items : List LineContent) → has_section (before ++ items) section ≡ (has_section before section || has_section items section)
-has_section-append section before items = grind (arith, filter_map-append, list_any-append)
+has_section-append = grind (arith, filter_map-append, list_any-append)
 
 pub has_section-cons : (section : Section) (item : LineContent) (before : List LineContent) → has_section (item ∷ before) section ≡ (begins section item || has_section before section)
-has_section-cons section item before = grind arith
+has_section-cons = grind arith
 
 section_after-cons : (current : Option Section) (x : LineContent) (before : List LineContent) → section_after current (x ∷ before) ≡ section_after (option_or (section_of_header x) current) before
-section_after-cons current x before = grind arith
+section_after-cons = grind arith
 
 -- what lines give where they are, including this one
 pub said_after-push : {X : Type 0} (says : Option Section → LineContent → List X) (current : Option Section) (before : List LineContent) (item : LineContent)
@@ -42,8 +41,8 @@ pub said_after-push : {X : Type 0} (says : Option Section → LineContent → Li
 said_after-push says current [] item = append-nil (says current item)
 said_after-push {X} says current (x ∷ before) item =
     let next = option_or (section_of_header x) current in
-    ap (λ (more : List X). says current x ++ more)
-    (said_after-push says next before item ∙ ap (λ (c : Option Section). said_after says next before ++ says c item) (sym (section_after-cons current x before)))
+    ap (λ more. says current x ++ more)
+    (said_after-push says next before item ∙ ap (λ c. said_after says next before ++ says c item) (sym (section_after-cons current x before)))
     ∙ sym (append_assoc (says current x) (said_after says next before) _)
 
 -- the data lines of a section, including this one if it is in the section

@@ -1,24 +1,20 @@
 -- What a line of a known shape does to the context, as `next_context` defines.
-use Rattle.std.{proofs.{Common.{arith, ◌≡◌, ℕ, List, [], ◌∷◌, ◌++◌, Bool, true, false, cond}, lemmas.List.append-nil}, specs.Prelude.Option}
-use Rattle.std.specs.{Prelude.{Some, None}, Option.{option_map, option_or}}
-use Rattle.mpslp_decimal.specs.Decimal.{Number}
-use Rattle.mpslp_types.specs.Name.{same_bytes}
-use Rattle.mpslp_mps_fields.specs.{Line.{Fields, header, data_line, is_section, section_named, section_of_word_due}, DataLine.word_shape}
-use Rattle.mpslp_mps_fields.specs.DataLine.{column_shape, is_marker_line, marker_shape, opening_word, vector_shape, BoundLine, bound_type}
-use Rattle.mpslp_mps_fields.specs.{DataLine.bound_shape, ObjNameHeader.header_objname, declared.bound_types.BoundType.BoundType}
-use Rattle.mpslp_mps_fields.specs.declared.sections.Section.{Section, TheVariants.{ObjName, Columns, Rhs, Ranges, Bounds}}
-use Rattle.mpslp_mps.specs.{Context.{Context, line_column, vector_set, bound_set}, NextContext.{next_part, next_set, next_context}}
-use Rattle.mpslp_mps.specs.{LineValues.named_values, ContextStep.{after_header, after_objname, after_marker, after_column, after_set}}
+use Rattle.mpslp_mps.proofs.Prelude
+use Prelude.{arith, ◌≡◌, ℕ, List, [], ◌∷◌, ◌++◌, Bool, true, false, cond, append-nil, Option, Some, None, option_map, option_or, Number}
+use Prelude.{same_bytes, Fields, header, data_line, is_section, section_named, section_of_word_due, word_shape, column_shape}
+use Prelude.{is_marker_line, marker_shape, opening_word, vector_shape, BoundLine, bound_type, bound_shape, header_objname, BoundType}
+use Prelude.{Section, ObjName, Columns, Rhs, Ranges, Bounds, Context, line_column, vector_set, bound_set, next_part, next_set, next_context}
+use Prelude.{named_values, after_header, after_objname, after_marker, after_column, after_set}
 
 -- a line that gives nothing leaves what is known unchanged
 same-option : {X : Type 0} (o : Option X) → option_or o None ≡ o
-same-option o = grind arith
+same-option = grind arith
 
 -- ---- headers
 
 pub step-header : (c : Context) (keyword : List ℕ) (more : Fields) (section : Section) → section_named keyword ≡ Some section
     → next_context c (header keyword more) ≡ after_header c section (section_of_word_due section more) (header_objname section more)
-step-header c keyword more section h = grind arith
+step-header = grind arith
 
 -- ---- data lines
 
@@ -37,28 +33,28 @@ under c fields section = record c {
 
 pub step-objname : (c : Context) (fields : Fields) (name : List ℕ) → c.section ≡ Some ObjName → word_shape fields ≡ Some name
     → next_context c (data_line fields) ≡ after_objname c name
-step-objname c fields name h k = grind (arith, append-nil)
+step-objname = grind (arith, append-nil)
 
 pub step-column : (c : Context) (fields : Fields) (column : List ℕ) (values : List (List ℕ × Number)) → c.section ≡ Some Columns → is_marker_line fields ≡ false
     → option_map named_values (column_shape fields) ≡ Some (column, values) → next_context c (data_line fields) ≡ after_column c column
-step-column c fields column values h plain k = grind (arith, append-nil, same-option)
+step-column = grind (arith, append-nil, same-option)
 
 pub step-marker : (c : Context) (fields : Fields) (opens : Bool) → c.section ≡ Some Columns → is_marker_line fields ≡ true
     → option_map (same_bytes opening_word) (marker_shape fields) ≡ Some opens → next_context c (data_line fields) ≡ after_marker c opens
-step-marker c fields opens h marked k = grind (arith, append-nil, same-option)
+step-marker = grind (arith, append-nil, same-option)
 
 -- the set name of a line of RHS or RANGES
 set-of : (fields : Fields) (set : List ℕ) (values : List (List ℕ × Number)) → option_map named_values (vector_shape fields) ≡ Some (set, values) → vector_set fields ≡ Some set
-set-of fields set values k = grind arith
+set-of = grind arith
 
 pub step-right_side : (c : Context) (fields : Fields) (set : List ℕ) (values : List (List ℕ × Number)) → c.section ≡ Some Rhs
     → option_map named_values (vector_shape fields) ≡ Some (set, values) → next_context c (data_line fields) ≡ after_set c Rhs set
-step-right_side c fields set values h k = grind (arith, append-nil, same-option, set-of)
+step-right_side = grind (arith, append-nil, same-option, set-of)
 
 pub step-range : (c : Context) (fields : Fields) (set : List ℕ) (values : List (List ℕ × Number)) → c.section ≡ Some Ranges
     → option_map named_values (vector_shape fields) ≡ Some (set, values) → next_context c (data_line fields) ≡ after_set c Ranges set
-step-range c fields set values h k = grind (arith, append-nil, same-option, set-of)
+step-range = grind (arith, append-nil, same-option, set-of)
 
 pub step-bound : (c : Context) (letters : List ℕ) (more : Fields) (type : BoundType) (line : BoundLine) → c.section ≡ Some Bounds → bound_type letters ≡ Some type
     → bound_shape type more ≡ Some line → next_context c (data_line (letters ∷ more)) ≡ after_set c Bounds line.set
-step-bound c letters more type line h t k = grind (arith, append-nil, same-option)
+step-bound = grind (arith, append-nil, same-option)

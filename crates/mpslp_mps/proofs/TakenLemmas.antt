@@ -1,17 +1,12 @@
 -- The first error of a data line, by its section.
-use Rattle.std.{proofs.Common.{arith, ◌≡◌, refl, ap, ◌∙◌, ℕ, List, [], ◌∷◌, ◌++◌, true, false, map}, specs.Prelude.{Option, Some, None}}
-use Rattle.std.specs.{List.{list_all, flat_map}, Option.option_map}
-use Rattle.mpslp_decimal.specs.Decimal.{Number}
-use Rattle.mpslp_builder.specs.Declaration.{Declarations, Draft, declare_range, rhs_declared}
-use Rattle.mpslp_types.specs.{Lists.those_of, FaultOrder.least_kind, declared.faults.FaultKind.FaultKind}
+use Rattle.mpslp_mps.proofs.Prelude
+use Prelude.{arith, ◌≡◌, refl, ap, ◌∙◌, ℕ, List, [], ◌∷◌, ◌++◌, true, false, map, Option, Some, None, list_all, flat_map, option_map}
+use Prelude.{Number, Declarations, Draft, declare_range, rhs_declared, those_of, least_kind, FaultKind, Fields, data_line, Pair, ValuesLine}
+use Prelude.{Section, Context, declared_if_some, rhs_line_declared, ranges_declared, data_declared, vector_tests, bound_line_tests}
+use Prelude.{data_tests, item_fault, row_value, named_values, rhs_values_declared, ranges_of, value_of, FaultTests, judged_by, first_held}
+use Prelude.{declaring_faults, declared_fault, is_from, has_kind_clash, form-first, is_after_clash, clash-first, declared-first, held-among}
+use Rattle.mpslp_mps.proofs.RisingTests.{data-rising}
 use Rattle.mpslp_types.specs.declared.faults.FaultKind.TheVariants as kinds
-use Rattle.mpslp_mps_fields.specs.{Line.{Fields, data_line}, DataLine.{Pair, ValuesLine}, declared.sections.Section.Section}
-use Rattle.mpslp_mps.specs.{Context.Context, LineDeclarations.{declared_if_some, rhs_line_declared, ranges_declared, data_declared}}
-use Rattle.mpslp_mps.specs.{LineFault.{vector_tests, bound_line_tests, data_tests}, LineAnswer.item_fault, LineValues.row_value}
-use Rattle.mpslp_mps.{specs.{LineValues.named_values, VectorDeclared.{rhs_values_declared, ranges_of}}, proofs.RisingTests.data-rising}
-use Rattle.mpslp_lines.specs.{FaultTests.{value_of, FaultTests, judged_by, first_held}, Declaring.{declaring_faults, declared_fault}}
-use Rattle.mpslp_lines.proofs.{LeastLemmas.is_from, ClashLemmas.has_kind_clash, FirstFaultLemmas.{form-first, is_after_clash, clash-first}}
-use Rattle.mpslp_lines.proofs.{FirstFaultLemmas.declared-first, HeldLemmas.held-among}
 
 -- all kinds of the tests come before those of what is declared
 abbrev pub are_early : FaultTests → Type 0
@@ -35,7 +30,7 @@ pub clash-reported : (context : Context) (earlier : Draft) (fields : Fields) (se
     → list_all (λ test. is_after_clash test.1) (data_tests context earlier fields section) ≡ true → has_kind_clash earlier (data_declared context earlier fields section) ≡ true
     → data_fault context earlier fields ≡ Some kinds.SemiContinuous
 clash-reported context earlier fields section h following clash =
-    ap (λ (s : Option Section). least_kind (those_of (data_tests context earlier fields s) ++ declaring_faults earlier (data_declared context earlier fields s))) h
+    ap (λ s. least_kind (those_of (data_tests context earlier fields s) ++ declaring_faults earlier (data_declared context earlier fields s))) h
     ∙ clash-first (data_tests context earlier fields section) earlier (data_declared context earlier fields section) (data-rising context earlier fields section) following clash
 
 -- no error of the form of the line
@@ -56,25 +51,25 @@ vector-early first (Some line) = refl
 
 sides-pairs : (earlier : Draft) (pairs : List Pair) → flat_map (λ (pair : Pair). rhs_declared earlier pair.row (value_of pair.literal)) pairs ≡ rhs_values_declared earlier (map row_value pairs)
 sides-pairs earlier [] = refl
-sides-pairs earlier (pair ∷ pairs) = ap (λ (more : Declarations). rhs_declared earlier pair.row (value_of pair.literal) ++ more) (sides-pairs earlier pairs)
+sides-pairs earlier (pair ∷ pairs) = ap (λ more. rhs_declared earlier pair.row (value_of pair.literal) ++ more) (sides-pairs earlier pairs)
 
 pub rhs_values-are : (earlier : Draft) (o : Option ValuesLine) (set : List ℕ) (values : List (List ℕ × Number)) → option_map named_values o ≡ Some (set, values)
     → declared_if_some (rhs_line_declared earlier) o ≡ rhs_values_declared earlier values
-rhs_values-are earlier o set values h = grind (arith, sides-pairs)
+rhs_values-are = grind (arith, sides-pairs)
 
 ranges-pairs : (pairs : List Pair) → map (λ (pair : Pair). declare_range pair.row (value_of pair.literal)) pairs ≡ ranges_of (map row_value pairs)
 ranges-pairs [] = refl
-ranges-pairs (pair ∷ pairs) = ap (λ (more : Declarations). declare_range pair.row (value_of pair.literal) ∷ more) (ranges-pairs pairs)
+ranges-pairs (pair ∷ pairs) = ap (λ more. declare_range pair.row (value_of pair.literal) ∷ more) (ranges-pairs pairs)
 
 pub ranges-are : (o : Option ValuesLine) (set : List ℕ) (values : List (List ℕ × Number)) → option_map named_values o ≡ Some (set, values)
     → declared_if_some ranges_declared o ≡ ranges_of values
-ranges-are o set values h = grind (arith, ranges-pairs)
+ranges-are = grind (arith, ranges-pairs)
 
 -- ---- lines of BOUNDS
 
 pub bounds-early : (context : Context) (letters : List ℕ) (more : Fields) → are_early (bound_line_tests context (letters ∷ more))
-bounds-early context letters more = grind arith
+bounds-early = grind arith
 
 -- all tests of a line of BOUNDS come after that for a clash of types
 pub bounds-after : (context : Context) (letters : List ℕ) (more : Fields) → list_all (λ test. is_after_clash test.1) (bound_line_tests context (letters ∷ more)) ≡ true
-bounds-after context letters more = grind arith
+bounds-after = grind arith

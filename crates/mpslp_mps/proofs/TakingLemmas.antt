@@ -1,14 +1,11 @@
 -- Data lines that are accepted, and those that are not.
-use Rattle.std.{proofs.Common.{arith, ◌≡◌, Bool, true, false}, specs.{Prelude.{Some, None, Ok}, List.list_all}}
-use Rattle.mpslp_builder.specs.Declaration.{Declarations, Draft, with_declarations}
-use Rattle.mpslp_types.specs.declared.faults.FaultKind.{FaultKind}
+use Rattle.mpslp_mps.proofs.Prelude
+use Prelude.{arith, ◌≡◌, Bool, true, false, Some, None, Ok, list_all, Declarations, Draft, with_declarations, FaultKind, Fields, data_line}
+use Prelude.{Section, Context, next_context, data_tests, data_declared, ReadsContent, first_held, declared_fault, IsErrorOf, LineError}
+use Prelude.{OutOfMemory, is_from, has_kind_clash}
+use Rattle.mpslp_lines.specs.declared.errors.LineError.TheVariants.{Fault}
+use Rattle.mpslp_mps.proofs.TakenLemmas.{data_fault, data_fault-form, data_fault-declared, declared-is}
 use Rattle.mpslp_types.specs.declared.faults.FaultKind.TheVariants as kinds
-use Rattle.mpslp_mps_fields.specs.{Line.{Fields, data_line}, declared.sections.Section.Section}
-use Rattle.mpslp_mps.specs.{Context.Context, NextContext.next_context, LineFault.data_tests, LineDeclarations.data_declared}
-use Rattle.mpslp_mps.{specs.LineAnswer.ReadsContent, proofs.TakenLemmas.{data_fault, data_fault-form, data_fault-declared, declared-is}}
-use Rattle.mpslp_lines.specs.{FaultTests.first_held, Declaring.declared_fault, LineAnswer.IsErrorOf, declared.errors.LineError.LineError}
-use Rattle.mpslp_lines.{specs.declared.errors.LineError.TheVariants.{Fault, OutOfMemory}, proofs.LeastLemmas.is_from}
-use Rattle.mpslp_lines.proofs.ClashLemmas.{has_kind_clash}
 
 -- a kind that comes before all those of what is declared
 abbrev pub is_early : Bool × FaultKind → Bool

@@ -1,9 +1,8 @@
 -- What the lines of a text determine together.
-use Rattle.std.{proofs.Common.{arith, ◌≡◌, sym, ℕ, List, [], Bool, cond}, specs.{Prelude.{Option, Some, None}, Str.Lines.lines}}
-use Rattle.mpslp_builder.specs.{Declaration.{Draft, empty_draft, draft_of}, FileFault.{whole_fault, file_fault}}
-use Rattle.mpslp_types.specs.declared.faults.{Fault.Fault, FaultKind.TheVariants.MissingEnd}
-use Rattle.mpslp_mps.specs.{Context.context_of, MpsText.{has_end, declarations_of}, FirstFault.first_mps_fault, LineByLine.fault_from}
-use Rattle.mpslp_mps.{specs.{LineByLine.draft_from, ReadAnswer.lines_to_end}, proofs.ReadingLemmas.{first_fault-is, draft-is}}
+use Rattle.mpslp_mps.proofs.Prelude
+use Prelude.{arith, ◌≡◌, sym, ℕ, List, [], Bool, cond, Option, Some, None, lines, Draft, empty_draft, draft_of, whole_fault, file_fault}
+use Prelude.{Fault, MissingEnd, context_of, has_end, declarations_of, first_mps_fault, fault_from, draft_from, lines_to_end}
+use Rattle.mpslp_mps.proofs.ReadingLemmas.{first_fault-is, draft-is}
 
 -- the error of the first line that has one
 abbrev pub fault_of_lines : List ℕ → Option Fault
@@ -17,7 +16,7 @@ abbrev whole : List ℕ → Bool → Option Fault
 whole bytes ended = cond ended (file_fault (draft_of (declarations_of bytes))) (Some (whole_fault MissingEnd None))
 
 pub first_fault-whole : (bytes : List ℕ) (ended : Bool) → fault_of_lines bytes ≡ None → has_end bytes ≡ ended → first_mps_fault bytes ≡ whole bytes ended
-first_fault-whole bytes ended none is = grind (arith, first_fault-is)
+first_fault-whole = grind (arith, first_fault-is)
 
 pub draft-whole : (bytes : List ℕ) → draft_lines bytes ≡ draft_of (declarations_of bytes)
 draft-whole bytes = sym (draft-is bytes)

@@ -1,21 +1,15 @@
 -- A line of COLUMNS whose declarations are made has no error.
-use Rattle.std.{proofs.Common.{arith, rules, ◌≡◌, refl, sym, ap, ◌∙◌, ℕ, List, [], ◌∷◌, Bool, true, false, cond, map}, specs.Prelude.not}
-use Rattle.std.specs.{Prelude.{Option, Some, None, Result, Ok, Err, ◌&&◌}, List.flat_map, Option.{option_map, option_map_or}}
-use Rattle.mpslp_decimal.specs.Decimal.{Number}
-use Rattle.mpslp_types.specs.{Name.{same_bytes, is_mps_name}, FaultOrder.least_kind, declared.faults.BuildFault.BuildFault}
-use Rattle.mpslp_types.specs.declared.faults.FaultKind.TheVariants as kinds
-use Rattle.mpslp_builder.specs.Declaration.{Draft, declare_coefficient, with_declaration, with_declarations, has_column, is_semi}
-use Rattle.mpslp_builder.specs.{Refusal.refusals_in_turn, Made.IsMade, ColumnLine.{column_line, TakesLine}}
-use Rattle.mpslp_builder.proofs.{AnswerLemmas.column_is_legal, MadeDrafts.with_declarations-append, LaterDrafts.objective_is}
-use Rattle.mpslp_lines.specs.{Declaring.declared_fault, FaultTests.{kind_of_build_fault, judged_by, first_held, number_tests}}
-use Rattle.mpslp_lines.{specs.declared.errors.LineError.LineError, proofs.{LeastLemmas.earlier_of, DeclaringLemmas.declared-after}}
-use Rattle.mpslp_mps_fields.specs.{Line.{Fields, data_line}, DataLine.{ValuesLine, column_shape, is_marker_line}}
-use Rattle.mpslp_mps_fields.specs.declared.sections.Section.TheVariants.{Columns}
-use Rattle.mpslp_mps.specs.{Context.Context, ContextStep.{after_column, after_data}, LineFault.{is_split, literals_of}}
-use Rattle.mpslp_mps.specs.{LineValues.named_values, LineAnswer.{item_fault, ReadsContent, MayRead}, ColumnDeclared.front_declared}
-use Rattle.mpslp_mps.specs.{ColumnDeclared.value_declared, UsualLine.{usual_declared, TakesUsual, MayPass}}
-use Rattle.mpslp_mps.proofs.{ColumnTaking.{front-none, front-there}, ColumnLine.{field_tests, with_column, column-fault, column-declares}}
+use Rattle.mpslp_mps.proofs.Prelude
+use Prelude.{arith, rules, ◌≡◌, refl, sym, ap, ◌∙◌, ℕ, List, [], ◌∷◌, Bool, true, false, cond, map, not, Option, Some, None, Result, Ok}
+use Prelude.{Err, ◌&&◌, flat_map, option_map, option_map_or, Number, same_bytes, is_mps_name, least_kind, Draft, declare_coefficient}
+use Prelude.{with_declaration, with_declarations, has_column, is_semi, refusals_in_turn, IsMade, column_line, TakesLine, column_is_legal}
+use Prelude.{with_declarations-append, objective_is, declared_fault, kind_of_build_fault, judged_by, first_held, number_tests, LineError}
+use Prelude.{earlier_of, declared-after, Fields, data_line, ValuesLine, column_shape, is_marker_line, Columns, Context, after_column}
+use Prelude.{after_data, is_split, literals_of, named_values, item_fault, ReadsContent, MayRead, front_declared, value_declared}
+use Prelude.{usual_declared, TakesUsual, MayPass}
+use Rattle.mpslp_mps.proofs.{ColumnLine.{field_tests, with_column, column-fault, column-declares}, ColumnTaking.{front-none, front-there}}
 use Rattle.mpslp_mps.proofs.StepLemmas.{step-column}
+use Rattle.mpslp_types.specs.declared.faults.FaultKind.TheVariants as kinds
 
 -- ---- the name of the column
 
@@ -30,8 +24,8 @@ pub usual-named : (earlier later : Draft) (marked : Bool) (column : List ℕ) (v
 usual-named earlier later marked column values is made =
     let front = front_declared marked column in
     column_is_legal later column made
-    (ap (λ (d : Draft). has_column d column) (is ∙ with_declarations-append front (flat_map (value_declared column) values) earlier)
-    ∙ values-keep values (with_declarations earlier front) column ∙ front-there earlier marked column)
+    (ap (λ d. has_column d column) (is ∙ with_declarations-append front _ earlier)
+    ∙ values-keep values _ column ∙ front-there earlier marked column)
 
 -- the builder's result, with the name
 pub usual-taken : (earlier later : Draft) (marked : Bool) (column : List ℕ) (values : List (List ℕ × Number)) (is_done : Bool) → TakesLine earlier (column_line marked column values) (Ok is_done) later
@@ -44,16 +38,16 @@ usual-taken earlier later marked column values false taken made = taken
 -- a legal name has no error
 fields-held : (parts : Option ValuesLine) (column : List ℕ) (values : List (List ℕ × Number)) → is_mps_name column ≡ true → option_map named_values parts ≡ Some (column, values)
     → first_held (judged_by (λ line. number_tests (literals_of line.pairs)) parts) ≡ None → first_held (judged_by field_tests parts) ≡ None
-fields-held parts column values legal is held = grind arith
+fields-held = grind arith
 
 -- a column that is declared marked is not semi-continuous
 semi-apart : (earlier : Draft) (marked : Bool) (column : List ℕ) (values : List (List ℕ × Number)) → refusals_in_turn earlier (usual_declared marked column values) ≡ []
     → (marked && is_semi earlier column) ≡ false
-semi-apart earlier marked column values free = grind arith
+semi-apart = grind arith
 
 clash-apart : (context : Context) (earlier : Draft) (parts : Option ValuesLine) (column : List ℕ) (values : List (List ℕ × Number)) → option_map named_values parts ≡ Some (column, values)
     → (context.in_integer_part && is_semi earlier column) ≡ false → (context.in_integer_part && option_map_or (λ line. is_semi earlier line.name) parts false) ≡ false
-clash-apart context earlier parts column values is apart = grind arith
+clash-apart = grind arith
 
 -- ---- the line
 
@@ -67,13 +61,13 @@ module _ (context : Context) (earlier : Draft) (fields : Fields) (column : List 
       let more = flat_map (value_declared column) values in
       let apart = semi-apart earlier marked column values free in
       let none : declared_fault (with_column context earlier column) more ≡ None =
-      sym (declared-after earlier front more (front-none earlier marked column apart)) ∙ ap (λ (faults : List BuildFault). least_kind (map kind_of_build_fault faults)) free in
-      column-fault context earlier fields column values here plain (clash-apart context earlier (column_shape fields) column values is apart) (fields-held (column_shape fields) column values legal is held) is
+      sym (declared-after earlier front more (front-none earlier marked column apart)) ∙ ap (λ faults. least_kind (map kind_of_build_fault faults)) free in
+      column-fault context earlier fields column values here plain (clash-apart context earlier _ column values is apart) (fields-held _ column values legal is held) is
       ∙ (λ i. earlier_of (cond (split i) (Some kinds.ColumnSplit) None) (none i))
 
   pub usual-read : (next : Context) (later : Draft) → next ≡ after_column context column → later ≡ with_declarations earlier (usual_declared context.in_integer_part column values)
       → ReadsContent context earlier (data_line fields) (Ok tt) next later
-  usual-read next later step declared = search (rules, usual-fault, step-column, column-declares)
+  usual-read = search (rules, usual-fault, step-column, column-declares)
 
 -- the same for all results
 pub usual-passed : (context : Context) (earlier : Draft) (fields : Fields) (column : List ℕ) (values : List (List ℕ × Number)) → context.section ≡ Some Columns → is_marker_line fields ≡ false
@@ -87,13 +81,13 @@ usual-passed context earlier fields column values here plain held is (Err error)
 -- ---- the last column
 
 not-split : (there last : Bool) → last ≡ true → (there && not last) ≡ false
-not-split there last h = grind arith
+not-split = grind arith
 
 -- another line of it changes the context as a data line does
 pub next-passed : (context : Context) (earlier later : Draft) (column : List ℕ) (values : List (List ℕ × Number)) → option_map_or (same_bytes column) context.last_column false ≡ true
     → TakesUsual earlier context.in_integer_part column values (Ok true) later → MayPass context earlier column values (Ok true) (after_data context) later
-next-passed context earlier later column values last taken = grind (arith, not-split, objective_is)
+next-passed = grind (arith, not-split, objective_is)
 
 -- a column that is not declared is not split
 pub first-split : (context : Context) (earlier : Draft) (column : List ℕ) → has_column earlier column ≡ false → is_split context earlier column ≡ false
-first-split context earlier column absent = ap (λ (b : Bool). b && not (option_map_or (same_bytes column) context.last_column false)) absent
+first-split context earlier column absent = ap (λ b. b && not (option_map_or (same_bytes column) context.last_column false)) absent

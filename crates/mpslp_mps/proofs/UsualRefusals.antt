@@ -1,21 +1,17 @@
 -- A line of COLUMNS without an error passes each test of the code that reads usual lines.
-use Rattle.std.{proofs.Common.{arith, ◌≡◌, refl, sym, ap, ◌∙◌, ℕ, List, [], ◌∷◌, Bool, true, false, cond, not}, specs.Prelude.{◌≢◌, ◌&&◌}}
-use Rattle.std.specs.{Prelude.{Option, Some, None, Result, Ok}, Option.{option_map, option_map_or}}
-use Rattle.mpslp_decimal.specs.Decimal.{Number}
-use Rattle.mpslp_types.specs.{Name.same_bytes, NameTests.name_refusal, Lists.those_of}
-use Rattle.mpslp_builder.specs.{Declaration.{Draft, has_column}, Refusal.refusals_in_turn}
-use Rattle.mpslp_lines.{specs.FaultTests.{FaultTests, judged_by, first_held, number_tests}, proofs.FirstFaultLemmas.IsFaultless}
-use Rattle.mpslp_lines.proofs.FirstFaultLemmas.{faultless}
-use Rattle.mpslp_mps_fields.specs.{Line.{Fields, data_line}, DataLine.{ValuesLine, column_shape, is_marker_line}}
-use Rattle.mpslp_mps_fields.specs.declared.sections.Section.TheVariants.{Columns}
-use Rattle.mpslp_mps.specs.{Context.Context, LineFault.{is_split, literals_of, column_tests, data_tests}, LineDeclarations.data_declared}
-use Rattle.mpslp_mps.specs.{LineDeclarations.line_declares, LineValues.named_values, LineAnswer.item_fault, UsualLine.usual_declared}
+use Rattle.mpslp_mps.proofs.Prelude
+use Prelude.{arith, ◌≡◌, refl, sym, ap, ◌∙◌, ℕ, List, [], ◌∷◌, Bool, true, false, cond, ◌≢◌, ◌&&◌, Option, Some, None, Result, Ok}
+use Prelude.{option_map, option_map_or, Number, same_bytes, name_refusal, those_of, Draft, has_column, refusals_in_turn, FaultTests}
+use Prelude.{judged_by, first_held, number_tests, IsFaultless, faultless, Fields, data_line, ValuesLine, column_shape, is_marker_line}
+use Prelude.{Columns, Context, is_split, literals_of, column_tests, data_tests, data_declared, line_declares, named_values, item_fault}
+use Prelude.{usual_declared}
+use Rattle.std.proofs.Common.{not}
 use Rattle.mpslp_mps.proofs.ColumnLine.{plain-tests, column-declares}
 
 -- ---- tests
 
 by_test : {X : Type 0} (b : Bool) (x : X) (xs : List X) (o : Option X) → (xs ≡ [] → o ≡ None) → cond b (x ∷ xs) xs ≡ [] → cond b (Some x) o ≡ None
-by_test b x xs o rest h = grind arith
+by_test = grind arith
 
 held-none : (tests : FaultTests) → those_of tests ≡ [] → first_held tests ≡ None
 held-none [] h = refl
@@ -23,17 +19,17 @@ held-none (test ∷ more) h = by_test test.0 test.1 (those_of more) (first_held 
 
 numbers-fine : (context : Context) (earlier : Draft) (parts : Option ValuesLine) → first_held (judged_by (column_tests context earlier) parts) ≡ None
     → first_held (judged_by (λ line. number_tests (literals_of line.pairs)) parts) ≡ None
-numbers-fine context earlier parts h = grind arith
+numbers-fine = grind arith
 
 column-fine : (context : Context) (earlier : Draft) (parts : Option ValuesLine) (column : List ℕ) (values : List (List ℕ × Number)) → option_map named_values parts ≡ Some (column, values)
     → first_held (judged_by (column_tests context earlier) parts) ≡ None → (name_refusal column ≡ None) × (is_split context earlier column ≡ false)
-column-fine context earlier parts column values is h = grind arith
+column-fine = grind arith
 
 -- ---- the line
 
 module _ (context : Context) (earlier : Draft) (fields : Fields) (here : context.section ≡ Some Columns) (plain : is_marker_line fields ≡ false) (fine : item_fault context earlier (data_line fields) ≡ None) where
   parts : IsFaultless (data_tests context earlier fields context.section) earlier (line_declares context earlier (data_line fields))
-  parts = faultless (data_tests context earlier fields context.section) earlier (line_declares context earlier (data_line fields)) fine
+  parts = faultless _ earlier _ fine
 
   form : first_held (judged_by (column_tests context earlier) (column_shape fields)) ≡ None
   form = grind (arith, held-none, plain-tests, parts)
@@ -45,7 +41,7 @@ module _ (context : Context) (earlier : Draft) (fields : Fields) (here : context
   module _ (column : List ℕ) (values : List (List ℕ × Number)) (is : option_map named_values (column_shape fields) ≡ Some (column, values)) where
     -- its name is legal
     pub usual-legal : name_refusal column ≡ None
-    usual-legal = (column-fine context earlier (column_shape fields) column values is form).0
+    usual-legal = (column-fine context earlier _ column values is form).0
 
     -- none of its declarations is rejected
     pub usual-unrefused : refusals_in_turn earlier (usual_declared context.in_integer_part column values) ≡ []
@@ -57,7 +53,7 @@ module _ (context : Context) (earlier : Draft) (fields : Fields) (here : context
     pub usual-new : option_map_or (same_bytes column) context.last_column false ≡ false → has_column earlier column ≡ false
     usual-new other =
         by (has_column earlier column) (option_map_or (same_bytes column) context.last_column false) other
-        (column-fine context earlier (column_shape fields) column values is form).1
+        (column-fine context earlier _ column values is form).1
       where
         by : (there last : Bool) → last ≡ false → (there && not last) ≡ false → there ≡ false
         by true false e h = h

@@ -1,11 +1,15 @@
 -- Worked files: each declares a model, by computation.
-use Rattle.std.{proofs.Common.{◌≡◌, refl, ap}, specs.Prelude.{ℕ, Bool, Option, Some, None, List, ◌∷◌, [], ◌++◌, map, take, drop, true}}
-use Rattle.std.specs.{Prelude.{◌==◌, if◌then◌else◌, codes}, List.{list_all, flat_map}}
+use Rattle.mpslp_mps.proofs.Prelude
+use Prelude.{◌≡◌, refl, ap, Option, Some, None, drop, ◌==◌, if◌then◌else◌, codes, list_all, flat_map, Draft, empty_draft, draft_of}
+use Prelude.{has_objective, refusals_in_turn, is_legal, model_of, file_fault, means-from_none, Fault, BuildFault, is_mps_text}
+use Prelude.{declarations_of, DeclaresMps}
+use Rattle.std.specs.{Prelude.{ℕ, Bool, List, ◌∷◌, [], ◌++◌, map, take, true}, Str.Lines.{lines}}
+use Prim.Native.String.{String}
 use Rattle.mpslp_decimal.specs.Decimal.{trailing_zeros}
-use Rattle.mpslp_builder.specs.{Declaration.{Draft, empty_draft, draft_of}, Consistency.has_objective, Refusal.refusals_in_turn}
-use Rattle.mpslp_builder.{specs.{Made.is_legal, Meaning.model_of, FileFault.file_fault}, proofs.Acceptance.means-from_none}
-use Rattle.mpslp_types.specs.declared.faults.{Fault.Fault, BuildFault.BuildFault}
-use Rattle.mpslp_mps.specs.MpsText.{is_mps_text, declarations_of, DeclaresMps}
+
+-- the lines of a text
+abbrev pub lines_of : String → List (List ℕ)
+lines_of s = lines (codes s)
 
 -- lines, each followed by a line feed
 abbrev pub text : List (List ℕ) → List ℕ
@@ -44,9 +48,8 @@ passes-from_tests bytes h =
 
 abbrev pub small_lines : List (List ℕ)
 small_lines =
-    codes "NAME          SMALL" ∷ codes "ROWS" ∷ codes " N  COST" ∷ codes " L  LIM1" ∷ codes " G  MYG" ∷ codes "COLUMNS"
-    ∷ codes "    X  COST  1.0  LIM1  1" ∷ codes "    Y  COST  2  MYG  1.50" ∷ codes "RHS"
-    ∷ codes "    RHS  LIM1  4  MYG  1" ∷ codes "ENDATA" ∷ []
+    lines_of "NAME          SMALL\nROWS\n N  COST\n L  LIM1\n G  MYG\nCOLUMNS\n    X  COST  1.0  LIM1  1"
+    ++ lines_of "    Y  COST  2  MYG  1.50\nRHS\n    RHS  LIM1  4  MYG  1\nENDATA"
 
 abbrev pub small : List ℕ
 small = text small_lines
@@ -63,26 +66,23 @@ small_with_text_after_end = text (small_lines ++ (128 ∷ []) ∷ [])
 
 abbrev pub small_again_lines : List (List ℕ)
 small_again_lines =
-    codes "NAME" ∷ codes "ROWS" ∷ codes " N  COST" ∷ codes " L  LIM1" ∷ codes " G  MYG" ∷ codes "COLUMNS"
-    ∷ codes "    X  COST  1" ∷ codes "    X  LIM1  1" ∷ codes "    Y  COST  2" ∷ codes "    Y  MYG  1.5" ∷ codes "RHS"
-    ∷ codes "    RHS  LIM1  4" ∷ codes "    RHS  MYG  1" ∷ codes "ENDATA" ∷ []
+    lines_of "NAME\nROWS\n N  COST\n L  LIM1\n G  MYG\nCOLUMNS\n    X  COST  1\n    X  LIM1  1\n    Y  COST  2"
+    ++ lines_of "    Y  MYG  1.5\nRHS\n    RHS  LIM1  4\n    RHS  MYG  1\nENDATA"
 
 -- its canonical text
 abbrev pub small_again : List ℕ
 small_again = text small_again_lines
 
 abbrev pub small_maximized : List ℕ
-small_maximized = text (take 1 small_lines ++ codes "OBJSENSE" ∷ codes "    MAXIMIZE" ∷ drop 1 small_lines)
+small_maximized = text (take 1 small_lines ++ lines_of "OBJSENSE\n    MAXIMIZE" ++ drop 1 small_lines)
 
 -- ---- ranges of both signs, before the right-hand sides
 
 abbrev pub ranges_lines : List (List ℕ)
 ranges_lines =
-    codes "ROWS" ∷ codes " N  C" ∷ codes " E  E1" ∷ codes " E  E2" ∷ codes " E  E3" ∷ codes " G  G1" ∷ codes " L  L1"
-    ∷ codes "COLUMNS" ∷ codes "    X  E1  1  E2  1" ∷ codes "    X  E3  1  G1  1" ∷ codes "    X  L1  1"
-    ∷ codes "RANGES" ∷ codes "    RNG  E1  3  E2  -3" ∷ codes "    RNG  E3  0  G1  -2" ∷ codes "    RNG  L1  -2"
-    ∷ codes "RHS" ∷ codes "    RHS  E1  10  E2  10" ∷ codes "    RHS  E3  10  G1  10" ∷ codes "    RHS  L1  10"
-    ∷ codes "ENDATA" ∷ []
+    lines_of "ROWS\n N  C\n E  E1\n E  E2\n E  E3\n G  G1\n L  L1\nCOLUMNS\n    X  E1  1  E2  1\n    X  E3  1  G1  1"
+    ++ lines_of "    X  L1  1\nRANGES\n    RNG  E1  3  E2  -3\n    RNG  E3  0  G1  -2\n    RNG  L1  -2\nRHS"
+    ++ lines_of "    RHS  E1  10  E2  10\n    RHS  E3  10  G1  10\n    RHS  L1  10\nENDATA"
 
 abbrev pub ranges : List ℕ
 ranges = text ranges_lines
@@ -91,42 +91,39 @@ ranges = text ranges_lines
 
 abbrev pub fixed_columns_lines : List (List ℕ)
 fixed_columns_lines =
-    codes "NAME          M" ∷ codes "ROWS" ∷ codes " N  C" ∷ codes "COLUMNS"
-    ∷ codes "    M1        'MARKER'                 'INTORG'" ∷ codes "    X         C                    1"
-    ∷ codes "    M2        'MARKER'                 'INTEND'" ∷ codes "RHS" ∷ codes "ENDATA" ∷ []
+    lines_of "NAME          M\nROWS\n N  C\nCOLUMNS\n    M1        'MARKER'                 'INTORG'"
+    ++ lines_of "    X         C                    1\n    M2        'MARKER'                 'INTEND'\nRHS\nENDATA"
 
 abbrev pub fixed_columns : List ℕ
 fixed_columns = text fixed_columns_lines
 
 abbrev pub binary_bound : List ℕ
-binary_bound = text (codes "ROWS" ∷ codes " N  C" ∷ codes "COLUMNS" ∷ codes "    X  C  1" ∷ codes "BOUNDS" ∷ codes " BV BND X 1" ∷ codes "ENDATA" ∷ [])
+binary_bound = codes "ROWS\n N  C\nCOLUMNS\n    X  C  1\nBOUNDS\n BV BND X 1\nENDATA\n"
 
 abbrev pub integer_without_upper : List ℕ
-integer_without_upper = text (take 8 fixed_columns_lines ++ codes "BOUNDS" ∷ codes " PL BND X" ∷ codes "ENDATA" ∷ [])
+integer_without_upper = text (take 8 fixed_columns_lines ++ lines_of "BOUNDS\n PL BND X\nENDATA")
 
 -- ---- a right-hand side of the objective, and bounds
 
 abbrev one_column : List (List ℕ)
-one_column = codes "ROWS" ∷ codes " N C" ∷ codes "COLUMNS" ∷ codes " X C 1" ∷ []
+one_column = lines_of "ROWS\n N C\nCOLUMNS\n X C 1"
 
 abbrev pub constant : List ℕ
-constant = text (one_column ++ codes "RHS" ∷ codes "    RHS  C  5" ∷ codes "ENDATA" ∷ [])
+constant = text (one_column ++ lines_of "RHS\n    RHS  C  5\nENDATA")
 
 abbrev pub negative_upper : List ℕ
-negative_upper = text (one_column ++ codes "BOUNDS" ∷ codes " UP B X -1" ∷ codes " MI B X" ∷ codes "ENDATA" ∷ [])
+negative_upper = text (one_column ++ lines_of "BOUNDS\n UP B X -1\n MI B X\nENDATA")
 
 abbrev pub zero_upper : List ℕ
-zero_upper = text (one_column ++ codes "BOUNDS" ∷ codes " UP B X 0" ∷ codes "ENDATA" ∷ [])
+zero_upper = text (one_column ++ lines_of "BOUNDS\n UP B X 0\nENDATA")
 
 abbrev pub infinite_bounds : List ℕ
-infinite_bounds = text (one_column ++ codes "BOUNDS" ∷ codes " LO B X -1e30" ∷ codes " UP B X 1e30" ∷ codes "ENDATA" ∷ [])
+infinite_bounds = text (one_column ++ lines_of "BOUNDS\n LO B X -1e30\n UP B X 1e30\nENDATA")
 
 -- ---- columns whose only coefficient is 0, and another N row
 
 abbrev pub empty_column_lines : List (List ℕ)
-empty_column_lines =
-    codes "NAME" ∷ codes "ROWS" ∷ codes " N  C" ∷ codes " L  R" ∷ codes " N  S" ∷ codes "COLUMNS" ∷ codes "    X  C  0"
-    ∷ codes "    Y  S  2" ∷ codes "RHS" ∷ codes "    RHS  R  3" ∷ codes "ENDATA" ∷ []
+empty_column_lines = lines_of "NAME\nROWS\n N  C\n L  R\n N  S\nCOLUMNS\n    X  C  0\n    Y  S  2\nRHS\n    RHS  R  3\nENDATA"
 
 abbrev pub empty_column : List ℕ
 empty_column = text empty_column_lines
@@ -135,10 +132,8 @@ empty_column = text empty_column_lines
 
 abbrev pub integer_bounds_lines : List (List ℕ)
 integer_bounds_lines =
-    codes "NAME" ∷ codes "ROWS" ∷ codes " N  obj" ∷ codes "COLUMNS" ∷ codes "    y  obj  1"
-    ∷ codes "    MARKER  'MARKER'  'INTORG'" ∷ codes "    x  obj  1" ∷ codes "    z  obj  0"
-    ∷ codes "    MARKER  'MARKER'  'INTEND'" ∷ codes "BOUNDS" ∷ codes " FX  BND  x  1" ∷ codes " PL  BND  z"
-    ∷ codes "ENDATA" ∷ []
+    lines_of "NAME\nROWS\n N  obj\nCOLUMNS\n    y  obj  1\n    MARKER  'MARKER'  'INTORG'\n    x  obj  1\n    z  obj  0"
+    ++ lines_of "    MARKER  'MARKER'  'INTEND'\nBOUNDS\n FX  BND  x  1\n PL  BND  z\nENDATA"
 
 abbrev pub integer_bounds : List ℕ
 integer_bounds = text integer_bounds_lines
@@ -147,9 +142,8 @@ integer_bounds = text integer_bounds_lines
 
 abbrev pub semi_columns_lines : List (List ℕ)
 semi_columns_lines =
-    codes "NAME" ∷ codes "ROWS" ∷ codes " N  obj" ∷ codes " L  r" ∷ codes "COLUMNS" ∷ codes "    x  obj  1" ∷ codes "    x  r  1"
-    ∷ codes "    y  obj  2" ∷ codes "RHS" ∷ codes "    RHS  r  3" ∷ codes "BOUNDS" ∷ codes " SC  BND  x  4" ∷ codes " LO  BND  y  2"
-    ∷ codes " SC  BND  y  2.5" ∷ codes "ENDATA" ∷ []
+    lines_of "NAME\nROWS\n N  obj\n L  r\nCOLUMNS\n    x  obj  1\n    x  r  1\n    y  obj  2\nRHS\n    RHS  r  3"
+    ++ lines_of "BOUNDS\n SC  BND  x  4\n LO  BND  y  2\n SC  BND  y  2.5\nENDATA"
 
 abbrev pub semi_columns : List ℕ
 semi_columns = text semi_columns_lines
@@ -158,14 +152,11 @@ semi_columns = text semi_columns_lines
 
 abbrev pub maximized_lines : List (List ℕ)
 maximized_lines =
-    codes "NAME" ∷ codes "OBJSENSE" ∷ codes "    MAX" ∷ codes "ROWS" ∷ codes " N  obj" ∷ codes " L  c1" ∷ codes " L  c2"
-    ∷ codes " E  c3" ∷ codes "COLUMNS" ∷ codes "    x1  obj  1" ∷ codes "    x1  c1  -1" ∷ codes "    x1  c2  1"
-    ∷ codes "    x2  obj  2" ∷ codes "    x2  c1  1" ∷ codes "    x2  c2  -3" ∷ codes "    x2  c3  1"
-    ∷ codes "    x3  obj  3" ∷ codes "    x3  c1  1" ∷ codes "    x3  c2  1" ∷ codes "    MARKER  'MARKER'  'INTORG'"
-    ∷ codes "    x4  obj  1" ∷ codes "    x4  c1  10" ∷ codes "    x4  c3  -3.5"
-    ∷ codes "    MARKER  'MARKER'  'INTEND'" ∷ codes "RHS" ∷ codes "    RHS  c1  20" ∷ codes "    RHS  c2  30"
-    ∷ codes "BOUNDS" ∷ codes " UP  BND  x1  40" ∷ codes " LO  BND  x4  2" ∷ codes " UP  BND  x4  3" ∷ codes "ENDATA"
-    ∷ []
+    lines_of "NAME\nOBJSENSE\n    MAX\nROWS\n N  obj\n L  c1\n L  c2\n E  c3\nCOLUMNS\n    x1  obj  1\n    x1  c1  -1"
+    ++ lines_of "    x1  c2  1\n    x2  obj  2\n    x2  c1  1\n    x2  c2  -3\n    x2  c3  1\n    x3  obj  3"
+    ++ lines_of "    x3  c1  1\n    x3  c2  1\n    MARKER  'MARKER'  'INTORG'\n    x4  obj  1\n    x4  c1  10"
+    ++ lines_of "    x4  c3  -3.5\n    MARKER  'MARKER'  'INTEND'\nRHS\n    RHS  c1  20\n    RHS  c2  30\nBOUNDS"
+    ++ lines_of " UP  BND  x1  40\n LO  BND  x4  2\n UP  BND  x4  3\nENDATA"
 
 abbrev pub maximized : List ℕ
 maximized = text maximized_lines
@@ -190,14 +181,12 @@ not_maximized = text (take 1 maximized_lines ++ drop 3 maximized_lines)
 
 abbrev pub usual_layout_lines : List (List ℕ)
 usual_layout_lines =
-    codes "* a comment" ∷ codes "NAME          TEST" ∷ codes "ROWS" ∷ codes " N  COST" ∷ codes " E  BAL"
-    ∷ codes " G  DEM" ∷ codes "COLUMNS" ∷ codes "    MARKER                 'MARKER'                 'INTORG'"
-    ∷ codes "    A         COST         3.0000000000   BAL          1.0000000000"
-    ∷ codes "    A         DEM          1.0000000000"
-    ∷ codes "    MARKER                 'MARKER'                 'INTEND'"
-    ∷ codes "    B         COST         1e+00          BAL         -1" ∷ codes "RHS"
-    ∷ codes "    RHS       DEM          2.5" ∷ codes "BOUNDS" ∷ codes " UP BND       A            10"
-    ∷ codes " UP BND       B            4.0000000000" ∷ codes "ENDATA" ∷ []
+    lines_of "* a comment\nNAME          TEST\nROWS\n N  COST\n E  BAL\n G  DEM\nCOLUMNS"
+    ++ lines_of "    MARKER                 'MARKER'                 'INTORG'"
+    ++ lines_of "    A         COST         3.0000000000   BAL          1.0000000000"
+    ++ lines_of "    A         DEM          1.0000000000\n    MARKER                 'MARKER'                 'INTEND'"
+    ++ lines_of "    B         COST         1e+00          BAL         -1\nRHS\n    RHS       DEM          2.5\nBOUNDS"
+    ++ lines_of " UP BND       A            10\n UP BND       B            4.0000000000\nENDATA"
 
 abbrev pub usual_layout : List ℕ
 usual_layout = text usual_layout_lines
@@ -205,12 +194,10 @@ usual_layout = text usual_layout_lines
 -- ---- an objective named by OBJNAME among the N rows
 
 abbrev objective_tail : List (List ℕ)
-objective_tail =
-    codes "ROWS" ∷ codes " N  C" ∷ codes " L  R" ∷ codes " N  S" ∷ codes "COLUMNS" ∷ codes "    X  C  1  R  1"
-    ∷ codes "    X  S  2" ∷ codes "ENDATA" ∷ []
+objective_tail = lines_of "ROWS\n N  C\n L  R\n N  S\nCOLUMNS\n    X  C  1  R  1\n    X  S  2\nENDATA"
 
 abbrev pub header_objname : List ℕ
-header_objname = text (codes "NAME" ∷ codes "OBJNAME" ∷ codes "    S" ∷ objective_tail)
+header_objname = text (lines_of "NAME\nOBJNAME\n    S" ++ objective_tail)
 
 pub named_objective_is : (draft_in header_objname).objective ≡ Some (codes "S")
 named_objective_is = refl
@@ -223,10 +210,10 @@ named_on_header_is = refl
 
 -- before OBJSENSE, and after it
 abbrev pub named_and_maximized : List ℕ
-named_and_maximized = text (codes "OBJNAME" ∷ codes "    C" ∷ codes "OBJSENSE MAX" ∷ objective_tail)
+named_and_maximized = text (lines_of "OBJNAME\n    C\nOBJSENSE MAX" ++ objective_tail)
 
 abbrev pub maximized_and_named : List ℕ
-maximized_and_named = text (codes "OBJSENSE" ∷ codes "    MAX" ∷ codes "OBJNAME S" ∷ objective_tail)
+maximized_and_named = text (lines_of "OBJSENSE\n    MAX\nOBJNAME S" ++ objective_tail)
 
 -- ---- all of them
 

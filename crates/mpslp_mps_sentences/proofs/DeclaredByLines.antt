@@ -1,20 +1,38 @@
 -- What a line may change in a draft: each section declares its own, and a header only a sense or an objective.
-use Rattle.std.proofs.{Common.{arith, ◌≡◌, refl, ◌∙◌, subst, List, [], ◌∷◌, ◌++◌, ℕ, Bool, true, false}, lemmas.List.Folds.list_any-append}
-use Rattle.std.specs.{Prelude.{Option, Some, not, ◌||◌, ◌&&◌}, List.{list_any, list_all}, Option.option_map_or, Cmp.{first_so, second_so}}
-use Rattle.mpslp_decimal.specs.Decimal.{Number}
-use Rattle.mpslp_types.{specs.declared.{kinds.{Sense.Sense, RowType.RowType}, faults.FaultKind.FaultKind}, proofs.BoolLemmas.both_so}
-use Rattle.mpslp_types.proofs.BoolLemmas.{or_left, or_right}
-use Rattle.mpslp_model_core.specs.Model.{CoefficientKey}
-use Rattle.mpslp_builder.specs.Declaration.{by_type, Declaration, declare_sense, declare_objective, declare_constant, declare_row}
-use Rattle.mpslp_builder.specs.Declaration.{declare_rhs, declare_range, declare_column, declare_coefficient, declare_lower, declare_upper}
-use Rattle.mpslp_builder.specs.Declaration.{declare_marked, declare_integer, declare_binary, declare_semi, Declarations, Draft}
-use Rattle.mpslp_builder.specs.Declaration.{with_declaration, with_declarations}
-use Rattle.mpslp_mps_fields.specs.Line.{Fields, LineContent, skipped, header, data_line, section_named, is_section}
-use Rattle.mpslp_mps_fields.specs.declared.sections.Section.{Section, TheVariants.{Name, ObjSense, Rows, Columns, Rhs, Ranges, Bounds}}
-use Rattle.mpslp_mps.specs.{Context.{Context, context_of, current_section, data_lines}, LineDeclarations.{data_declared, header_declared}}
-use Rattle.mpslp_mps.{specs.LineDeclarations.line_declares, proofs.SectionLemmas.data_lines-push}
-use Rattle.mpslp_mps_sentences.{specs.ValueFaultsInWords.is_line_of, proofs.{BoundsPasses.Passes, WordsOfFields.section-is}}
-use Rattle.mpslp_mps_sentences.proofs.{FaultedLines.refuses, FaultsOfNames.{may_refuse, no-one}}
+use Rattle.mpslp_mps_sentences.proofs.Prelude
+use Prelude.{◌≡◌, refl, List, [], ◌∷◌, ℕ, Bool, true, list_all, Declaration, declare_lower, declare_upper, declare_integer, declare_semi}
+use Prelude.{Limit, Fields, arith, ◌∙◌, subst, ◌++◌, false, list_any-append, Option, Some, not, ◌||◌, ◌&&◌, list_any, option_map_or}
+use Prelude.{first_so, second_so, Number, Sense, RowType, FaultKind, both_so, or_left, or_right, CoefficientKey, by_type, declare_sense}
+use Prelude.{declare_objective, declare_constant, declare_row, declare_rhs, declare_range, declare_column, declare_coefficient}
+use Prelude.{declare_marked, declare_binary, Declarations, Draft, with_declaration, with_declarations, LineContent, skipped, header}
+use Prelude.{data_line, section_named, is_section, Section, Name, ObjSense, Rows, Columns, Rhs, Ranges, Bounds, Context, context_of}
+use Prelude.{current_section, data_lines, data_declared, header_declared, line_declares, data_lines-push, is_line_of, empty_draft}
+use Prelude.{refusal_tests, kind_of_build_fault, is_kind, never, same_section}
+use Rattle.mpslp_mps_sentences.proofs.{FaultedLines.{refuses, refused_as}, FieldsInWords.{section-is, next_draft}}
+
+-- the test passes for whatever BOUNDS declares
+pub record Passes (p : Declaration → Bool) : Type 0 where
+  pub lower : (c : List ℕ) (l : Limit) → p (declare_lower c l) ≡ true
+  pub upper : (c : List ℕ) (l : Limit) → p (declare_upper c l) ≡ true
+  pub integer : (c : List ℕ) → p (declare_integer c) ≡ true
+  pub semi : (c : List ℕ) → p (declare_semi c) ≡ true
+
+-- ---- declarations that are not rejected with a kind
+
+-- an error of this kind may reject such declarations
+abbrev pub may_refuse : FaultKind → Declaration → Bool
+may_refuse kind d = list_any (λ test. is_kind kind (kind_of_build_fault test.1)) (refusal_tests empty_draft d)
+
+-- the kinds of the tests of a declaration do not depend on the draft
+not-refused : (kind : FaultKind) (all : Draft) (d : Declaration) → not (may_refuse kind d) ≡ true → refused_as kind (refusal_tests all d) ≡ false
+not-refused = grind arith
+
+pub none-refuse : (kind : FaultKind) (ds : Declarations) (all : Draft) → list_all (λ d. not (may_refuse kind d)) ds ≡ true → refuses kind all ds ≡ false
+none-refuse kind [] all h = refl
+none-refuse kind (d ∷ ds) all h = grind (arith, refuses, not-refused, none-refuse kind ds (with_declaration all d) (second_so (not (may_refuse kind d)) (list_all (λ d. not (may_refuse kind d)) ds) h))
+
+pub no-one : {X : Type 0} (kind : FaultKind) (ds : Declarations) (all : Draft) → list_all (λ d. not (may_refuse kind d)) ds ≡ true → refuses kind all ds ≡ true → X
+no-one kind ds all h k = absurd (never _ k (none-refuse kind ds all h))
 
 -- ---- tests of declarations, section by section
 
@@ -42,7 +60,7 @@ is_of_header (declare_objective _) = true
 is_of_header _ = false
 
 pub header-each : (context : Context) (earlier : Draft) (more : Fields) (o : Option Section) → list_all is_of_header (header_declared context earlier more o) ≡ true
-header-each context earlier more o = grind arith
+header-each = grind arith
 
 -- ---- the section of a declaration
 
@@ -76,7 +94,7 @@ at_home = grind arith
 -- a weaker test of all
 pub all-so : (p q : Declaration → Bool) (ds : Declarations) → ((d : Declaration) → p d ≡ true → q d ≡ true) → list_all p ds ≡ true → list_all q ds ≡ true
 all-so p q [] h k = refl
-all-so p q (d ∷ ds) h k = both_so (q d) (list_all q ds) (h d (first_so (p d) (list_all p ds) k)) (all-so p q ds h (second_so (p d) (list_all p ds) k))
+all-so p q (d ∷ ds) h k = both_so _ _ (h d (first_so _ _ k)) (all-so p q ds h (second_so _ _ k))
 
 -- what lines of other sections declare
 elsewhere : (section : Section) (context : Context) (earlier : Draft) (fields : Fields) (o : Option Section) → is_section section o ≡ false
@@ -112,7 +130,7 @@ module _ (section : Section) (part : Draft → Bool) (is : IsPartOf section part
   pub lines-kept : (test : Fields → Bool)
       → ((context : Context) (earlier : Draft) (fields : Fields) → part (with_declarations earlier (data_declared context earlier fields (Some section))) ≡ true → (test fields || part earlier) ≡ true)
       → (before : List LineContent) (earlier : Draft) (item : LineContent) → (part earlier ≡ true → list_any test (data_lines section before) ≡ true)
-      → part (with_declarations earlier (line_declares (context_of before) earlier item)) ≡ true → list_any test (data_lines section (before ++ item ∷ [])) ≡ true
+      → part (next_draft before earlier item) ≡ true → list_any test (data_lines section (before ++ item ∷ [])) ≡ true
   lines-kept test own before earlier item have h = grind (arith, data_lines-push, list_any-append, or_left, or_right, header-kept, section-is, data-kept)
 
 -- ---- errors that only declarations of one section have
@@ -126,21 +144,24 @@ pub unrefused-header : {X : Type 0} (kind : FaultKind) → ((d : Declaration) �
     → refuses kind earlier (header_declared context earlier more o) ≡ true → X
 unrefused-header kind none context earlier more o h =
     no-one kind (header_declared context earlier more o) earlier
-    (all-so is_of_header (λ d. not (may_refuse kind d)) (header_declared context earlier more o) none (header-each context earlier more o)) h
+    (all-so is_of_header _ (header_declared context earlier more o) none (header-each context earlier more o)) h
 
 -- nor has a line of another section
 pub unrefused-data : {X : Type 0} (section : Section) (kind : FaultKind) → ((d : Declaration) → is_elsewhere section d ≡ true → not (may_refuse kind d) ≡ true)
     → (context : Context) (earlier : Draft) (fields : Fields) (o : Option Section) → is_section section o ≡ false → refuses kind earlier (data_declared context earlier fields o) ≡ true → X
 unrefused-data section kind other context earlier fields o out h =
-    no-one kind (data_declared context earlier fields o) earlier
-    (all-so (is_elsewhere section) (λ d. not (may_refuse kind d)) (data_declared context earlier fields o) other (elsewhere section context earlier fields o out)) h
+    no-one kind (data_declared context earlier fields o) earlier (all-so _ _ _ other (elsewhere section context earlier fields o out)) h
 
--- nor has a line of this section, if none of its declarations has it
-pub unrefused-at : {X : Type 0} (section : Section) (kind : FaultKind) → ((d : Declaration) → is_at_home section d ≡ true → not (may_refuse kind d) ≡ true) → (context : Context) (earlier : Draft) (fields : Fields)
+-- nor has a line of another section than these, if they are the homes of all declarations that may be rejected with it
+pub unrefused : {X : Type 0} (kind : FaultKind) (homes : List Section) → ((d : Declaration) → (list_any (same_section (home_of d)) (Name ∷ homes) || not (may_refuse kind d)) ≡ true)
+    → (context : Context) (earlier : Draft) (fields : Fields) (section : Section) → list_any (same_section section) (Name ∷ homes) ≡ false
     → refuses kind earlier (data_declared context earlier fields (Some section)) ≡ true → X
-unrefused-at section kind none context earlier fields h =
+unrefused kind homes none context earlier fields section out h =
     no-one kind (data_declared context earlier fields (Some section)) earlier
-    (all-so (λ d. is_at_home section d) (λ d. not (may_refuse kind d)) (data_declared context earlier fields (Some section)) none (data-each is_at_home at_home context earlier fields (Some section))) h
+    (all-so _ _ (data_declared context earlier fields (Some section)) by (data-each is_at_home at_home context earlier fields (Some section))) h
+  where
+    by : (d : Declaration) → is_at_home section d ≡ true → not (may_refuse kind d) ≡ true
+    by = grind (arith, none)
 
 -- so a line with this error is one of the section, and passes the test if each of those with the error does
 pub line-of : (section : Section) (kind : FaultKind) → IsErrorOfSection section kind → (test : Fields → Bool) (before : List LineContent) (earlier : Draft)

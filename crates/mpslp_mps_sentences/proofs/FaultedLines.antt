@@ -1,24 +1,21 @@
 -- The first line of a text with an error: its kind is that of one of its tests, or of a rejected declaration.
-use Rattle.std.proofs.Common.{◌≡◌, refl, sym, ap, ◌∙◌, subst, List, [], ◌∷◌, ◌++◌, append_assoc, ℕ, suc, ◌+◌, ◌-◌, ◌^◌, Bool, true, false}
-use Rattle.std.proofs.{Common.{cond, map, arith}, lemmas.{Bool.Decides.nat_tests, List.{append-nil, map-append}}, Math.Dec.eqb_refl}
-use Rattle.std.{proofs.lemmas.List.Folds.list_any-append, specs.Prelude.{Option, Some, None, ◌||◌, ◌&&◌, ◌==◌, nat_le, nat_lt, not}}
-use Rattle.std.specs.{Prelude.{filter_map, min, length, if◌then◌else◌}, List.{list_any, list_all}, Option.{option_map, option_map_or}}
-use Rattle.std.specs.{Option.option_or, Cmp.second_so}
-use Rattle.mpslp_types.specs.{FaultOrder.{kind_rank, least_kind}, declared.faults.{BuildFault.BuildFault, Fault.Fault, FaultKind.FaultKind}}
-use Rattle.mpslp_types.specs.{declared.faults.FaultKind.TheVariants.{LineTooLong, BadByte, MissingEnd, NoColumns}, Lists.is_nonempty}
-use Rattle.mpslp_types.{specs.Lists.{head_of, those_of}, proofs.BoolLemmas.{true_from, both_so, or_left, or_right}}
-use Rattle.mpslp_builder.specs.Declaration.{Declarations, Draft, with_declaration, with_declarations, empty_draft, draft_of}
-use Rattle.mpslp_builder.specs.{FileFault.{named_kinds, whole_fault, names_with, named_faults, file_fault}, Refusal.refusal_tests}
-use Rattle.mpslp_builder.specs.Refusal.{refusals_in_turn}
-use Rattle.mpslp_lines.specs.{Declaring.{declaring_faults, first_fault}, FaultTests.{kind_of_build_fault, fault_on_line, is_kind}}
-use Rattle.mpslp_lines.{specs.FaultTests.{has_legal_length, is_legal_byte, FaultTests}, proofs.LeastLemmas.{lesser, earlier_of}}
-use Rattle.mpslp_lines.proofs.{LeastLemmas.{least-append, least-none}, FirstFaultLemmas.faultless}
-use Rattle.mpslp_mps_fields.specs.Line.{LineContent, content_of, outside_comment}
-use Rattle.mpslp_mps.specs.{Context.context_of, LineDeclarations.line_declares, LineFault.{item_tests, line_tests}, MpsText.LineInContext}
-use Rattle.mpslp_mps.specs.MpsText.{read_lines, has_end, declared_at, tests_at, lines_in_context_after, lines_in_context, declarations_of}
-use Rattle.mpslp_mps.{specs.FirstFault.{line_fault, first_line_fault, whole_mps_fault}, proofs.OrderLemmas.{IsGood, never}}
-use Rattle.mpslp_mps.proofs.ContextLineLemmas.{item-form}
-use Rattle.mpslp_mps_sentences.{specs.FaultsInWords.{IsFaultOfLine, IsInWords}, proofs.NamesOfWords.{Stated, none-stated, stated-kept}}
+-- The kinds of errors for which each line is tested, so that a kind determines the tests.
+use Rattle.mpslp_mps_sentences.proofs.Prelude
+use Prelude.{◌≡◌, refl, sym, ap, ◌∙◌, subst, List, [], ◌∷◌, ◌++◌, append_assoc, ℕ, suc, ◌+◌, ◌^◌, Bool, true, false, cond, map, arith}
+use Prelude.{nat_tests, append-nil, map-append, eqb_refl, list_any-append, Option, Some, None, ◌||◌, ◌==◌, nat_le, nat_lt, not, filter_map}
+use Prelude.{min, length, if◌then◌else◌, list_any, list_all, option_map, option_map_or, option_or, second_so, kind_rank, least_kind}
+use Prelude.{BuildFault, Fault, FaultKind, LineTooLong, BadByte, MissingEnd, NoColumns, is_nonempty, head_of, those_of, true_from, both_so}
+use Prelude.{or_left, or_right, Declarations, Draft, with_declaration, with_declarations, empty_draft, draft_of, named_kinds, whole_fault}
+use Prelude.{names_with, named_faults, file_fault, refusal_tests, refusals_in_turn, declaring_faults, first_fault, kind_of_build_fault}
+use Prelude.{fault_on_line, is_kind, is_legal_byte, FaultTests, lesser, earlier_of, least-append, least-none, faultless, LineContent}
+use Prelude.{content_of, outside_comment, context_of, line_declares, item_tests, line_tests, LineInContext, has_end, declared_at, tests_at}
+use Prelude.{lines_in_context_after, lines_in_context, declarations_of, line_fault, first_line_fault, whole_mps_fault, IsGood, never}
+use Prelude.{item-form, IsFaultOfLine, IsInWords, Decides-eqb, first_so, judged_by, Fields, column_shape, Section, Rows, Columns, Rhs}
+use Prelude.{Ranges, Bounds, Context, section_tests, header_tests, column_tests, data_tests, section_named, current_section, data_declared}
+use Prelude.{skipped, header, data_line}
+use Rattle.std.proofs.Common.{◌-◌}
+use Rattle.mpslp_mps_sentences.proofs.{FieldsInWords.{next_draft}, NamesOfWords.{Stated, none-stated, stated-kept}}
+use Rattle.mpslp_types.specs.declared.faults.FaultKind.TheVariants as kinds
 
 -- ---- which tests a kind has
 
@@ -37,20 +34,20 @@ refuses kind earlier [] = false
 refuses kind earlier (d ∷ ds) = refused_as kind (refusal_tests earlier d) || refuses kind (with_declaration earlier d) ds
 
 itself : (kind : FaultKind) → is_kind kind kind ≡ true
-itself kind = true_from (kind_rank kind == kind_rank kind) (eqb_refl (kind_rank kind))
+itself kind = true_from _ (eqb_refl (kind_rank kind))
 
 among-least : (kinds : List FaultKind) (kind : FaultKind) → least_kind kinds ≡ Some kind → list_any (is_kind kind) kinds ≡ true
 among-least [] kind h = cc
 among-least (first ∷ kinds) kind h = by (least_kind kinds) (among-least kinds kind) h
   where
     here : first ≡ kind → (is_kind kind first || list_any (is_kind kind) kinds) ≡ true
-    here e = or_left (is_kind kind first) (list_any (is_kind kind) kinds) (ap (is_kind kind) e ∙ itself kind)
+    here e = or_left _ _ (ap (is_kind kind) e ∙ itself kind)
 
     one : (a b : FaultKind) → Some a ≡ Some b → a ≡ b
     one a b e = cc
 
     of : (other : FaultKind) → (Some other ≡ Some kind → list_any (is_kind kind) kinds ≡ true) → (b : Bool) → Some (cond b other first) ≡ Some kind → (is_kind kind first || list_any (is_kind kind) kinds) ≡ true
-    of other rest true e = or_right (is_kind kind first) (list_any (is_kind kind) kinds) (rest e)
+    of other rest true e = or_right _ _ (rest e)
     of other rest false e = here (one first kind e)
 
     by : (o : Option FaultKind) → (o ≡ Some kind → list_any (is_kind kind) kinds ≡ true) → Some (lesser first o) ≡ Some kind → (is_kind kind first || list_any (is_kind kind) kinds) ≡ true
@@ -63,7 +60,7 @@ any-held kind ((held, other) ∷ more) = by (any-held kind more) held (is_kind k
   where
     by : list_any (is_kind kind) (those_of more) ≡ holds_of kind more → (b c : Bool) → is_kind kind other ≡ c
         → list_any (is_kind kind) (cond b (other ∷ those_of more) (those_of more)) ≡ cond c (b || holds_of kind more) (holds_of kind more)
-    by rest b c e = grind arith
+    by = grind arith
 
 any-refused : (kind : FaultKind) (tests : List (Bool × BuildFault)) → list_any (is_kind kind) (map kind_of_build_fault (those_of tests)) ≡ refused_as kind tests
 any-refused kind [] = refl
@@ -71,7 +68,7 @@ any-refused kind ((held, other) ∷ more) = by (any-refused kind more) held (is_
   where
     by : list_any (is_kind kind) (map kind_of_build_fault (those_of more)) ≡ refused_as kind more → (b c : Bool) → is_kind kind (kind_of_build_fault other) ≡ c
         → list_any (is_kind kind) (map kind_of_build_fault (cond b (other ∷ those_of more) (those_of more))) ≡ cond c (b || refused_as kind more) (refused_as kind more)
-    by rest b c e = grind arith
+    by = grind arith
 
 any-declaring : (kind : FaultKind) (earlier : Draft) (ds : Declarations) → list_any (is_kind kind) (declaring_faults earlier ds) ≡ refuses kind earlier ds
 any-declaring kind earlier [] = refl
@@ -81,8 +78,8 @@ any-declaring kind earlier (d ∷ ds) = grind (arith, map-append, list_any-appen
 reported-by : (tests : FaultTests) (earlier : Draft) (ds : Declarations) (kind : FaultKind) → first_fault tests earlier ds ≡ Some kind → (holds_of kind tests || refuses kind earlier ds) ≡ true
 reported-by tests earlier ds kind h =
     sym (list_any-append (is_kind kind) (those_of tests) (declaring_faults earlier ds)
-    ∙ (ap (λ (b : Bool). b || list_any (is_kind kind) (declaring_faults earlier ds)) (any-held kind tests) ∙ ap (λ (b : Bool). holds_of kind tests || b) (any-declaring kind earlier ds)))
-    ∙ among-least (those_of tests ++ declaring_faults earlier ds) kind h
+    ∙ (ap (λ b. b || list_any (is_kind kind) (declaring_faults earlier ds)) (any-held kind tests) ∙ ap (λ b. holds_of kind tests || b) (any-declaring kind earlier ds)))
+    ∙ among-least _ kind h
 
 -- ---- kinds that come after those of the form of a line
 
@@ -98,18 +95,18 @@ those-below kind [] h = refl
 those-below kind ((held, other) ∷ more) h = grind (arith, both_so, those-below kind more (second_so (is_below kind other) (list_all (λ test. is_below kind test.1) more) h))
 
 not-below : (kind other : FaultKind) → is_below kind other ≡ true → other ≡ kind → ⊥
-not-below kind other h e = grind arith
+not-below = grind arith
 
 -- if the first error is of such a kind, no test of the form fails
 pub form-holds : (tests : FaultTests) (earlier : Draft) (ds : Declarations) (kind : FaultKind) → list_all (λ test. is_below kind test.1) tests ≡ true → first_fault tests earlier ds ≡ Some kind → those_of tests ≡ []
 form-holds tests earlier ds kind below h =
-    by (least_kind (those_of tests)) refl (least-passes (is_below kind) (those_of tests) (those-below kind tests below)) (sym (least-append (those_of tests) (declaring_faults earlier ds)) ∙ h)
+    by (least_kind (those_of tests)) refl (least-passes (is_below kind) (those_of tests) (those-below kind tests below)) (sym (least-append _ _) ∙ h)
   where
     one : (a b : FaultKind) → Some a ≡ Some b → a ≡ b
     one a b e = cc
 
     lower : (a b c : ℕ) → nat_lt a b ≡ true → nat_lt b c ≡ true → nat_lt a c ≡ true
-    lower a b c e f = grind (arith, nat_tests)
+    lower = grind (arith, nat_tests)
 
     of : (first : FaultKind) → is_below kind first ≡ true → (p : Option FaultKind) → lesser first p ≡ kind → ⊥
     of first e None k = not-below kind first e k
@@ -120,8 +117,8 @@ form-holds tests earlier ds kind below h =
         either false f l = not-below kind first e l
 
     by : (o : Option FaultKind) → least_kind (those_of tests) ≡ o → option_map_or (is_below kind) o true ≡ true → earlier_of o (least_kind (declaring_faults earlier ds)) ≡ Some kind → those_of tests ≡ []
-    by None e f k = least-none (those_of tests) e
-    by (Some first) e f k = absurd (of first f (least_kind (declaring_faults earlier ds)) (one (lesser first (least_kind (declaring_faults earlier ds))) kind k))
+    by None e f k = least-none _ e
+    by (Some first) e f k = absurd (of first f _ (one (lesser first (least_kind (declaring_faults earlier ds))) kind k))
 
 -- ---- the line
 
@@ -129,7 +126,7 @@ form-holds tests earlier ds kind below h =
 pub record IsKept (Holds : List LineContent → Draft → Type 0) : Type 0 where
   pub none : Holds [] empty_draft
   pub kept : (before : List LineContent) (earlier : Draft) (item : LineContent) → IsGood before earlier item → refusals_in_turn earlier (line_declares (context_of before) earlier item) ≡ [] → Holds before earlier
-      → Holds (before ++ item ∷ []) (with_declarations earlier (line_declares (context_of before) earlier item))
+      → Holds (before ++ item ∷ []) (next_draft before earlier item)
 
 -- what is known of the line, and of those before it
 pub record Faulted (Holds : List LineContent → Draft → Type 0) (ls : List (List ℕ)) (before : List LineContent) (n : ℕ) (fault : Fault) : Type 0 where
@@ -143,16 +140,16 @@ pub record Faulted (Holds : List LineContent → Draft → Type 0) (ls : List (L
   pub stated : first_fault (line_tests (context_of (before ++ map content_of front)) earlier line) earlier (line_declares (context_of (before ++ map content_of front)) earlier (content_of line)) ≡ Some fault.kind
 
 one-less : (m n : ℕ) → m + (n + 1) ≡ suc m + n
-one-less m n = grind (arith)
+one-less = grind (arith)
 
 none-before : (n : ℕ) → n ≡ 0 + n
-none-before n = grind (arith)
+none-before = grind (arith)
 
 find-line : (Holds : List LineContent → Draft → Type 0) → IsKept Holds → (ls : List (List ℕ)) (before : List LineContent) (earlier : Draft) (n : ℕ) (fault : Fault) → Holds before earlier
     → first_line_fault n (lines_in_context_after before earlier ls) ≡ Some fault → Faulted Holds ls before n fault
 find-line Holds keeps [] before earlier n fault known h = absurd cc
 find-line Holds keeps (line ∷ ls) before earlier n fault known h =
-    by (λ good free e. find-line Holds keeps ls (before ++ content_of line ∷ []) next (n + 1) fault (keeps.kept before earlier (content_of line) good free known) e) (line_fault placed) refl h
+    by (λ good free e. find-line Holds keeps ls _ next (n + 1) fault (keeps.kept before earlier (content_of line) good free known) e) (line_fault placed) refl h
   where
     placed : LineInContext
     placed = record { context = context_of before; earlier = earlier; line = line }
@@ -167,18 +164,18 @@ find-line Holds keeps (line ∷ ls) before earlier n fault known h =
         → (o : Option FaultKind) → line_fault placed ≡ o → option_or (option_map (fault_on_line n) o) (first_line_fault (n + 1) rest) ≡ Some fault → Faulted Holds (line ∷ ls) before n fault
     by find None e k =
         let fine = faultless (tests_at placed) earlier (declared_at placed) e in
-        let good : IsGood before earlier (content_of line) = item-form (context_of before) earlier line fine.form in
+        let good : IsGood before earlier (content_of line) = item-form _ earlier line fine.form in
         let found = find good fine.unrefused k in
-        let same : (before ++ content_of line ∷ []) ++ map content_of found.front ≡ before ++ map content_of (line ∷ found.front) = append_assoc before (content_of line ∷ []) (map content_of found.front) in
+        let same : (before ++ content_of line ∷ []) ++ map content_of found.front ≡ before ++ map content_of (line ∷ found.front) = append_assoc before _ (map content_of found.front) in
         record {
           front = line ∷ found.front;
           line = found.line;
           later = found.later;
           earlier = found.earlier;
-          parted = ap (λ (more : List (List ℕ)). line ∷ more) found.parted;
-          number = found.number ∙ ap (λ (m : ℕ). min m (2 ^ 64 - 1)) (one-less (length found.front) n);
-          known = subst (λ (items : List LineContent). Holds items found.earlier) same found.known;
-          stated = subst (λ (items : List LineContent). first_fault (line_tests (context_of items) found.earlier found.line) found.earlier (line_declares (context_of items) found.earlier (content_of found.line)) ≡ Some fault.kind) same found.stated;
+          parted = ap (λ (more : List _). line ∷ more) found.parted;
+          number = found.number ∙ ap (λ m. min m (2 ^ 64 - 1)) (one-less _ n);
+          known = subst (λ items. Holds items found.earlier) same found.known;
+          stated = subst (λ items. first_fault (line_tests (context_of items) found.earlier found.line) found.earlier (line_declares (context_of items) found.earlier (content_of found.line)) ≡ Some fault.kind) same found.stated;
         }
     by find (Some kind) e k =
         let same : fault_on_line n kind ≡ fault = cc in
@@ -189,10 +186,10 @@ find-line Holds keeps (line ∷ ls) before earlier n fault known h =
           later = ls;
           earlier = earlier;
           parted = refl;
-          number = sym (ap (λ (f : Fault). f.line) same) ∙ ap (λ (m : ℕ). min m (2 ^ 64 - 1)) (none-before n);
-          known = subst (λ (items : List LineContent). Holds items earlier) none known;
-          stated = subst (λ (items : List LineContent). first_fault (line_tests (context_of items) earlier line) earlier (line_declares (context_of items) earlier (content_of line)) ≡ Some fault.kind) none
-              (e ∙ ap (λ (f : Fault). Some f.kind) same);
+          number = sym (ap (λ f. f.line) same) ∙ ap (λ m. min m (2 ^ 64 - 1)) (none-before n);
+          known = subst (λ items. Holds items earlier) none known;
+          stated = subst (λ items. first_fault (line_tests (context_of items) earlier line) earlier (line_declares (context_of items) earlier (content_of line)) ≡ Some fault.kind) none
+              (e ∙ ap (λ f. Some f.kind) same);
         }
 
 -- ---- an error of the whole file has a kind of its own
@@ -212,7 +209,7 @@ of-whole bytes fault h = by (has_end bytes) h
     all = draft_of (declarations_of bytes)
 
     simple : (kind : FaultKind) → is_of_whole kind ≡ true → Some (whole_fault kind None) ≡ Some fault → is_of_whole fault.kind ≡ true
-    simple kind k e = let same : whole_fault kind None ≡ fault = cc in sym (ap (λ (f : Fault). is_of_whole f.kind) same) ∙ k
+    simple kind k e = let same : whole_fault kind None ≡ fault = cc in sym (ap (λ f. is_of_whole f.kind) same) ∙ k
 
     of : (b : Bool) → cond b (head_of (named_faults all)) (Some (whole_fault NoColumns None)) ≡ Some fault → is_of_whole fault.kind ≡ true
     of true e = named-whole all named_kinds fault refl e
@@ -241,14 +238,14 @@ pub in-words-by : (Holds : List LineContent → Draft → Type 0) → IsKept Hol
 in-words-by Holds keeps kind is_such early short legal such bytes fault first k = by (first_line_fault 1 (lines_in_context bytes)) refl first
   where
     by : (o : Option Fault) → first_line_fault 1 (lines_in_context bytes) ≡ o → option_or o (whole_mps_fault bytes) ≡ Some fault → IsFaultOfLine is_such bytes fault
-    by None e h = absurd (never (is_of_whole kind) (ap is_of_whole (sym k) ∙ of-whole bytes fault h) early)
+    by None e h = absurd (never _ (ap is_of_whole (sym k) ∙ of-whole bytes fault h) early)
     by (Some other) e h =
         let same : other ≡ fault = cc in
-        let found = find-line Holds keeps (read_lines bytes) [] empty_draft 1 fault keeps.none (e ∙ ap (λ (f : Fault). Some f) same) in
+        let found = find-line Holds keeps _ [] empty_draft 1 fault keeps.none (e ∙ ap (λ f. Some f) same) in
         let items = map content_of found.front in
         let ds = line_declares (context_of items) found.earlier (content_of found.line) in
         let tests = item_tests (context_of items) found.earlier (content_of found.line) in
-        let first_is = found.stated ∙ ap (λ (x : FaultKind). Some x) k in
+        let first_is = found.stated ∙ ap (λ x. Some x) k in
         let stated = reported-by (line_tests (context_of items) found.earlier found.line) found.earlier ds kind first_is in
         record {
           before = found.front;
@@ -258,14 +255,14 @@ in-words-by Holds keeps kind is_such early short legal such bytes fault first k 
           number = found.number;
           such = such items found.earlier (content_of found.line) found.known
               (record {
-                stated = sym (ap (λ (b : Bool). b || refuses kind found.earlier ds)
-                    (passed kind (not (has_legal_length found.line)) (not (list_all is_legal_byte (outside_comment found.line))) tests short legal))
+                stated = sym (ap (λ b. b || refuses kind found.earlier ds)
+                    (passed kind _ (not (list_all is_legal_byte (outside_comment found.line))) tests short legal))
                     ∙ stated;
                 late = λ a b c.
-                    item-form (context_of items) found.earlier found.line
+                    item-form _ found.earlier found.line
                     (form-holds (line_tests (context_of items) found.earlier found.line) found.earlier ds kind
-                    (both_so (is_below kind LineTooLong) (is_below kind BadByte && list_all (λ test. is_below kind test.1) tests) a
-                    (both_so (is_below kind BadByte) (list_all (λ test. is_below kind test.1) tests) b c)) first_is);
+                    (both_so _ _ a
+                    (both_so _ _ b c)) first_is);
               });
         }
 
@@ -274,3 +271,116 @@ pub in-words : (kind : FaultKind) (is_such : List LineContent → LineContent �
     → ((before : List LineContent) (earlier : Draft) (item : LineContent) → Stated before earlier → IsFirst kind before earlier item → is_such before item ≡ true)
     → IsInWords kind is_such
 in-words = in-words-by Stated (record { none = none-stated; kept = λ before earlier item good _ stated. stated-kept before earlier item good stated })
+
+-- ---- tests of other kinds
+
+abbrev pub is_among : List FaultKind → FaultKind → Bool
+is_among kinds kind = list_any (is_kind kind) kinds
+
+pub same-rank : (kind other : FaultKind) → is_kind kind other ≡ true → kind_rank kind ≡ kind_rank other
+same-rank kind other h = (Decides-eqb (kind_rank kind) (kind_rank other)).0 h
+
+alike : (kinds : List FaultKind) (kind other : FaultKind) → is_kind kind other ≡ true → is_among kinds other ≡ is_among kinds kind
+alike kinds kind other h = ap (λ n. list_any (λ k. n == kind_rank k) kinds) (sym (same-rank kind other h))
+
+-- if the kinds of the tests are among these, none is of another kind
+pub none-holds : (ks : List FaultKind) (kind : FaultKind) (tests : FaultTests) → list_all (λ test. is_among ks test.1) tests ≡ true → is_among ks kind ≡ false → holds_of kind tests ≡ false
+none-holds ks kind [] h k = refl
+none-holds ks kind ((held, other) ∷ more) h k = by (none-holds ks kind more (second_so (is_among ks other) (list_all (λ test. is_among ks test.1) more) h) k) (is_kind kind other) refl
+  where
+    by : holds_of kind more ≡ false → (b : Bool) → is_kind kind other ≡ b → cond b (held || holds_of kind more) (holds_of kind more) ≡ false
+    by rest true e = absurd (never _ (first_so _ _ h) (alike ks kind other e ∙ k))
+    by rest false e = rest
+
+abbrev refusal_kinds : List FaultKind
+refusal_kinds = kinds.UnknownRow ∷ kinds.UnknownColumn ∷ kinds.DuplicateRow ∷ kinds.DuplicateEntry ∷ kinds.DuplicateRhs ∷ kinds.DuplicateRange ∷ kinds.DuplicateBound ∷ kinds.RangeOnFree ∷ kinds.SemiContinuous ∷ kinds.InfiniteValue ∷ []
+
+refusal-among : (fault : BuildFault) → is_among refusal_kinds (kind_of_build_fault fault) ≡ true
+refusal-among = grind arith
+
+pub none-refused : (kind : FaultKind) (tests : List (Bool × BuildFault)) → is_among refusal_kinds kind ≡ false → refused_as kind tests ≡ false
+none-refused kind [] k = refl
+none-refused kind ((held, other) ∷ more) k = grind (arith, refused_as, never, refusal-among, alike, none-refused kind more k)
+
+-- a kind that only the form of a line has
+form-only : (kind : FaultKind) → is_among refusal_kinds kind ≡ false → (ds : Declarations) (earlier : Draft) → refuses kind earlier ds ≡ false
+form-only kind k [] earlier = refl
+form-only kind k (d ∷ ds) earlier = ap (λ b. b || refuses kind (with_declaration earlier d) ds) (none-refused kind _ k) ∙ form-only kind k ds (with_declaration earlier d)
+
+pub left_only : (a b : Bool) → b ≡ false → (a || b) ≡ true → a ≡ true
+left_only = grind arith
+
+pub right_only : (a b : Bool) → a ≡ false → (a || b) ≡ true → b ≡ true
+right_only = grind arith
+
+-- ---- the kinds of each line
+
+abbrev pub header_kinds : List FaultKind
+header_kinds = kinds.Quadratic ∷ kinds.Sos ∷ kinds.Indicator ∷ kinds.UnknownSection ∷ kinds.SectionOrder ∷ kinds.SectionRepeated ∷ kinds.FieldCount ∷ kinds.BadType ∷ kinds.UnknownRow ∷ []
+
+abbrev pub number_kinds : List FaultKind
+number_kinds = kinds.FieldCount ∷ kinds.BadType ∷ kinds.BadNumber ∷ kinds.LongNumber ∷ kinds.TooManyDigits ∷ kinds.ExponentRange ∷ kinds.SecondSet ∷ []
+
+abbrev pub column_kinds : List FaultKind
+column_kinds = kinds.FieldCount ∷ kinds.NameLength ∷ kinds.NameByte ∷ kinds.NameMarker ∷ kinds.BadNumber ∷ kinds.LongNumber ∷ kinds.TooManyDigits ∷ kinds.ExponentRange ∷ kinds.ColumnSplit ∷ []
+
+-- of each section but COLUMNS, whose lines are of two forms
+abbrev pub kinds_in : Option Section → List FaultKind
+kinds_in (Some Rows) = kinds.FieldCount ∷ kinds.BadType ∷ kinds.NameLength ∷ kinds.NameByte ∷ kinds.NameMarker ∷ []
+kinds_in (Some Columns) = kinds.Sos ∷ kinds.BadMarker ∷ column_kinds
+kinds_in (Some Rhs) = number_kinds
+kinds_in (Some Ranges) = number_kinds
+kinds_in (Some Bounds) = number_kinds
+kinds_in _ = kinds.SectionOrder ∷ kinds.FieldCount ∷ kinds.BadType ∷ []
+
+abbrev pub AreAmong : List FaultKind → FaultTests → Type 0
+AreAmong ks tests = list_all (λ test. is_among ks test.1) tests ≡ true
+
+judged-among : {X : Type 0} (ks : List FaultKind) (tests : X → FaultTests) (o : Option X) → is_among ks kinds.FieldCount ≡ true → ((x : X) → AreAmong ks (tests x)) → AreAmong ks (judged_by tests o)
+judged-among = grind arith
+
+abbrev pub unknown_kinds : List FaultKind
+unknown_kinds = kinds.Quadratic ∷ kinds.Sos ∷ kinds.Indicator ∷ kinds.UnknownSection ∷ []
+
+pub unknown-among : (quadratic sos indicator : Bool) → AreAmong unknown_kinds ((true, cond quadratic kinds.Quadratic (cond sos kinds.Sos (cond indicator kinds.Indicator kinds.UnknownSection))) ∷ [])
+unknown-among = grind arith
+
+pub section-among : (context : Context) (earlier : Draft) (section : Section) (more : Fields) → AreAmong (kinds.BadType ∷ kinds.UnknownRow ∷ []) (section_tests context earlier section more)
+section-among = grind arith
+
+pub column-among : (context : Context) (earlier : Draft) (fields : Fields) → AreAmong column_kinds (judged_by (column_tests context earlier) (column_shape fields))
+column-among context earlier fields = judged-among column_kinds (column_tests context earlier) (column_shape fields) refl (λ _. refl)
+
+pub data-among : (context : Context) (earlier : Draft) (fields : Fields) (o : Option Section) → AreAmong (kinds_in o) (data_tests context earlier fields o)
+data-among context earlier fields o = grind arith
+
+pub header-among : (context : Context) (earlier : Draft) (keyword : List ℕ) (more : Fields) (o : Option Section) → AreAmong header_kinds (header_tests context earlier keyword more o)
+header-among = grind arith
+
+-- a kind that no data line has
+pub no-data : {X : Type 0} (kind : FaultKind) (context : Context) (earlier : Draft) (fields : Fields) (o : Option Section) → is_among (kinds_in o) kind ≡ false → holds_of kind (data_tests context earlier fields o) ≡ true → X
+no-data kind context earlier fields o k h = absurd (never _ h (none-holds _ kind _ (data-among context earlier fields o) k))
+
+pub no-header : {X : Type 0} (kind : FaultKind) (context : Context) (earlier : Draft) (keyword : List ℕ) (more : Fields) (o : Option Section) → is_among header_kinds kind ≡ false
+    → holds_of kind (header_tests context earlier keyword more o) ≡ true → X
+no-header kind context earlier keyword more o k h =
+    absurd (never _ h (none-holds header_kinds kind _ (header-among context earlier keyword more o) k))
+
+-- what is left of the tests of a line, if the kind is not one of a rejected declaration
+pub by-form : (kind : FaultKind) (is_such : List LineContent → LineContent → Bool) → is_among refusal_kinds kind ≡ false
+    → ((before : List LineContent) (earlier : Draft) (item : LineContent) → Stated before earlier → holds_of kind (item_tests (context_of before) earlier item) ≡ true → is_such before item ≡ true)
+    → (before : List LineContent) (earlier : Draft) (item : LineContent) → Stated before earlier → IsFirst kind before earlier item → is_such before item ≡ true
+by-form = grind (arith, left_only, holds_of, refuses, form-only)
+
+-- and if it is none of those of the form of a line, one of its declarations is rejected
+pub by-declaration-of-data : (kind : FaultKind) (before : List LineContent) (earlier : Draft) (fields : Fields) → ((o : Option Section) → is_among (kinds_in o) kind ≡ false)
+    → IsFirst kind before earlier (data_line fields) → refuses kind earlier (data_declared (context_of before) earlier fields (current_section before)) ≡ true
+by-declaration-of-data kind before earlier fields lines first =
+    right_only _ _ (none-holds _ kind _ (data-among (context_of before) earlier fields _) (lines (current_section before))) first.stated
+
+pub by-declaration : (kind : FaultKind) (before : List LineContent) (earlier : Draft) (item : LineContent) → is_among header_kinds kind ≡ false → ((o : Option Section) → is_among (kinds_in o) kind ≡ false)
+    → IsFirst kind before earlier item → refuses kind earlier (line_declares (context_of before) earlier item) ≡ true
+by-declaration kind before earlier skipped heads lines first = first.stated
+by-declaration kind before earlier (header keyword more) heads lines first =
+    right_only _ _ (none-holds header_kinds kind _ (header-among (context_of before) earlier keyword more (section_named keyword)) heads) first.stated
+by-declaration kind before earlier (data_line fields) heads lines first = by-declaration-of-data kind before earlier fields lines first

@@ -1,54 +1,47 @@
 -- The objective of a draft and its rows without limits are those that the lines before name as such.
-use Rattle.std.proofs.Common.{arith, ◌≡◌, refl, sym, ap, ◌∙◌, subst, List, [], ◌∷◌, ◌++◌, ℕ, Bool, true, false, cond}
-use Rattle.std.proofs.lemmas.{Bool.false≢true, List.{append-nil, Elements.filter_map-append, Concat.flat_map-append, Folds.list_any-append}}
-use Rattle.std.specs.{Prelude.{Option, Some, None, is_none, is_some, filter_map, ◌||◌, ◌&&◌, codes}, List.{list_any, flat_map, cons_option}}
-use Rattle.std.specs.Option.{option_map, option_map_or}
-use Rattle.mpslp_types.specs.{Name.same_bytes, declared.kinds.RowType.{RowType, TheVariants.Free}, Lists.{when, head_of, is_nonempty}}
-use Rattle.mpslp_types.proofs.BoolLemmas.{or_left, or_right}
-use Rattle.mpslp_builder.specs.Declaration.{by_type, declare_objective, declare_row, Draft, with_declaration, with_declarations}
-use Rattle.mpslp_builder.{specs.Declaration.{is_objective, is_free_definition, is_free_row}, proofs.LaterDrafts.{Extends, itself_named}}
-use Rattle.mpslp_builder.proofs.{LaterDrafts.is_objective-after, SlotLemmas.{at-put, same_name}}
-use Rattle.mpslp_mps_fields.specs.{Line.{Fields, LineContent, header, data_line, section_named, is_section}, DataLine.{RowLine, row_shape}}
-use Rattle.mpslp_mps_fields.specs.{DataLine.row_type, declared.sections.Section.{Section, TheVariants.{ObjName, Rows, Columns}}}
-use Rattle.mpslp_mps.specs.Context.{Context, context_of, current_section, seen_sections, fields_under, data_lines, objname}
-use Rattle.mpslp_mps.specs.{SeenSection.has_section, LineDeclarations.{declared_if_some, row_of_type, row_declared, data_declared}}
-use Rattle.mpslp_mps.{specs.LineDeclarations.{header_declared, line_declares}, proofs.OrderLemmas.{IsGood, never}}
-use Rattle.mpslp_mps.proofs.SectionLemmas.{data_lines-push, said_after-push}
-use Rattle.mpslp_mps_sentences.specs.TextInWords.{is_free, is_free_row_named, has_free_row, word_fields, words_in}
-use Rattle.mpslp_mps_sentences.specs.{FaultsInWords.is_free_row_line, ValueFaultsInWords.{free_row_name, names_objective}}
-use Rattle.mpslp_mps_sentences.proofs.{WordsOfFields.section-is, WordsOfSenseAndName.{missing, without_word, with_word, IsUnderway}}
-use Rattle.mpslp_mps_sentences.proofs.WordsOfObjName.{IsWantedEarly, objective-kept, header-unnamed, data-unnamed, stated-words}
-use Rattle.mpslp_mps_sentences.proofs.{NamesOfWords.Stated, RepeatsOfNames.{last-place, columns-out}, DeclaredByLines.IsPartOf}
-use Rattle.mpslp_mps_sentences.proofs.DeclaredByLines.{lines-kept}
+use Rattle.mpslp_mps_sentences.proofs.Prelude
+use Prelude.{arith, ◌≡◌, refl, sym, ap, ◌∙◌, subst, List, [], ◌∷◌, ◌++◌, ℕ, Bool, true, false, cond, false≢true, append-nil}
+use Prelude.{filter_map-append, flat_map-append, list_any-append, Option, Some, None, is_none, is_some, filter_map, ◌||◌, ◌&&◌, codes}
+use Prelude.{list_any, flat_map, cons_option, option_map, option_map_or, same_bytes, RowType, Free, when, head_of, is_nonempty, or_left}
+use Prelude.{or_right, by_type, declare_objective, declare_row, Draft, with_declaration, with_declarations, is_objective}
+use Prelude.{is_free_definition, is_free_row, Extends, itself_named, is_objective-after, at-put, same_name, Fields, LineContent, header}
+use Prelude.{data_line, section_named, is_section, RowLine, row_shape, row_type, Section, ObjName, Rows, Columns, Context, context_of}
+use Prelude.{current_section, seen_sections, fields_under, data_lines, objname, has_section, declared_if_some, row_of_type, row_declared}
+use Prelude.{data_declared, header_declared, line_declares, IsGood, never, data_lines-push, said_after-push, is_free, is_free_row_named}
+use Prelude.{has_free_row, word_fields, words_in, is_free_row_line, free_row_name, names_objective}
+use Rattle.mpslp_mps_sentences.proofs.{DeclaredByLines.{IsPartOf, lines-kept}, NamesOfWords.{Stated}}
+use Rattle.mpslp_mps_sentences.proofs.{FaultsOfNames.{last-place, columns-out}, FieldsInWords.{section-is, Keeps, next_draft}}
+use Rattle.mpslp_mps_sentences.proofs.OneWordSections.{IsWantedEarly, objective-kept, header-unnamed, data-unnamed, stated-words, missing}
+use Rattle.mpslp_mps_sentences.proofs.OneWordSections.{without_word, with_word, IsUnderway}
 
 -- ---- a row without limits has a line of type N
 
 free-part : (row : List ℕ) → IsPartOf Rows (λ all. is_free_row all row)
-free-part row = grind arith
+free-part = grind arith
 
 abbrev pub HaveFreeLines : List LineContent → Draft → Type 0
 HaveFreeLines before earlier = (row : List ℕ) → is_free_row earlier row ≡ true → has_free_row before row ≡ true
 
 -- after a row of this type
 row-after : (all : Draft) (name row : List ℕ) (type : RowType) → is_free_row (with_declaration all (declare_row name (by_type type))) row ≡ cond (same_bytes row name) (is_free_definition (by_type type)) (is_free_row all row)
-row-after all name row type = grind (arith, at-put)
+row-after = grind (arith, at-put)
 
 same-back : (a b : List ℕ) → same_bytes a b ≡ true → same_bytes b a ≡ true
-same-back a b h = ap (λ (x : List ℕ). same_bytes b x) (same_name a b h) ∙ itself_named b
+same-back a b h = ap (λ x. same_bytes b x) (same_name a b h) ∙ itself_named b
 
-pub free_lines-kept : (before : List LineContent) (earlier : Draft) (item : LineContent) → HaveFreeLines before earlier → HaveFreeLines (before ++ item ∷ []) (with_declarations earlier (line_declares (context_of before) earlier item))
-free_lines-kept before earlier item have row h = lines-kept Rows (λ all. is_free_row all row) (free-part row) (is_free_row_named row) own before earlier item (have row) h
+pub free_lines-kept : Keeps HaveFreeLines
+free_lines-kept before earlier item have row h = lines-kept Rows (λ all. is_free_row all row) (free-part row) _ own before earlier item (have row) h
   where
     limited : (all : Draft) (name : List ℕ) (type : RowType) → is_free_definition (by_type type) ≡ false → is_free_row (with_declaration all (declare_row name (by_type type))) row ≡ true → is_free_row all row ≡ true
-    limited all name type e k = grind (arith, row-after, never)
+    limited = grind (arith, row-after, never)
 
     free : (all : Draft) (name : List ℕ) (b : Bool) → is_free_row (with_declarations all (cond b (declare_objective name ∷ []) (declare_row name (by_type Free) ∷ []))) row ≡ true
         → (same_bytes name row || is_free_row all row) ≡ true
-    free all name b k = grind (arith, or_right, row-after, or_left, same-back)
+    free = grind (arith, or_right, row-after, or_left, same-back)
 
     typed : (context : Context) (all : Draft) (line : RowLine) (o : Option RowType) → is_free_row (with_declarations all (declared_if_some (row_of_type context all line.name) o)) row ≡ true
         → ((is_free o && same_bytes line.name row) || is_free_row all row) ≡ true
-    typed context all line o k = grind (arith, free, limited)
+    typed = grind (arith, free, limited)
 
     of : (context : Context) (all : Draft) (o : Option RowLine) → is_free_row (with_declarations all (declared_if_some (row_declared context all) o)) row ≡ true
         → (option_map_or (λ (line : RowLine). is_free (row_type line.letter) && same_bytes line.name row) o false || is_free_row all row) ≡ true
@@ -64,28 +57,27 @@ abbrev pub AreRowsFree : List LineContent → Draft → Type 0
 AreRowsFree before earlier = (row : List ℕ) → has_free_row before row ≡ true → (is_free_row earlier row || is_objective earlier row) ≡ true
 
 free-after : (before after : Draft) (row : List ℕ) → Extends before after → is_free_row before row ≡ true → is_free_row after row ≡ true
-free-after before after row e h = grind arith
+free-after = grind arith
 
-pub rows_free-kept : (before : List LineContent) (earlier : Draft) (item : LineContent) → Extends earlier (with_declarations earlier (line_declares (context_of before) earlier item)) → AreRowsFree before earlier
-    → AreRowsFree (before ++ item ∷ []) (with_declarations earlier (line_declares (context_of before) earlier item))
+pub rows_free-kept : (before : List LineContent) (earlier : Draft) (item : LineContent) → Extends earlier (next_draft before earlier item) → AreRowsFree before earlier
+    → AreRowsFree (before ++ item ∷ []) (next_draft before earlier item)
 rows_free-kept before earlier item e have row h =
-    by (has_free_row before row) refl item e
-    (sym (ap (list_any (is_free_row_named row)) (data_lines-push Rows before item)
+    by (has_free_row before row) refl item e (sym (ap (list_any (is_free_row_named row)) (data_lines-push Rows before item)
     ∙ list_any-append (is_free_row_named row) (data_lines Rows before) (fields_under Rows (current_section before) item)) ∙ h)
   where
     next : LineContent → Draft
     next x = with_declarations earlier (line_declares (context_of before) earlier x)
 
     old : (x : LineContent) → Extends earlier (next x) → (is_free_row earlier row || is_objective earlier row) ≡ true → (is_free_row (next x) row || is_objective (next x) row) ≡ true
-    old x f k = grind (arith, or_left, free-after, or_right, is_objective-after, next)
+    old = grind (arith, or_left, free-after, or_right, is_objective-after, next)
 
     new : (line : RowLine) (b : Bool) → same_bytes line.name row ≡ true
         → (is_free_row (with_declarations earlier (cond b (declare_objective line.name ∷ []) (declare_row line.name (by_type Free) ∷ []))) row || is_objective (with_declarations earlier (cond b (declare_objective line.name ∷ []) (declare_row line.name (by_type Free) ∷ []))) row) ≡ true
-    new line b s = grind (arith, or_right, same-back, or_left, row-after)
+    new = grind (arith, or_right, same-back, or_left, row-after)
 
     typed : (line : RowLine) (o : Option RowType) → (is_free o && same_bytes line.name row) ≡ true
         → (is_free_row (with_declarations earlier (declared_if_some (row_of_type (context_of before) earlier line.name) o)) row || is_objective (with_declarations earlier (declared_if_some (row_of_type (context_of before) earlier line.name) o)) row) ≡ true
-    typed line o k = grind (arith, false≢true, new)
+    typed = grind (arith, false≢true, new)
 
     shaped : (o : Option RowLine) → option_map_or (λ (line : RowLine). is_free (row_type line.letter) && same_bytes line.name row) o false ≡ true
         → (is_free_row (with_declarations earlier (declared_if_some (row_declared (context_of before) earlier) o)) row || is_objective (with_declarations earlier (declared_if_some (row_declared (context_of before) earlier) o)) row) ≡ true
@@ -97,10 +89,10 @@ rows_free-kept before earlier item e have row h =
     one false k = k
 
     under : (fields : Fields) (b : Bool) → is_section Rows (current_section before) ≡ b → list_any (is_free_row_named row) (when b fields) ≡ true → (is_free_row (next (data_line fields)) row || is_objective (next (data_line fields)) row) ≡ true
-    under fields b s k = grind (arith, section-is, false≢true, shaped, one)
+    under = grind (arith, section-is, false≢true, shaped, one)
 
     here : (x : LineContent) → list_any (is_free_row_named row) (fields_under Rows (current_section before) x) ≡ true → (is_free_row (next x) row || is_objective (next x) row) ≡ true
-    here x k = grind (arith, false≢true, under)
+    here = grind (arith, false≢true, under)
 
     by : (b : Bool) → has_free_row before row ≡ b → (x : LineContent) → Extends earlier (next x) → (b || list_any (is_free_row_named row) (fields_under Rows (current_section before) x)) ≡ true
         → (is_free_row (next x) row || is_objective (next x) row) ≡ true
@@ -116,18 +108,18 @@ abbrev free_names : List LineContent → List (List ℕ)
 free_names before = filter_map free_row_name (data_lines Rows before)
 
 stated-push : (before : List LineContent) (item : LineContent) → stated_names (before ++ item ∷ []) ≡ stated_names before ++ flat_map (λ fields. fields) (word_fields ObjName (current_section before) item)
-stated-push before item = grind (arith, said_after-push, flat_map-append)
+stated-push = grind (arith, said_after-push, flat_map-append)
 
 free-push : (before : List LineContent) (item : LineContent) → free_names (before ++ item ∷ []) ≡ free_names before ++ filter_map free_row_name (fields_under Rows (current_section before) item)
-free-push before item = grind (arith, data_lines-push, filter_map-append)
+free-push = grind (arith, data_lines-push, filter_map-append)
 
 -- OBJNAME gives the name that is its word
 objname-stated : (before : List LineContent) → IsUnderway ObjName (λ _. true) before → objname before ≡ head_of (stated_names before)
-objname-stated before stage = grind (arith, stated-words, false≢true, missing, without_word, with_word)
+objname-stated = grind (arith, stated-words, false≢true, missing, without_word, with_word)
 
 -- a line of type N gives a name
 free-named : (fields : Fields) → is_free_row_line fields ≡ true → is_some (free_row_name fields) ≡ true
-free-named fields h = grind arith
+free-named = grind arith
 
 -- no line of type N
 none-free : (lines : List Fields) → is_nonempty (filter_map free_row_name lines) ≡ false → list_any is_free_row_line lines ≡ false
@@ -136,7 +128,7 @@ none-free (fields ∷ lines) h = by (is_free_row_line fields) refl (free_row_nam
   where
     by : (b : Bool) → is_free_row_line fields ≡ b → (o : Option (List ℕ)) → free_row_name fields ≡ o → is_nonempty (cons_option o (filter_map free_row_name lines)) ≡ false
         → (is_nonempty (filter_map free_row_name lines) ≡ false → list_any is_free_row_line lines ≡ false) → (b || list_any is_free_row_line lines) ≡ false
-    by b e o f k rest = grind (arith, never, free-named)
+    by = grind (arith, never, free-named)
 
 no-free : (lines : List Fields) → list_any is_free_row_line lines ≡ false → filter_map free_row_name lines ≡ []
 no-free [] h = refl
@@ -144,7 +136,7 @@ no-free (fields ∷ lines) h = by (is_free_row_line fields) refl h (λ k. no-fre
   where
     by : (b : Bool) → is_free_row_line fields ≡ b → (b || list_any is_free_row_line lines) ≡ false → (list_any is_free_row_line lines ≡ false → filter_map free_row_name lines ≡ []) → filter_map free_row_name (fields ∷ lines) ≡ []
     by true e k rest = cc
-    by false e k rest = ap (λ (b : Bool). cons_option (cond b (option_map (λ (line : RowLine). line.name) (row_shape fields)) None) (filter_map free_row_name lines)) e ∙ rest k
+    by false e k rest = ap (λ b. cons_option (cond b (option_map (λ line. line.name) (row_shape fields)) None) (filter_map free_row_name lines)) e ∙ rest k
 
 -- ---- the first of them is the objective
 
@@ -161,16 +153,16 @@ no-later-rows before earlier item stated begun = by item
   where
     under : (fields : Fields) (b : Bool) → is_section Rows (current_section before) ≡ b → when b fields ≡ []
     under fields true e =
-        absurd (never (has_section before Columns) begun
-        (columns-out (seen_sections before) (last-place (seen_sections before) Rows stated.known.words.ordered.order (section-is Rows (current_section before) e))))
+        absurd (never _ begun
+        (columns-out (seen_sections before) (last-place (seen_sections before) Rows stated.known.words.ordered.order (section-is Rows _ e))))
     under fields false e = refl
 
     by : (x : LineContent) → fields_under Rows (current_section before) x ≡ []
-    by x = grind (arith, under)
+    by = grind (arith, under)
 
 pub first_named-kept : (before : List LineContent) (earlier : Draft) (item : LineContent) → IsGood before earlier item → Stated before earlier
-    → Extends earlier (with_declarations earlier (line_declares (context_of before) earlier item)) → IsFirstNamed before earlier
-    → IsFirstNamed (before ++ item ∷ []) (with_declarations earlier (line_declares (context_of before) earlier item))
+    → Extends earlier (next_draft before earlier item) → IsFirstNamed before earlier
+    → IsFirstNamed (before ++ item ∷ []) (next_draft before earlier item)
 first_named-kept before earlier item good stated extends have name h =
     ap (λ (names : List (List ℕ)). option_map_or (same_bytes name) (head_of names) false) (ap (λ (names : List (List ℕ)). names ++ (free_names (before ++ item ∷ []) ++ codes "obj" ∷ [])) (stated-push before item))
     ∙ (ap (λ (names : List (List ℕ)). option_map_or (same_bytes name) (head_of ((stated_names before ++ flat_map (λ fields. fields) (word_fields ObjName (current_section before) item)) ++ (names ++ codes "obj" ∷ []))) false) (free-push before item)

@@ -1,42 +1,36 @@
 -- `FaultsInWords` on worked lines, by computation: each definition holds for lines with its error, and for no correct line.
-use Rattle.std.{proofs.Common.{◌≡◌, refl}, specs.{Prelude.{ℕ, Bool, true, false, ◌||◌, List, [], ◌∷◌, ◌++◌, map, codes}, List.list_all}}
-use Rattle.std.specs.List.{list_any}
-use Rattle.mpslp_mps_fields.specs.Line.{LineContent, content_of}
-use Rattle.mpslp_mps.{specs.MpsText.read_lines, proofs.WorkedFiles.{small, ranges, semi_columns, maximized, integer_bounds}}
-use Rattle.mpslp_mps_sentences.specs.FaultsInWords.{repeats_section, occurs_out_of_order, is_wrong_marker, is_of_second_set, splits_column}
-use Rattle.mpslp_mps_sentences.specs.FaultsInWords.{repeats_row, names_unknown_row, names_unknown_column, repeats_entry}
+use Rattle.mpslp_mps_sentences.proofs.Prelude
+use Prelude.{◌≡◌, refl, ◌||◌, codes, list_all, list_any, LineContent, content_of, read_lines, small, ranges, semi_columns, maximized}
+use Prelude.{integer_bounds, repeats_section, occurs_out_of_order, is_wrong_marker, is_of_second_set, splits_column, repeats_row}
+use Prelude.{names_unknown_row, names_unknown_column, repeats_entry}
+use Rattle.std.specs.Prelude.{ℕ, Bool, true, false, List, [], ◌∷◌, ◌++◌, map}
+use Prim.Native.String.{String}
+use Rattle.mpslp_mps_sentences.proofs.WorkedWords.{lines_of}
+
+abbrev contents : String → List LineContent
+contents s = map content_of (lines_of s)
 
 abbrev lines_before : List LineContent
-lines_before = map content_of
-    (codes "NAME" ∷ codes "ROWS" ∷ codes " N  C" ∷ codes " L  R" ∷ codes "COLUMNS" ∷ codes "    X  C  1" ∷ codes "    X  R  1" ∷ codes "    Y  C  1" ∷ [])
+lines_before = contents "NAME\nROWS\n N  C\n L  R\nCOLUMNS\n    X  C  1\n    X  R  1\n    Y  C  1"
 
 abbrev sides_before : List LineContent
-sides_before = lines_before ++ map content_of (codes "RHS" ∷ codes "    A  R  1" ∷ [])
+sides_before = lines_before ++ contents "RHS\n    A  R  1"
 
 -- ---- lines with an error
 
-abbrev faulty_lines : List ((List LineContent → LineContent → Bool) × List LineContent × List ℕ)
+abbrev faulty_lines : List ((List LineContent → LineContent → Bool) × List LineContent × String)
 faulty_lines =
-    (repeats_section, lines_before, codes "COLUMNS") ∷
-    (occurs_out_of_order, map content_of (codes "OBJSENSE" ∷ []), codes "ROWS") ∷
-    (occurs_out_of_order, lines_before, codes "OBJSENSE MAX") ∷
-    (occurs_out_of_order, map content_of (codes "ROWS" ∷ []), codes "BOUNDS") ∷
-    (occurs_out_of_order, [], codes " N  C") ∷
-    (occurs_out_of_order, map content_of (codes "OBJSENSE MAX" ∷ []), codes "    MIN") ∷
-    (is_wrong_marker, lines_before, codes "    M  'MARKER'  'INTEND'") ∷
-    (is_of_second_set, sides_before, codes "    B  C  1") ∷
-    (is_of_second_set, sides_before, codes "    C  1") ∷
-    (splits_column, lines_before, codes "    X  R  2") ∷
-    (repeats_row, map content_of (codes "ROWS" ∷ codes " N  C" ∷ []), codes " L  C") ∷
-    (repeats_row, map content_of (codes "ROWS" ∷ codes " L  obj" ∷ []), codes "COLUMNS") ∷
-    (names_unknown_row, lines_before, codes "    Y  S  1") ∷
-    (names_unknown_row, map content_of (codes "OBJNAME R" ∷ codes "ROWS" ∷ codes " L  R" ∷ []), codes "COLUMNS") ∷
-    (names_unknown_column, lines_before ++ map content_of (codes "BOUNDS" ∷ []), codes " UP  B  Z  4") ∷
-    (repeats_entry, lines_before, codes "    Y  C  1") ∷
-    (repeats_entry, lines_before, codes "    Z  R  1  R  2") ∷
-    []
+    (repeats_section, lines_before, "COLUMNS") ∷ (occurs_out_of_order, contents "OBJSENSE", "ROWS") ∷
+    (occurs_out_of_order, lines_before, "OBJSENSE MAX") ∷ (occurs_out_of_order, contents "ROWS", "BOUNDS") ∷
+    (occurs_out_of_order, [], " N  C") ∷ (occurs_out_of_order, contents "OBJSENSE MAX", "    MIN") ∷
+    (is_wrong_marker, lines_before, "    M  'MARKER'  'INTEND'") ∷ (is_of_second_set, sides_before, "    B  C  1") ∷
+    (is_of_second_set, sides_before, "    C  1") ∷ (splits_column, lines_before, "    X  R  2") ∷
+    (repeats_row, contents "ROWS\n N  C", " L  C") ∷ (repeats_row, contents "ROWS\n L  obj", "COLUMNS") ∷
+    (names_unknown_row, lines_before, "    Y  S  1") ∷ (names_unknown_row, contents "OBJNAME R\nROWS\n L  R", "COLUMNS") ∷
+    (names_unknown_column, lines_before ++ contents "BOUNDS", " UP  B  Z  4") ∷ (repeats_entry, lines_before, "    Y  C  1") ∷
+    (repeats_entry, lines_before, "    Z  R  1  R  2") ∷ []
 
-pub faulty_lines-found : list_all (λ row. row.0 row.1 (content_of row.2)) faulty_lines ≡ true
+pub faulty_lines-found : list_all (λ row. row.0 row.1 (content_of (codes row.2))) faulty_lines ≡ true
 faulty_lines-found = refl
 
 -- ---- a file without an error has no such line

@@ -1,7 +1,6 @@
 use Rattle.mpslp_mps_sentences.proofs.FaultsOfWords.{section-repeated, section-order, bad-marker, column-split, second-set}
-use Rattle.mpslp_mps_sentences.proofs.{FaultsOfNames.{unknown-rows, unknown-columns}, RepeatsOfNames.{repeated-rows, repeated-entries}}
-use Rattle.mpslp_mps_sentences.proofs.{FaultsOfValues.{free-ranges, repeated-ranges, repeated-sides}, FaultsOfBounds.repeated-bounds}
-use Rattle.mpslp_mps_sentences.proofs.FaultsOfBounds.{both-kinds-in_words}
+use Rattle.mpslp_mps_sentences.proofs.FaultsOfNames.{unknown-rows, unknown-columns, repeated-rows, repeated-entries}
+use Rattle.mpslp_mps_sentences.proofs.FaultsOfValues.{free-ranges, repeated-ranges, repeated-sides, repeated-bounds, both-kinds-in_words}
 use Rattle.mpslp_mps_sentences.proofs.laws.faults_are_in_words.Goals as goal
 
 pub returns : goal.returns
