@@ -35,7 +35,7 @@ pub(crate) fn end_row<'a>(
 
 /// Takes the right-hand side of a row, if the state is after a term of a row and the side comes next.
 #[inline(never)]
-fn take_right_side<'a>(
+pub(crate) fn take_right_side<'a>(
     context: &mut Context,
     state: &mut State,
     tokens: Tokens<'a>,
