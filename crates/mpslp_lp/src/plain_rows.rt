@@ -63,7 +63,7 @@ pub(crate) fn take_right_side<'a>(
 }
 
 /// Takes the terms that come next and, if they are those of a row, its right-hand side after them. Returns the tokens after these.
-#[inline(always)]
+#[inline(never)]
 pub(crate) fn take_rest_of_row<'a>(
     context: &mut Context,
     state: &mut State,

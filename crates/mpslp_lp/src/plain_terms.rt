@@ -102,7 +102,7 @@ fn take_plain_term(
 }
 
 /// Takes the plain terms of a row that come next. Returns the tokens after them.
-#[inline(never)]
+#[inline(always)]
 fn take_plain_terms<'a>(
     context: &Context,
     row: &mut PartialRow,

@@ -117,7 +117,7 @@ fn take_rest_of_line<'a>(
     }
 }
 
-/// Takes the tokens of a line after its plain terms. Most lines have only plain phrases, for which no state is moved with each token.
+/// Takes the tokens of a line after its plain terms. Most lines have only plain phrases, for which no state is moved.
 #[inline(always)]
 fn take_others(
     context: &mut Context,
@@ -135,8 +135,7 @@ fn take_others(
     }
 }
 
-/// Takes the tokens of a line. The lines of long rows have only plain terms, for which neither a state is moved nor anything else
-/// tried.
+/// Takes the tokens of a line. The lines of long rows have only plain terms, after which no other phrase is looked for.
 fn take_tokens(context: &mut Context, state: &mut State, line: &[u8]) -> Result<(), LineError>
     ensures { MatchResult result
         (λ _. take_tokens context.old state.old (tokens line.now) ≡ Goes context.new state.new)

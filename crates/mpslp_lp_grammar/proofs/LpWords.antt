@@ -1,4 +1,4 @@
--- Names without a fault, and names of which each byte may be in an LP name.
+-- Names without an error, and names of which each byte may be in an LP name.
 use Rattle.std.proofs.Common.{◌≡◌, refl, sym, ap, ◌∙◌, ℕ, List, [], ◌∷◌, Bool, true, false, not}
 use Rattle.std.specs.Prelude.{None, ◌&&◌}
 use Rattle.std.specs.List.{list_all}
@@ -10,7 +10,7 @@ use Rattle.mpslp_types.proofs.NameLemmas.{mps_name-from_lp}
 use Rattle.mpslp_lines.specs.FaultTests.{first_held}
 use Rattle.mpslp_lp_grammar.specs.Terminal.{name_fault}
 
--- ---- what a name without a fault is
+-- ---- what a name without an error is
 
 pub record HasNoFault (name : List ℕ) : Type 0 where
   pub legal : is_mps_name name ≡ true
@@ -41,7 +41,7 @@ visible-bytes (byte ∷ bytes) h =
     both_so (is_visible byte) (list_all is_visible bytes) (visible-byte byte (first_so (is_lp_byte byte) (list_all is_lp_byte bytes) h))
     (visible-bytes bytes (second_so (is_lp_byte byte) (list_all is_lp_byte bytes) h))
 
--- the fault of such a name, by the tests that are left
+-- the error of such a name, by the tests that are left
 pub fault-of_lp_bytes : (name : List ℕ) (long marked like : Bool) → has_name_length name ≡ long → same_bytes name marker ≡ marked → is_like_exponent name ≡ like → list_all is_lp_byte name ≡ true
     → first_held ((not long, faults.NameLength) ∷ (marked, faults.NameMarker) ∷ (like, faults.NameLikeExponent) ∷ []) ≡ name_fault name
 fault-of_lp_bytes name long marked like p q r h = sym (rw (p, visible-bytes name h, q, r) refl)

@@ -90,7 +90,7 @@ fn lp_name_fault(name: &[u8]) -> Option<FaultKind>
     requires { list_all is_lp_byte name.now ≡ true }
     ensures { result ≡ name_fault name.now }
 {
-    if name.is_empty() || name.len() > MAX_NAME_LEN {
+    if name.is_empty() || MAX_NAME_LEN < name.len() {
         return Some(FaultKind::NameLength);
     }
     if is_marker(name) {
