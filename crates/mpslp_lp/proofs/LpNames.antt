@@ -1,33 +1,15 @@
 -- A word that is a name and has no error is an LP name.
-use Rattle.std.proofs.Common.{◌≡◌, refl, ap, ℕ, List, [], ◌∷◌, Bool, true, false, not}
+use Rattle.std.proofs.Common.{◌≡◌, ℕ, List, true, not}
 use Rattle.std.specs.Prelude.{None, ◌&&◌}
 use Rattle.std.specs.List.{list_all}
 use Rattle.std.specs.Cmp.{first_so, second_so}
-use Rattle.mpslp_types.specs.Name.{same_bytes, has_name_length, is_visible, marker, is_mps_name, is_lp_byte, is_reserved, is_like_exponent, begins_a_number, is_lp_name}
-use Rattle.mpslp_types.specs.declared.faults.FaultKind.TheVariants as faults
+use Rattle.mpslp_types.specs.Name.{same_bytes, has_name_length, is_visible, marker, is_lp_byte, is_reserved, is_like_exponent, begins_a_number, is_lp_name}
 use Rattle.mpslp_types.proofs.BoolLemmas.{both_so}
-use Rattle.mpslp_lines.specs.FaultTests.{first_held}
 use Rattle.mpslp_lp_tokens.specs.Token.{is_word, class_of}
 use Rattle.mpslp_lp_tokens.specs.declared.words.WordClass.TheVariants as meanings
 use Rattle.mpslp_lp_tokens.proofs.NameTokens.{word-text, name-not_reserved}
 use Rattle.mpslp_lp_grammar.specs.Terminal.{name_fault}
-
--- ---- what a name without a fault is
-
-pub record HasNoFault (name : List ℕ) : Type 0 where
-  pub legal : is_mps_name name ≡ true
-  pub no_exponent : not (is_like_exponent name) ≡ true
-
-pub name-without_fault : (name : List ℕ) → name_fault name ≡ None → HasNoFault name
-name-without_fault name h = by (has_name_length name) (list_all is_visible name) (same_bytes name marker) (is_like_exponent name) refl refl refl refl h
-  where
-    by : (a b c d : Bool) → has_name_length name ≡ a → list_all is_visible name ≡ b → same_bytes name marker ≡ c → is_like_exponent name ≡ d
-        → first_held ((not a, faults.NameLength) ∷ (not b, faults.NameByte) ∷ (c, faults.NameMarker) ∷ (d, faults.NameLikeExponent) ∷ []) ≡ None → HasNoFault name
-    by true true false false p q r e h = record { legal = rw (p, q, r) refl; no_exponent = ap not e }
-    by true true false true p q r e h = cc
-    by true true true d p q r e h = cc
-    by true false c d p q r e h = cc
-    by false b c d p q r e h = cc
+use Rattle.mpslp_lp_grammar.proofs.LpWords.{name-without_fault}
 
 -- A word that is a name and has no fault is a name in LP.
 pub lp-name : (text : List ℕ) → is_word text ≡ true → class_of text ≡ meanings.Name → name_fault text ≡ None → is_lp_name text ≡ true

@@ -35,7 +35,7 @@ pub(crate) fn end_row<'a>(
 
 /// Takes the right-hand side of a row, if the state is after a term of a row and the side comes next.
 #[inline(never)]
-fn take_right_side<'a>(
+pub(crate) fn take_right_side<'a>(
     context: &mut Context,
     state: &mut State,
     tokens: Tokens<'a>,
@@ -63,7 +63,7 @@ fn take_right_side<'a>(
 }
 
 /// Takes the terms that come next and, if they are those of a row, its right-hand side after them. Returns the tokens after these.
-#[inline(always)]
+#[inline(never)]
 pub(crate) fn take_rest_of_row<'a>(
     context: &mut Context,
     state: &mut State,

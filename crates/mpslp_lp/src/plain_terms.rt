@@ -16,9 +16,10 @@ use crate::plain_tokens::{next_name, next_sign};
 use crate::read_line::{error_before, least_error};
 use mpslp_lines::{LineError, value_of};
 use mpslp_lp_grammar::{
-    Context, PartialRow, Place, Sign, State, TerminalKind, classify, declare_objective_term,
+    Context, PartialRow, Place, Sign, State, TerminalKind, classify_found, declare_objective_term,
     row_without_terms,
 };
+use mpslp_lp_tokens::laws::each_word_has_lp_bytes;
 use mpslp_lp_tokens::{TokenKind, Tokens};
 use mpslp_model::Name;
 use std::mem::replace;
@@ -45,13 +46,14 @@ pub(crate) fn set_state(state: &mut State, next: State)
 fn unsigned_term<'a>(tokens: &mut Tokens<'a>) -> Option<(&'a [u8], &'a [u8])>
     ensures { IfSome result (λ term. IsUnsignedTerm tokens.old term.0.now term.1.now tokens.new) }
 {
+    each_word_has_lp_bytes(tokens);
     let token = tokens.next()?;
     match token.kind {
         TokenKind::Number => {
             let column = next_name(tokens)?;
             Some((token.text, column))
         }
-        _ => match classify(token.kind, token.text) {
+        _ => match classify_found(token.kind, token.text) {
             Ok(TerminalKind::Name) => Some((b"1".as_slice(), token.text)),
             _ => None,
         },
@@ -100,7 +102,7 @@ fn take_plain_term(
 }
 
 /// Takes the plain terms of a row that come next. Returns the tokens after them.
-#[inline(never)]
+#[inline(always)]
 fn take_plain_terms<'a>(
     context: &Context,
     row: &mut PartialRow,
@@ -209,6 +211,22 @@ fn take_objective_terms<'a>(
         };
         take_objective_term(context, objective, term, left.again())?;
         tokens = left;
+    }
+}
+
+/// Takes the plain terms that come next, if the state is after a term of a row or of the objective. Returns the tokens after them.
+#[inline(always)]
+pub(crate) fn take_more_terms<'a>(
+    context: &mut Context,
+    state: &mut State,
+    tokens: Tokens<'a>,
+) -> Result<Tokens<'a>, LineError>
+    ensures { TakesSome context.old state.old tokens.entry result context.new state.new }
+{
+    match state {
+        State::Between(Place::InRow(row)) => take_plain_terms(context, row, tokens),
+        State::Between(Place::InObjective(name)) => take_objective_terms(context, name, tokens),
+        _ => Ok(tokens),
     }
 }
 

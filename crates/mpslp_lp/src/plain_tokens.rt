@@ -9,9 +9,10 @@ ghost use Rattle.mpslp_lp.specs.PlainTerm.{Begins};
 ghost use Rattle.mpslp_lp.specs.PlainPhrase.{BeginsWithLimit, BeginsWithSide, BeginsWithRight};
 
 use mpslp_lp_grammar::{
-    GivenLimit, Relation, Sign, TerminalKind, TerminalToken, classify, limit_of_terminal,
+    GivenLimit, Relation, Sign, TerminalKind, TerminalToken, classify_found, limit_of_terminal,
 };
-use mpslp_lp_tokens::Tokens;
+use mpslp_lp_tokens::laws::each_word_has_lp_bytes;
+use mpslp_lp_tokens::{TokenKind, Tokens};
 
 /// The next token, if it has no lexical error.
 #[inline(always)]
@@ -19,8 +20,9 @@ pub(crate) fn next_terminal<'a>(tokens: &mut Tokens<'a>) -> Option<TerminalToken
     ensures next { IfSome result (λ token. Begins tokens.old (terminal_of_token token) tokens.new) }
     ensures legal { IfSome result (λ token. HasLegalName token) }
 {
+    each_word_has_lp_bytes(tokens);
     let token = tokens.next()?;
-    match classify(token.kind, token.text) {
+    match classify_found(token.kind, token.text) {
         Ok(kind) => Some(TerminalToken {
             kind,
             text: token.text,
@@ -35,8 +37,9 @@ pub(crate) fn next_sign(tokens: &mut Tokens<'_>) -> Option<Sign>
     ensures { IfSome result (λ sign. Begins tokens.old (Terminal.Sign sign) tokens.new) }
 {
     let token = tokens.next()?;
-    match classify(token.kind, token.text) {
-        Ok(TerminalKind::Sign(sign)) => Some(sign),
+    match token.kind {
+        TokenKind::Plus => Some(Sign::Plus),
+        TokenKind::Minus => Some(Sign::Minus),
         _ => None,
     }
 }
@@ -47,8 +50,9 @@ pub(crate) fn next_name<'a>(tokens: &mut Tokens<'a>) -> Option<&'a [u8]>
     ensures next { IfSome result (λ name. Begins tokens.old (Terminal.Name name.now) tokens.new) }
     ensures legal { IfSome result (λ name. IsMpsName name.now) }
 {
+    each_word_has_lp_bytes(tokens);
     let token = tokens.next()?;
-    match classify(token.kind, token.text) {
+    match classify_found(token.kind, token.text) {
         Ok(TerminalKind::Name) => Some(token.text),
         _ => None,
     }
@@ -60,8 +64,10 @@ pub(crate) fn next_relation(tokens: &mut Tokens<'_>) -> Option<Relation>
     ensures { IfSome result (λ relation. Begins tokens.old (Terminal.Compares relation) tokens.new) }
 {
     let token = tokens.next()?;
-    match classify(token.kind, token.text) {
-        Ok(TerminalKind::Compares(relation)) => Some(relation),
+    match token.kind {
+        TokenKind::Less => Some(Relation::AtMost),
+        TokenKind::Greater => Some(Relation::AtLeast),
+        TokenKind::Equal => Some(Relation::EqualTo),
         _ => None,
     }
 }

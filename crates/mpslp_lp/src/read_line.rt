@@ -10,8 +10,8 @@ ghost use Rattle.mpslp_lp_grammar.specs.Declares.{error_before, lower_ranked_of,
 ghost use Rattle.mpslp_lp.specs.LineByLine.{token_faults, take_tokens, take_line};
 ghost use Rattle.mpslp_lp.specs.Laws.{has_legal_bytes};
 
-use crate::plain_phrases::take_phrases;
-use crate::plain_terms::set_state;
+use crate::plain_phrases::{take_other_phrases, take_phrases};
+use crate::plain_terms::{set_state, take_more_terms};
 use bstr::ByteSlice;
 use mpslp_lines::{LineError, are_legal_bytes, has_legal_length, lower_ranked_kind};
 use mpslp_lp_grammar::{Context, State, TerminalToken, classify, take};
@@ -117,17 +117,35 @@ fn take_rest_of_line<'a>(
     }
 }
 
-/// Takes the tokens of a line. Most lines have only plain phrases, for which no state is moved with each token.
+/// Takes the tokens of a line after its plain terms. Most lines have only plain phrases, for which no state is moved.
+#[inline(always)]
+fn take_others(
+    context: &mut Context,
+    state: &mut State,
+    tokens: Tokens<'_>,
+) -> Result<(), LineError>
+    ensures { MatchResult result
+        (λ _. take_tokens context.old state.old tokens.entry ≡ Goes context.new state.new)
+        (λ error. TakesToken (take_tokens context.old state.old tokens.entry) (Err error) context.new) }
+{
+    let mut left = take_other_phrases(context, state, tokens)?;
+    match left.next() {
+        Some(first) => take_rest_of_line(context, state, first, left),
+        None => Ok(()),
+    }
+}
+
+/// Takes the tokens of a line. The lines of long rows have only plain terms, after which no other phrase is looked for.
 fn take_tokens(context: &mut Context, state: &mut State, line: &[u8]) -> Result<(), LineError>
     ensures { MatchResult result
         (λ _. take_tokens context.old state.old (tokens line.now) ≡ Goes context.new state.new)
         (λ error. TakesToken (take_tokens context.old state.old (tokens line.now)) (Err error) context.new) }
 {
-    let mut left = take_phrases(context, state, tokens_of(line))?;
-    match left.next() {
-        Some(first) => take_rest_of_line(context, state, first, left),
-        None => Ok(()),
+    let left = take_more_terms(context, state, tokens_of(line))?;
+    if left.are_at_end() {
+        return Ok(());
     }
+    take_others(context, state, left)
 }
 
 /// The number of bytes of the line before its comment.

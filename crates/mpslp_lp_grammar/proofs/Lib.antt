@@ -5,3 +5,4 @@ pub mod NumberedNames
 pub mod DeclaresLemmas
 pub mod TokenAnswers
 pub mod OtherTokens
+pub mod LpWords

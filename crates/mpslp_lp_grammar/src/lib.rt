@@ -37,5 +37,5 @@ pub use rows::{declare_row, fits_left, fits_second, row_without_terms};
 pub use sides::{flip, limit_of_terminal};
 pub use signs::Sign;
 pub use states::{ListSection, PartialRow, Place, State};
-pub use terminals::{TerminalKind, TerminalToken, classify};
+pub use terminals::{TerminalKind, TerminalToken, classify, classify_found};
 pub use token_step::take;

@@ -1,8 +1,10 @@
 //! What the grammar sees of a token.
 
-ghost use Rattle.std.specs.Prelude.{◌≡◌};
+ghost use Rattle.std.specs.Prelude.{◌≡◌, true};
+ghost use Rattle.std.specs.List.{list_all};
 ghost use Rattle.std.specs.Option.{option_map_or};
-ghost use Rattle.mpslp_types.specs.Name.{is_like_exponent};
+ghost use Rattle.mpslp_types.specs.Name.{is_like_exponent, is_lp_byte, same_bytes, marker};
+ghost use Rattle.mpslp_lp_tokens.specs.Laws.{HasLpBytes};
 ghost use Rattle.mpslp_lp_grammar.specs.Terminal.{name_fault};
 ghost use Rattle.mpslp_lp_grammar.specs.TerminalToken.{IsTerminalOf, IsTerminalOfNumber, IsTerminalOfWord};
 
@@ -11,7 +13,7 @@ use crate::signs::Sign;
 use mpslp_decimal::Decimal;
 use mpslp_lines::value_of;
 use mpslp_lp_tokens::{SectionWord, TokenKind, WordClass, class_of};
-use mpslp_model::{FaultKind, Name, NameFault};
+use mpslp_model::{FaultKind, MAX_NAME_LEN, Name, NameFault};
 
 /// What the grammar sees of a token; the text of a name is separate.
 #[derive(Clone, Copy)]
@@ -75,6 +77,46 @@ fn name_fault(name: &[u8]) -> Option<FaultKind>
     }
 }
 
+/// Whether the text is `'MARKER'`, which is not a name.
+fn is_marker(name: &[u8]) -> bool
+    ensures { result ≡ same_bytes name.now marker }
+{
+    name == b"'MARKER'".as_slice()
+}
+
+/// The first error of a name whose bytes LP names may have.
+#[inline(always)]
+fn lp_name_fault(name: &[u8]) -> Option<FaultKind>
+    requires { list_all is_lp_byte name.now ≡ true }
+    ensures { result ≡ name_fault name.now }
+{
+    if name.is_empty() || MAX_NAME_LEN < name.len() {
+        return Some(FaultKind::NameLength);
+    }
+    if is_marker(name) {
+        return Some(FaultKind::NameMarker);
+    }
+    if is_like_exponent(name) {
+        return Some(FaultKind::NameLikeExponent);
+    }
+    None
+}
+
+/// What the grammar sees of a word whose bytes LP names may have, or its lexical error.
+#[inline(always)]
+fn classify_lp_word(text: &[u8]) -> Result<TerminalKind, FaultKind>
+    requires { list_all is_lp_byte text.now ≡ true }
+    ensures { IsTerminalOfWord text.now result }
+{
+    match class_of(text) {
+        WordClass::Name => match lp_name_fault(text) {
+            Some(kind) => Err(kind),
+            None => Ok(TerminalKind::Name),
+        },
+        _ => classify_word(text),
+    }
+}
+
 /// What the grammar sees of a word, or its lexical error.
 #[inline(always)]
 fn classify_word(text: &[u8]) -> Result<TerminalKind, FaultKind>
@@ -127,5 +169,22 @@ pub fn classify(kind: TokenKind, text: &[u8]) -> Result<TerminalKind, FaultKind>
         TokenKind::OpenBracket | TokenKind::CloseBracket | TokenKind::Caret | TokenKind::Star =>
             Err(FaultKind::Quadratic),
         TokenKind::Period | TokenKind::Unknown => Ok(TerminalKind::Other),
+    }
+}
+
+/// What the grammar sees of a token, or its lexical error. It does what [`classify`] does, but does not go over the bytes of a
+/// word again, which a token of a line has been found to have.
+///
+/// # Errors
+///
+/// Those of [`classify`].
+#[inline(always)]
+pub fn classify_found(kind: TokenKind, text: &[u8]) -> Result<TerminalKind, FaultKind>
+    requires { HasLpBytes kind text.now }
+    ensures { IsTerminalOf kind text.now result }
+{
+    match kind {
+        TokenKind::Word => classify_lp_word(text),
+        _ => classify(kind, text),
     }
 }

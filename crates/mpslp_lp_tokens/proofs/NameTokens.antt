@@ -1,5 +1,5 @@
 -- The words of a line, and what a word that is no reserved one is.
-use Rattle.std.proofs.Common.{◌≡◌, refl, sym, ap, ◌∙◌, ℕ, zero, suc, ◌+◌, ◌-◌, List, [], ◌∷◌, Bool, true, false, not, cond, length, take, arith, map}
+use Rattle.std.proofs.Common.{◌≡◌, refl, sym, ap, ◌∙◌, ℕ, zero, suc, ◌+◌, ◌-◌, List, [], ◌∷◌, Bool, true, false, not, cond, length, take, drop, arith, map}
 use Rattle.std.specs.Prelude.{Option, Some, None, ◌&&◌, ◌||◌, ◌==◌, codes}
 use Rattle.std.specs.List.{find, list_all, list_any}
 use Rattle.std.specs.Option.{option_map, option_map_or}
@@ -10,6 +10,8 @@ use Rattle.mpslp_decimal.specs.Literal.{is_digit}
 use Rattle.mpslp_types.specs.Name.{same_bytes, is_letter, is_lp_symbol, is_lp_byte, lower_byte, is_reserved, begins_a_number}
 use Rattle.mpslp_types.proofs.BoolLemmas.{both_so, or_right}
 use Rattle.mpslp_lp_tokens.specs.Token.{is_blank, begins_comment, is_period, begins_word, continues_word, is_word, is_number, one_byte_operators, two_byte_operators, operator_kind, kind_of, Front, longest_within, longest_token, token_at, Token, tokens_from, tokens, word_classes, class_of}
+use Rattle.mpslp_lp_tokens.specs.Scan.{tokens_after}
+use Rattle.mpslp_lp_tokens.specs.Laws.{HasLpBytes, HaveLpBytes}
 use Rattle.mpslp_lp_tokens.specs.declared.tokens.TokenKind.{TokenKind}
 use Rattle.mpslp_lp_tokens.specs.declared.tokens.TokenKind.TheVariants as kinds
 use Rattle.mpslp_lp_tokens.specs.declared.words.WordClass.{WordClass}
@@ -194,6 +196,17 @@ words-from (byte ∷ bytes) place zero =
     by true blank h k = tt
     by false true h k = h
     by false false h k = k
+
+word-bytes : (kind : TokenKind) (text : List ℕ) → WordIs kind text → HasLpBytes kind text
+word-bytes kinds.Word text h = (word-text text h).bytes
+word-bytes _ text h = tt
+
+words-bytes : (found : List Token) → AreWords found → HaveLpBytes found
+words-bytes [] h = tt
+words-bytes (token ∷ more) h = (word-bytes token.kind token.text h.0, words-bytes more h.1)
+
+pub after-bytes : (line : List ℕ) (at : ℕ) → HaveLpBytes (tokens_after line at)
+after-bytes line at = words-bytes (tokens_after line at) (words-from (drop at line) at 0)
 
 pub tokens-words : (line : List ℕ) → AreWords (tokens line)
 tokens-words line = words-from line 0 0

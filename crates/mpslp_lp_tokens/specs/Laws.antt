@@ -1,8 +1,10 @@
 -- Laws of the tokens of a line.
 use Rattle.std.specs.Prelude.{◌≡◌, ◌⊎◌, ℕ, ◌+◌, ◌≤◌, ◌<◌, Bool, true, false, IsTrue, List, [], ◌∷◌, ◌++◌, length, map, take, drop, Some, None}
 use Rattle.std.specs.List.{list_all, prefix_len}
+use Rattle.mpslp_types.specs.Name.{is_lp_byte}
 use Rattle.mpslp_lp_tokens.specs.Token.{is_blank, begins_comment, kind_of, Token, tokens}
-use Rattle.mpslp_lp_tokens.specs.declared.tokens.TokenKind.TheVariants.{Unknown}
+use Rattle.mpslp_lp_tokens.specs.declared.tokens.TokenKind.{TokenKind}
+use Rattle.mpslp_lp_tokens.specs.declared.tokens.TokenKind.TheVariants.{Unknown, Word}
 
 -- From a place of a line on, each text is the slice of the line at its start and has a byte at least, and no token begins
 -- before the one before it ends.
@@ -78,3 +80,13 @@ TokensAreLongest = (line : List ℕ) → AreLongest 0 (tokens line) line
 -- No others are.
 abbrev pub LongestAreTokens : Type 0
 LongestAreTokens = (line : List ℕ) (found : List Token) → AreLongest 0 found line → found ≡ tokens line
+
+-- A text of this kind has, if it is a word, only bytes that LP names may have.
+abbrev pub HasLpBytes : TokenKind → List ℕ → Type 0
+HasLpBytes Word text = list_all is_lp_byte text ≡ true
+HasLpBytes _ text = Unit {0}
+
+-- So has each token.
+abbrev pub HaveLpBytes : List Token → Type 0
+HaveLpBytes [] = Unit {0}
+HaveLpBytes (token ∷ more) = HasLpBytes token.kind token.text × HaveLpBytes more

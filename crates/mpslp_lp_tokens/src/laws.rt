@@ -1,6 +1,8 @@
 //! Laws of the tokens of a line. Each is the contract of a function that does nothing: to cite the law, call the function.
 
-ghost use Rattle.mpslp_lp_tokens.specs.Laws.{LinesAreTokens, LongestAreTokens, TokensAreLongest, TokensAreSlices};
+ghost use Rattle.mpslp_lp_tokens.specs.Laws.{LinesAreTokens, LongestAreTokens, TokensAreLongest, TokensAreSlices, HaveLpBytes};
+
+use crate::tokens::Tokens;
 
 /// The tokens of a line are consecutive slices of it that do not overlap, whatever its bytes are.
 pub fn tokens_are_slices()
@@ -23,3 +25,10 @@ pub fn tokens_are_longest()
 pub fn longest_are_tokens()
     ensures { LongestAreTokens }
 {}
+
+/// Each byte of a word of a line may be in an LP name.
+pub fn each_word_has_lp_bytes(tokens: &Tokens<'_>)
+    ensures { HaveLpBytes tokens.now }
+{
+    let _at = tokens.at;
+}

@@ -1,6 +1,6 @@
 //! The tokens of a line of LP text, found in one pass without an allocation.
 
-ghost use Rattle.std.specs.Prelude.{◌≡◌, ◌≤◌, [], length, MatchOption};
+ghost use Rattle.std.specs.Prelude.{◌≡◌, ◌≤◌, [], IsTrue, length, MatchOption};
 ghost use Rattle.std.specs.List.{prefix_len};
 ghost use Rattle.mpslp_lp_tokens.specs.Token.{is_blank, tokens};
 ghost use Rattle.std.specs.Iterator.{YieldsFirstBy, item_count};
@@ -94,7 +94,7 @@ pub fn next_token(line: &[u8], at: usize) -> Option<Token<'_>>
 #[derive(Drop)]
 pub struct Tokens<'a> {
     line: &'a [u8],
-    at: usize,
+    pub(crate) at: usize,
 }
 
 impl<'a> Model for Tokens<'a> {
@@ -118,6 +118,14 @@ impl<'a> Tokens<'a> {
             line: self.line,
             at: self.at,
         }
+    }
+
+    /// Whether the end of the line is reached. If it is not, there may still be no more tokens.
+    #[inline(always)]
+    pub fn are_at_end(&self) -> bool
+        ensures { IsTrue result → self.now ≡ [] }
+    {
+        self.at >= self.line.len()
     }
 }
 
