@@ -164,7 +164,7 @@ pub(crate) fn elements_by_row(
 }
 
 /// The list of the row of number `i`.
-pub(crate) fn list_of(lists: &RowLists, i: usize) -> &[RowElement]
+pub(crate) fn row_list(lists: &RowLists, i: usize) -> &[RowElement]
     requires { HasList lists.now i }
     ensures { result.now ≡ list_at lists.now i }
 {
@@ -177,7 +177,7 @@ pub(crate) fn element_at(lists: &RowLists, i: usize, k: usize) -> RowElement
     requires element { k < length (list_at lists.now i) }
     ensures { slice_get (list_at lists.now i) k ≡ Some result }
 {
-    list_of(lists, i)[k]
+    row_list(lists, i)[k]
 }
 
 /// How many columns have a coefficient in the row at this index. Searches in all columns.
