@@ -113,8 +113,10 @@ fn put_cell(
     ensures list_len { length list.new.items ≡ length list.old.items }
     ensures objective { slice_index ends.new.items 0 ≡ slice_index ends.old.items 0 }
     ensures counted { HasCounted number ends.old.items ends.new.items }
-    ensures put { 0 < number → (d : RowElement) → slice_index_or list.new.items (slice_index ends.old.items number) d ≡ record { column = column; place = place } }
-    ensures kept { (p : ℕ) (d : RowElement) → (0 < number → p ≢ slice_index ends.old.items number) → slice_index_or list.new.items p d ≡ slice_index_or list.old.items p d }
+    ensures put { 0 < number → (d : RowElement)
+        → slice_index_or list.new.items (slice_index ends.old.items number) d ≡ record { column = column; place = place } }
+    ensures kept { (p : ℕ) (d : RowElement) → (0 < number → p ≢ slice_index ends.old.items number)
+        → slice_index_or list.new.items p d ≡ slice_index_or list.old.items p d }
 {
     if number > 0 {
         let end = ends[number as usize];

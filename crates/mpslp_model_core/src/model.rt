@@ -497,7 +497,8 @@ impl Model {
     }
 
     /// The nonzero coefficients of the row of number `i` in the order of columns: for each the number of the column, and the
-    /// value. Each takes constant time if the model has lists by rows, and else a search in all columns.
+    /// value. Each takes constant time if the model has lists by rows. Without them each is searched in all columns, so that a
+    /// row with many coefficients, or all rows, take quadratic time: call [`with_row_lists`](Self::with_row_lists) first.
     pub fn row_entries(&self, i: usize) -> RowEntries<'_>
         requires { i < num_rows self.now }
         ensures { result ≡ row_elements self.now (row_name self.now i) }
