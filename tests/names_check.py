@@ -10,7 +10,8 @@ names_allowed.tsv lists names of other programs and of the prover, with the reas
 Some tables of the documents for contributors are read further:
 
     | rule | definition |        each definition is in the file of specs/ that is named
-    | term | in the code | in `specs/` |     so, and each name of the code in src/
+    | term | in the code | in `specs/` |     so, and each name of the code in src/;
+                                           each term and each name is in one row
     | limit | in the code | in `specs/` | ..    so, and each name and number of the limit in the files
                                            that are named
     | function | file | ..       the file has the function
@@ -248,6 +249,15 @@ def missing_in_code(cell: str) -> Iterator[str]:
                     yield f"{span} in src/ of {crate}"
 
 
+def words_of_term(cells: list[str]) -> Iterator[str]:
+    """The terms of a row of the glossary, without what explains them, and its names, each with its crate or module."""
+    yield from (part.split(":")[0].strip() for part in re.split(r"[;,]", cells[0]))
+    parts = re.split(r"\((mpslp_\w+)\)", cells[1])
+    for text, crate in zip(parts[::2], parts[1::2]):
+        yield from (f"{span} of {crate}" for span in re.findall(r"`([^`]+)`", text))
+    yield from re.findall(r"`([^`]+\.[^`]+)`", cells[2])
+
+
 def missing_constants(cell: str) -> Iterator[str]:
     """The names of a cell that are in none of the files after them."""
     for part in cell.split(";"):
@@ -293,12 +303,16 @@ def tables(text: str) -> Iterator[tuple[list[str], int, list[str]]]:
 def missing_in_tables(page: str, text: str) -> Iterator[Missing]:
     crates = {name.split("/")[1] for name in files() if name.startswith("crates/")}
     seen: set[str] = set()
+    explained: set[str] = set()
     for head, number, cells in tables(text):
         if head[-1] == "definition":
             yield from (Missing(page, number, name, "no such definition") for name in missing_definitions(cells[-1]))
         elif head == ["term", "in the code", "in `specs/`"]:
             yield from (Missing(page, number, name, "no such name of the code") for name in missing_in_code(cells[1]))
             yield from (Missing(page, number, name, "no such definition") for name in missing_definitions(cells[2]))
+            words = list(words_of_term(cells))
+            yield from (Missing(page, number, word, "two rows of the glossary have it") for word in words if word in explained)
+            explained.update(words)
         elif head[:3] == ["limit", "in the code", "in `specs/`"]:
             yield from (Missing(page, number, name, "no such name of the code") for name in missing_constants(cells[1]))
             yield from (Missing(page, number, name, "no such number") for name in missing_numbers(cells[0], cells[1]))

@@ -2,9 +2,9 @@
 """Compares what docs/PROMISES.md says of a builder after an error with the contracts.
 
 Every public method of `Builder` that may change the builder and returns a `Result` must have
-an `ensures` clause by the definition `Answers` that ends with `(self.new ≡ self.old)`: after
-each error the builder is as before. `Answers` itself must say so of both kinds of error, those
-of a declaration and `OutOfMemory`. The row of PROMISES must name these methods and no others,
+an `ensures` clause by the definition `AnswersTo` or `AnswersToAll` of `self.old` and `self.new`:
+after each error the builder is as before. Both must say so by `Answers`, and `Answers` itself of
+both kinds of error, those of a declaration and `OutOfMemory`. The row of PROMISES must name these methods and no others,
 and mpslp_model must re-export nothing else of mpslp_builder.
 
 Prints a line for each difference and exits with 1, or prints the number of methods.
@@ -19,18 +19,24 @@ from pathlib import Path
 
 ROOT = Path(__file__).resolve().parent.parent
 ROW = "| a builder is unchanged after an error |"
-# What begins the results of `Answers`, by the kind of error.
+# What begins the results of `Answers`, by the kind of error, and how the clauses use it.
 ANSWERS = {
     "an error of the declaration": re.compile(r"^Answers \(fault ∷ later\) answer IsDeclared IsUnchanged = \(answer ≡ Err fault\) × IsUnchanged$", re.M),
     "OutOfMemory": re.compile(
         r"^Answers \[\] answer IsDeclared IsUnchanged = MatchResult answer \(λ _\. IsDeclared\) \(λ fault\. \(fault ≡ OutOfMemory\) × IsUnchanged\)$",
         re.M,
     ),
+    "an error of one declaration": re.compile(
+        r"^AnswersTo before declaration answer after = Answers \(refusals before declaration\) answer \(.*\) \(after ≡ before\)$", re.M
+    ),
+    "an error of several declarations": re.compile(
+        r"^AnswersToAll faults before declarations answer after = Answers faults answer \(.*\) \(after ≡ before\)$", re.M
+    ),
 }
 BLOCK = re.compile(r"^impl Builder \{\n(.*?)^\}", re.M | re.S)
 METHOD = re.compile(r"^    pub fn (\w+)(.*?)^    \{\n", re.M | re.S)
 CLAUSE = re.compile(r"^        (ensures|requires) ?(\w*) \{ (.*?) \}\n", re.M | re.S)
-UNCHANGED = re.compile(r"\bAnswers \(.*\(self\.new ≡ self\.old\)$", re.S)
+UNCHANGED = re.compile(r"^(?:AnswersTo|AnswersToAll \(.*\)) self\.old \(.*\) result self\.new$", re.S)
 # The only premise that PROMISES lists for a builder's calls: the size of a finite limit.
 LISTED_PREMISE = "is_given"
 
@@ -96,7 +102,7 @@ def differences(root: Path) -> Iterator[str]:
     definition = (root / "crates" / "mpslp_builder" / "specs" / "Answer.antt").read_text()
     for kind, form in ANSWERS.items():
         if not form.search(definition):
-            yield f"mpslp_builder Answer.Answers: does not say that {kind} changes nothing"
+            yield f"mpslp_builder specs/Answer: does not say that {kind} changes nothing"
     names, in_words = {it.name for it in found if it.may_change}, set(promised(root))
     for name in sorted(names - in_words):
         yield f"PROMISES: the row on builders does not name {name}"

@@ -291,11 +291,25 @@ const RISING: &str = "\
 1e37
 1e500";
 
-/// Whether two literals have the order of their places.
+/// Whether two literals have the order of their places, and the same value only at the same place.
 fn are_in_order(one: (usize, &str), other: (usize, &str)) -> Result<bool, NumberFault> {
     let value = Decimal::parse(one.1.as_bytes())?;
     let other_value = Decimal::parse(other.1.as_bytes())?;
-    Ok(value.cmp(&other_value) == one.0.cmp(&other.0))
+    let is_ordered = value.cmp(&other_value) == one.0.cmp(&other.0);
+    Ok(is_ordered && value.has_same_value(other_value) == (one.0 == other.0))
+}
+
+/// Literals of the value 1500, separated by spaces.
+const SAME: &str = "1500 1.5e3 1500.00 +0.15E+4";
+
+#[test]
+fn spellings_of_a_number_have_the_same_value(rt: HostRuntime) -> Result<(), Fail> {
+    let value = Decimal::parse(b"1500")?;
+    for literal in SAME.split(' ') {
+        let other = Decimal::parse(literal.as_bytes())?;
+        assert!(rt; value.has_same_value(other), "at {literal}");
+    }
+    Ok(())
 }
 
 #[test]

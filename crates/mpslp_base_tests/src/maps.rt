@@ -4,7 +4,7 @@ ghost use Rattle.std.specs.Prelude.{IsTrue};
 ghost use Rattle.std.specs.FinMap.{is_sorted};
 ghost use Rattle.mpslp_types.specs.Name.{bytes_cmp};
 
-use mpslp_maps::{SortedMap, find_entry, index_of_entry};
+use mpslp_maps::{SortedMap, find_entry, find_index};
 use mpslp_types::Name;
 use std::alloc::Global;
 use std::test::Fail;
@@ -55,9 +55,9 @@ fn places(entries: &[(Name, u8)]) -> [Option<usize>; 3]
     requires { IsTrue (is_sorted bytes_cmp entries.now) }
 {
     [
-        index_of_entry(entries, &b"x10".as_slice()),
-        index_of_entry(entries, &b"x3".as_slice()),
-        index_of_entry(entries, &b"x".as_slice()),
+        find_index(entries, &b"x10".as_slice()),
+        find_index(entries, &b"x3".as_slice()),
+        find_index(entries, &b"x".as_slice()),
     ]
 }
 
@@ -103,7 +103,7 @@ fn empty_ends_below_0(alloc: Global) -> bool {
 /// The length of a map, whether it ends below 11 and below 10, and the place of 10.
 fn of_numbers(map: SortedMap<u32, u8>) -> (usize, [bool; 2], Option<usize>) {
     let ends = [map.ends_below(&11), map.ends_below(&10)];
-    (map.len(), ends, index_of_entry(map.as_slice(), &10))
+    (map.len(), ends, find_index(map.as_slice(), &10))
 }
 
 #[test]

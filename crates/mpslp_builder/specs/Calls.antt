@@ -1,5 +1,5 @@
 -- What tables state by number, and what each call changes in them.
-use Rattle.std.specs.Prelude.{◌≡◌, ℕ, zero, suc, Bool, true, false, ◌&&◌, List, [], ◌∷◌, ◌++◌, Option, None, Some, slice_get, Result, Ok, Err}
+use Rattle.std.specs.Prelude.{◌≡◌, ℕ, zero, suc, Bool, true, false, ◌&&◌, ◌||◌, List, [], ◌∷◌, ◌++◌, Option, None, Some, is_some, slice_get, Result, Ok, Err}
 use Rattle.std.specs.Option.{option_map, option_map_or}
 use Rattle.std.specs.Ordering.{nat_cmp}
 use Rattle.std.specs.FinMap.{put}
@@ -45,9 +45,19 @@ row_satisfies t (Row i) of_objective of_row = option_map_or (λ e. of_row e.1) (
 abbrev pub has_limits : Tables → RowRef → Bool
 has_limits t place = row_satisfies t place (λ o. false) (λ row. is_definition_by_limits row.definition)
 
+-- whether it has a right-hand side, or limits in its place; the objective also by a constant of its own
+abbrev pub has_rhs_at : Tables → Bool → RowRef → Bool
+has_rhs_at t has_constant place = row_satisfies t place (λ objective. is_some objective.rhs || has_constant) (λ row. is_some row.rhs || is_definition_by_limits row.definition)
+
 -- whether the column of a number passes a test
 abbrev pub column_satisfies : Tables → ℕ → (ColumnParts → Bool) → Bool
 column_satisfies t i test = option_map_or (λ e. test e.1) (slice_get t.columns.entries i) false
+
+abbrev pub has_lower_at : Tables → ℕ → Bool
+has_lower_at t i = column_satisfies t i (λ column. is_some column.sides.lower)
+
+abbrev pub has_upper_at : Tables → ℕ → Bool
+has_upper_at t i = column_satisfies t i (λ column. is_some column.sides.upper)
 
 -- the coefficients of the column of a number
 abbrev pub cells_at : Tables → ℕ → List (ℕ × Number)

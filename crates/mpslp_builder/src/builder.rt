@@ -5,9 +5,9 @@ mod finish;
 ghost use Rattle.std.specs.Prelude.{◌≡◌, IsTrue, Ok};
 ghost use Rattle.std.specs.Option.{ForSome};
 ghost use Rattle.mpslp_types.specs.Limit.{is_given};
-ghost use Rattle.mpslp_builder.specs.Declaration.{empty_draft, with_declaration, with_declarations, declare_sense, declare_objective, declare_constant, declare_row, by_type, by_limits, declare_rhs, declare_range, declare_column, declare_coefficient, declare_marked, declare_integer, declare_binary, declare_semi, is_free_row, rhs_declared, bounds_declared};
+ghost use Rattle.mpslp_builder.specs.Declaration.{empty_draft, declare_sense, declare_objective, declare_constant, declare_row, by_type, by_limits, declare_rhs, declare_range, declare_column, declare_coefficient, declare_marked, declare_integer, declare_binary, declare_semi, is_free_row, rhs_declared, bounds_declared};
 ghost use Rattle.mpslp_builder.specs.Refusal.{refusals, bounds_refusals};
-ghost use Rattle.mpslp_builder.specs.Answer.{Answers, IsNotOutOfMemory};
+ghost use Rattle.mpslp_builder.specs.Answer.{AnswersTo, AnswersToAll, IsNotOutOfMemory};
 
 use crate::tables::Tables;
 use mpslp_decimal::Decimal;
@@ -66,7 +66,7 @@ impl Builder {
     ///
     /// `DuplicateSense` if the sense is already declared. This call allocates nothing.
     pub fn sense(&mut self, sense: Sense) -> Result<(), BuildFault>
-        ensures answers { Answers (refusals self.old (declare_sense sense)) result (self.new ≡ with_declaration self.old (declare_sense sense)) (self.new ≡ self.old) }
+        ensures answers { AnswersTo self.old (declare_sense sense) result self.new }
         ensures memory { IsNotOutOfMemory result }
     {
         self.check_sense()?;
@@ -81,7 +81,7 @@ impl Builder {
     /// `SecondObjective` if the objective already has a name, `DuplicateRow` if a row has this one. The name is then dropped.
     /// This call allocates nothing.
     pub fn objective(&mut self, name: Name) -> Result<(), BuildFault>
-        ensures answers { Answers (refusals self.old (declare_objective name)) result (self.new ≡ with_declaration self.old (declare_objective name)) (self.new ≡ self.old) }
+        ensures answers { AnswersTo self.old (declare_objective name) result self.new }
         ensures memory { IsNotOutOfMemory result }
     {
         self.check_objective(name.as_bytes())?;
@@ -96,7 +96,7 @@ impl Builder {
     /// `DuplicateRhs` if the constant is already declared, here or as a right-hand side of the objective. This call allocates
     /// nothing.
     pub fn constant(&mut self, value: Decimal) -> Result<(), BuildFault>
-        ensures answers { Answers (refusals self.old (declare_constant value)) result (self.new ≡ with_declaration self.old (declare_constant value)) (self.new ≡ self.old) }
+        ensures answers { AnswersTo self.old (declare_constant value) result self.new }
         ensures memory { IsNotOutOfMemory result }
     {
         self.check_constant()?;
@@ -112,7 +112,7 @@ impl Builder {
     /// `DuplicateRow` if a row or the objective has the name; `OutOfMemory`, also if there are already 4,294,967,294 rows. The
     /// name is then dropped.
     pub fn row(&mut self, name: Name, row_type: RowType) -> Result<(), BuildFault>
-        ensures { Answers (refusals self.old (declare_row name (by_type row_type))) result (self.new ≡ with_declaration self.old (declare_row name (by_type row_type))) (self.new ≡ self.old) }
+        ensures { AnswersTo self.old (declare_row name (by_type row_type)) result self.new }
     {
         self.check_row(name.as_bytes())?;
         if !self.tables.has_room() {
@@ -133,7 +133,7 @@ impl Builder {
     pub fn row_limits(&mut self, name: Name, lower: Limit, upper: Limit) -> Result<(), BuildFault>
         requires lower { IsTrue (is_given lower) }
         requires upper { IsTrue (is_given upper) }
-        ensures { let declared = declare_row name (by_limits lower upper) in Answers (refusals self.old declared) result (self.new ≡ with_declaration self.old declared) (self.new ≡ self.old) }
+        ensures { AnswersTo self.old (declare_row name (by_limits lower upper)) result self.new }
     {
         self.check_row_limits(name.as_bytes(), &lower, &upper)?;
         if !self.tables.has_room() {
@@ -152,7 +152,7 @@ impl Builder {
     /// `UnknownRow` if neither a row nor the objective has the name, `DuplicateRhs` if the right-hand side is already declared.
     /// This call allocates nothing.
     pub fn rhs(&mut self, row: &[u8], value: Decimal) -> Result<(), BuildFault>
-        ensures answers { Answers (refusals self.old (declare_rhs row.now value)) result (self.new ≡ with_declarations self.old (rhs_declared self.old row.now value)) (self.new ≡ self.old) }
+        ensures answers { AnswersToAll (refusals self.old (declare_rhs row.now value)) self.old (rhs_declared self.old row.now value) result self.new }
         ensures free { IsTrue (is_free_row self.old row.now) → result ≡ Ok tt }
         ensures memory { IsNotOutOfMemory result }
     {
@@ -174,7 +174,7 @@ impl Builder {
     /// `RangeOnFree` for the objective or a row of type [`Free`](RowType::Free), `InfiniteValue` if the magnitude is 10^20 or
     /// more. This call allocates nothing.
     pub fn range(&mut self, row: &[u8], value: Decimal) -> Result<(), BuildFault>
-        ensures answers { Answers (refusals self.old (declare_range row.now value)) result (self.new ≡ with_declaration self.old (declare_range row.now value)) (self.new ≡ self.old) }
+        ensures answers { AnswersTo self.old (declare_range row.now value) result self.new }
         ensures memory { IsNotOutOfMemory result }
     {
         let index = self.tables.range_target(row, value)?;
@@ -189,7 +189,7 @@ impl Builder {
     ///
     /// Only `OutOfMemory`. The name is then dropped.
     pub fn column(&mut self, name: Name) -> Result<(), BuildFault>
-        ensures { Answers (refusals self.old (declare_column name)) result (self.new ≡ with_declaration self.old (declare_column name)) (self.new ≡ self.old) }
+        ensures { AnswersTo self.old (declare_column name) result self.new }
     {
         if self.has_column(name.as_bytes()) {
             return Ok(());
@@ -210,7 +210,7 @@ impl Builder {
         column: &[u8],
         value: Decimal,
     ) -> Result<(), BuildFault>
-        ensures { let declared = declare_coefficient (record { row = row.now; column = column.now }) value in Answers (refusals self.old declared) result (self.new ≡ with_declaration self.old declared) (self.new ≡ self.old) }
+        ensures { AnswersTo self.old (declare_coefficient (record { row = row.now; column = column.now }) value) result self.new }
     {
         let place = self.tables.coefficient_target(row, column)?;
         each_value_is_a_decimal(value);
@@ -236,7 +236,7 @@ impl Builder {
     ) -> Result<(), BuildFault>
         requires lower { ForSome lower (λ side. IsTrue (is_given side)) }
         requires upper { ForSome upper (λ side. IsTrue (is_given side)) }
-        ensures { Answers (bounds_refusals self.old column.now lower upper) result (self.new ≡ with_declarations self.old (bounds_declared column.now lower upper)) (self.new ≡ self.old) }
+        ensures { AnswersToAll (bounds_refusals self.old column.now lower upper) self.old (bounds_declared column.now lower upper) result self.new }
     {
         let number = self.tables.bounds_target(column, &lower, &upper)?;
         self.tables.put_bounds(self.alloc, number, lower, upper)?;
@@ -250,7 +250,7 @@ impl Builder {
     ///
     /// `UnknownColumn` if no column has the name, `SemiContinuous` if the column is semi-continuous. This call allocates nothing.
     pub fn marked(&mut self, column: &[u8]) -> Result<(), BuildFault>
-        ensures answers { Answers (refusals self.old (declare_marked column.now)) result (self.new ≡ with_declaration self.old (declare_marked column.now)) (self.new ≡ self.old) }
+        ensures answers { AnswersTo self.old (declare_marked column.now) result self.new }
         ensures memory { IsNotOutOfMemory result }
     {
         let number = self.tables.integer_target(column)?;
@@ -264,7 +264,7 @@ impl Builder {
     ///
     /// `UnknownColumn` if no column has the name, `SemiContinuous` if the column is semi-continuous. This call allocates nothing.
     pub fn integer(&mut self, column: &[u8]) -> Result<(), BuildFault>
-        ensures answers { Answers (refusals self.old (declare_integer column.now)) result (self.new ≡ with_declaration self.old (declare_integer column.now)) (self.new ≡ self.old) }
+        ensures answers { AnswersTo self.old (declare_integer column.now) result self.new }
         ensures memory { IsNotOutOfMemory result }
     {
         let number = self.tables.integer_target(column)?;
@@ -279,7 +279,7 @@ impl Builder {
     ///
     /// `UnknownColumn` if no column has the name, `SemiContinuous` if the column is semi-continuous. This call allocates nothing.
     pub fn binary(&mut self, column: &[u8]) -> Result<(), BuildFault>
-        ensures answers { Answers (refusals self.old (declare_binary column.now)) result (self.new ≡ with_declaration self.old (declare_binary column.now)) (self.new ≡ self.old) }
+        ensures answers { AnswersTo self.old (declare_binary column.now) result self.new }
         ensures memory { IsNotOutOfMemory result }
     {
         let number = self.tables.integer_target(column)?;
@@ -295,7 +295,7 @@ impl Builder {
     /// `UnknownColumn` if no column has the name, `SemiContinuous` if the column is [marked](Self::marked),
     /// [integer](Self::integer) or [binary](Self::binary). This call allocates nothing.
     pub fn semi(&mut self, column: &[u8]) -> Result<(), BuildFault>
-        ensures answers { Answers (refusals self.old (declare_semi column.now)) result (self.new ≡ with_declaration self.old (declare_semi column.now)) (self.new ≡ self.old) }
+        ensures answers { AnswersTo self.old (declare_semi column.now) result self.new }
         ensures memory { IsNotOutOfMemory result }
     {
         let number = self.tables.semi_target(column)?;

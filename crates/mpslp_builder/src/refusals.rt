@@ -8,12 +8,11 @@ ghost use Rattle.std.specs.Option.{option_map_or};
 ghost use Rattle.std.specs.Ordering.{nat_cmp};
 ghost use Rattle.std.specs.FinMap.{find};
 ghost use Rattle.mpslp_types.specs.Limit.{is_plus_infinite, is_minus_infinite};
-ghost use Rattle.mpslp_types.specs.Lists.{those_of};
-ghost use Rattle.mpslp_builder.specs.Declaration.{by_limits, declare_objective, declare_row, declare_range, declare_marked, declare_integer, declare_binary, declare_semi, have_infinite_side, has_row, has_column, has_coefficient, is_free_row, is_definition_by_limits};
+ghost use Rattle.mpslp_builder.specs.Declaration.{by_limits, declare_objective, declare_row, declare_range, declare_marked, declare_integer, declare_binary, declare_semi, have_infinite_side, has_row, has_column, has_coefficient, is_free_row};
 ghost use Rattle.mpslp_builder.specs.Refusal.{has_constant, sense_tests, constant_tests, row_tests, rhs_tests, integer_tests, semi_tests, coefficient_tests, refusals, bounds_refusals};
-ghost use Rattle.mpslp_builder.specs.Answer.{first_refusal};
+ghost use Rattle.mpslp_builder.specs.Answer.{first_refusal, refused_by};
 ghost use Rattle.mpslp_builder.specs.Tables.{draft, IsNumbered};
-ghost use Rattle.mpslp_builder.specs.Calls.{CoefficientsAreKnown, row_key_of, row_name, column_name, row_satisfies, has_limits, column_satisfies, cells_at, answer_of, IsOnceEach};
+ghost use Rattle.mpslp_builder.specs.Calls.{CoefficientsAreKnown, row_key_of, row_name, column_name, has_limits, has_rhs_at, has_lower_at, has_upper_at, cells_at, answer_of, IsOnceEach};
 
 use crate::builder::Builder;
 use crate::tables::{RowRef, Tables};
@@ -22,7 +21,7 @@ use mpslp_types::{BuildFault, Limit};
 
 /// Returns the first error whose test is true, if there is one.
 fn refuse(tests: &[(bool, BuildFault)]) -> Result<(), BuildFault>
-    ensures { result ≡ first_refusal (those_of tests.now) }
+    ensures { result ≡ refused_by tests.now }
 {
     for (holds, fault) in tests {
         if *holds {
@@ -70,9 +69,9 @@ impl Tables {
     ) -> Result<RowRef, BuildFault>
         requires { IsNumbered self.now }
         ensures place { IfOk result (λ place. row_name self.now (row_key_of place) ≡ Some row.now) }
-        ensures absent { IfOk result (λ place. row_satisfies self.now place (λ objective. is_some objective.rhs || is_some constant.now) (λ row. is_some row.rhs || is_definition_by_limits row.definition) ≡ false) }
+        ensures absent { IfOk result (λ place. has_rhs_at self.now (is_some constant.now) place ≡ false) }
         ensures once { IsOnceEach self.now }
-        ensures answer { answer_of result ≡ first_refusal (those_of (rhs_tests (draft None constant.now self.now) row.now)) }
+        ensures answer { answer_of result ≡ refused_by (rhs_tests (draft None constant.now self.now) row.now) }
     {
         self.each_name_occurs_once();
         let Some(place) = self.row_ref(row) else {
@@ -139,7 +138,7 @@ impl Tables {
         ensures column { IfOk result (λ place. column_name self.now place.column ≡ Some column.now) }
         ensures absent { IfOk result (λ place. find nat_cmp place.row (cells_at self.now place.column) ≡ None) }
         ensures once { IsOnceEach self.now }
-        ensures answer { answer_of result ≡ first_refusal (those_of (coefficient_tests (draft None None self.now) (record { row = row.now; column = column.now }))) }
+        ensures answer { answer_of result ≡ refused_by (coefficient_tests (draft None None self.now) (record { row = row.now; column = column.now })) }
     {
         self.each_name_occurs_once();
         let Some(place) = self.row_ref(row) else {
@@ -157,7 +156,7 @@ impl Tables {
 
     /// Whether the column of a number already has a declaration of a given bound.
     fn has_side(&self, column: usize, lower: &Option<Limit>, upper: &Option<Limit>) -> bool
-        ensures { result ≡ ((is_some lower.now && column_satisfies self.now column (λ parts. is_some parts.sides.lower)) || (is_some upper.now && column_satisfies self.now column (λ parts. is_some parts.sides.upper))) }
+        ensures { result ≡ ((is_some lower.now && has_lower_at self.now column) || (is_some upper.now && has_upper_at self.now column)) }
     {
         (lower.is_some() && self.has_lower(column)) || (upper.is_some() && self.has_upper(column))
     }
@@ -190,7 +189,7 @@ impl Tables {
     pub(crate) fn integer_target(&self, column: &[u8]) -> Result<usize, BuildFault>
         ensures number { IfOk result (λ i. column_name self.now i ≡ Some column.now) }
         ensures once { IsOnceEach self.now }
-        ensures answer { answer_of result ≡ first_refusal (those_of (integer_tests (draft None None self.now) column.now)) }
+        ensures answer { answer_of result ≡ refused_by (integer_tests (draft None None self.now) column.now) }
     {
         self.each_name_occurs_once();
         let Some(number) = self.column_number(column) else {
@@ -206,7 +205,7 @@ impl Tables {
     pub(crate) fn semi_target(&self, column: &[u8]) -> Result<usize, BuildFault>
         ensures number { IfOk result (λ i. column_name self.now i ≡ Some column.now) }
         ensures once { IsOnceEach self.now }
-        ensures answer { answer_of result ≡ first_refusal (those_of (semi_tests (draft None None self.now) column.now)) }
+        ensures answer { answer_of result ≡ refused_by (semi_tests (draft None None self.now) column.now) }
     {
         self.each_name_occurs_once();
         let Some(number) = self.column_number(column) else {
@@ -276,7 +275,7 @@ impl Builder {
     ///
     /// `DuplicateSense`. No query allocates or returns `OutOfMemory`.
     pub fn check_sense(&self) -> Result<(), BuildFault>
-        ensures { result ≡ first_refusal (those_of (sense_tests self.now)) }
+        ensures { result ≡ refused_by (sense_tests self.now) }
     {
         refuse(&[(self.sense.is_some(), BuildFault::DuplicateSense)])
     }
@@ -301,7 +300,7 @@ impl Builder {
     ///
     /// `DuplicateRhs`, as from the call.
     pub fn check_constant(&self) -> Result<(), BuildFault>
-        ensures { result ≡ first_refusal (those_of (constant_tests self.now)) }
+        ensures { result ≡ refused_by (constant_tests self.now) }
     {
         refuse(&[(self.has_constant(), BuildFault::DuplicateRhs)])
     }
@@ -312,7 +311,7 @@ impl Builder {
     ///
     /// `DuplicateRow`, as from the call.
     pub fn check_row(&self, name: &[u8]) -> Result<(), BuildFault>
-        ensures { result ≡ first_refusal (those_of (row_tests self.now name.now)) }
+        ensures { result ≡ refused_by (row_tests self.now name.now) }
     {
         refuse(&[(self.tables.has_row(name), BuildFault::DuplicateRow)])
     }
@@ -342,7 +341,7 @@ impl Builder {
     ///
     /// `UnknownRow`, `DuplicateRhs`, as from the call.
     pub fn check_rhs(&self, row: &[u8]) -> Result<(), BuildFault>
-        ensures { result ≡ first_refusal (those_of (rhs_tests self.now row.now)) }
+        ensures { result ≡ refused_by (rhs_tests self.now row.now) }
     {
         self.tables.rhs_target(row, &self.constant)?;
         Ok(())
@@ -366,7 +365,7 @@ impl Builder {
     ///
     /// `UnknownRow`, `UnknownColumn`, `DuplicateEntry`, as from the call.
     pub fn check_coefficient(&self, row: &[u8], column: &[u8]) -> Result<(), BuildFault>
-        ensures { result ≡ first_refusal (those_of (coefficient_tests self.now (record { row = row.now; column = column.now }))) }
+        ensures { result ≡ refused_by (coefficient_tests self.now (record { row = row.now; column = column.now })) }
     {
         self.tables.coefficient_target(row, column)?;
         Ok(())

@@ -97,7 +97,8 @@ pub fn declare_bound(
 /// Those of [`declare_bound`].
 pub fn declare_free(context: &mut Context, column: &[u8]) -> Result<(), LineError>
     requires { IsMpsName column.now }
-    ensures { TakesToken (take_bound context.old (declare_column column.now ∷ []) column.now no_limits Terminal.Free (Place.InBounds None)) (answer_at (Place.InBounds None) result) context.new }
+    ensures { let taken = take_bound context.old (declare_column column.now ∷ []) column.now no_limits Terminal.Free (Place.InBounds None) in
+        TakesToken taken (answer_at (Place.InBounds None) result) context.new }
 {
     context
         .builder
@@ -114,7 +115,8 @@ pub(crate) fn take_bound(
     token: &TerminalToken<'_>,
 ) -> Result<State, LineError>
     requires { terminal_fault context.old (terminal_of_token token.now) ≡ None }
-    ensures { TakesToken (take_bound context.old (new_column is_new column) column (limits_by relation limit.now) (terminal_of_token token.now) (Place.InBounds None)) result context.new }
+    ensures { let limits = limits_by relation limit.now in
+        TakesToken (take_bound context.old (new_column is_new column) column limits (terminal_of_token token.now) (Place.InBounds None)) result context.new }
 {
     each_name_is_legal(&column);
     let answer = declare_bound(context, is_new, column.as_bytes(), relation, limit);
@@ -138,7 +140,9 @@ pub(crate) fn take_bound_column(
     column: &[u8],
 ) -> Result<State, LineError>
     requires { IsMpsName column.now }
-    ensures { TakesToken (take_bound context.old (declare_column column.now ∷ []) column.now (limits_by (flip relation) limit.now) (Terminal.Name column.now) (Place.InBounds (Some (column.now, relation)))) result context.new }
+    ensures { let limits = limits_by (flip relation) limit.now in
+        let place = Place.InBounds (Some (column.now, relation)) in
+        TakesToken (take_bound context.old (declare_column column.now ∷ []) column.now limits (Terminal.Name column.now) place) result context.new }
 {
     let name = context.builder.copied(column)?;
     let answer = declare_bound(context, true, column, flip(relation), limit);
@@ -170,7 +174,8 @@ pub(crate) fn take_side_value(
     sign: Sign,
     token: &TerminalToken<'_>,
 ) -> Result<State, LineError>
-    ensures { TakesToken (take_side_value (λ limit. take_side context.old sided limit (terminal_of_token token.now)) context.old sign (terminal_of_token token.now)) result context.new }
+    ensures { let terminal = terminal_of_token token.now in
+        TakesToken (take_side_value (λ limit. take_side context.old sided limit terminal) context.old sign terminal) result context.new }
 {
     match token.kind {
         TerminalKind::Number(value) => {

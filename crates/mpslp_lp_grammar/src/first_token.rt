@@ -130,7 +130,8 @@ pub fn declare_listed(
     column: &[u8],
 ) -> Result<(), LineError>
     requires { IsMpsName column.now }
-    ensures { TakesToken (name_taken (listed_at section) (kind_declared section) context.old (Terminal.Name column.now)) (answer_at (listed_at section) result) context.new }
+    ensures { let place = listed_at section in
+        TakesToken (name_taken place (kind_declared section) context.old (Terminal.Name column.now)) (answer_at place result) context.new }
 {
     context.builder.declare_listed(section, column)
 }

@@ -42,7 +42,8 @@ pub fn declare_objective_term(
     value: Decimal,
 ) -> Result<(), LineError>
     requires { IsMpsName column.now }
-    ensures { TakesToken (take_term context.old (ItemOwner.OfObjective objective.now) column.now value (Terminal.Name column.now)) (answer_at (Place.InObjective objective.now) result) context.new }
+    ensures { let taken = take_term context.old (ItemOwner.OfObjective objective.now) column.now value (Terminal.Name column.now) in
+        TakesToken taken (answer_at (Place.InObjective objective.now) result) context.new }
 {
     context
         .builder

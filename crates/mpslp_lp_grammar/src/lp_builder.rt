@@ -354,7 +354,8 @@ impl LpBuilder {
         limit: &GivenLimit,
     ) -> Result<(), LineError>
         requires name { IsMpsName column.now }
-        ensures { DeclaresSides self.old (new_column is_new column.now) column.now (limits_by relation limit.now).lower (limits_by relation limit.now).upper result self.new }
+        ensures { let limits = limits_by relation limit.now in
+            DeclaresSides self.old (new_column is_new column.now) column.now limits.lower limits.upper result self.new }
     {
         match relation {
             Relation::AtMost => self.declare_bound(is_new, column, None, Some(limit.limit())),

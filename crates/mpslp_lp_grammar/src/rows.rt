@@ -145,7 +145,8 @@ pub(crate) fn end_row(
     token: &TerminalToken<'_>,
 ) -> Result<State, LineError>
     requires { terminal_fault context.old (terminal_of_token token.now) ≡ None }
-    ensures { TakesToken (declare_at context.old (terminal_of_token token.now) Place.BetweenRows (row_declared row (row_limits row.left relation right.now))) result context.new }
+    ensures { let declarations = row_declared row (row_limits row.left relation right.now) in
+        TakesToken (declare_at context.old (terminal_of_token token.now) Place.BetweenRows declarations) result context.new }
 {
     let answer = declare_row(context, row, relation, right);
     at_place(answer, Place::BetweenRows)

@@ -158,7 +158,8 @@ fn word_among(
 
 /// The meaning of a text, looked up among these words.
 fn class_among(words: &[(&'static [u8], WordClass)], text: &[u8]) -> WordClass
-    ensures { result ≡ option_map_or (λ (entry : List ℕ × WordClass). entry.1) (find (λ entry. same_bytes (map lower_byte text.now) entry.0) (map (λ entry. (entry.0.now, entry.1)) words.now)) WordClass.Name }
+    ensures { result ≡ (let meanings = map (λ entry. (entry.0.now, entry.1)) words.now in
+        option_map_or (λ (entry : List ℕ × WordClass). entry.1) (find (λ entry. same_bytes (map lower_byte text.now) entry.0) meanings) WordClass.Name) }
 {
     match word_among(words, text) {
         Some((_word, word_class)) => word_class,

@@ -6,4 +6,4 @@
 
 mod sorted_map;
 
-pub use sorted_map::{Key, Query, SortedMap, entry_at, find_entry, index_of_entry};
+pub use sorted_map::{Key, Query, SortedMap, entry_at, find_entry, find_index};

@@ -70,7 +70,7 @@ fn ends_below<K: Key, V, Q: Query<K>>(entries: &[(K, V)], query: &Q) -> bool
 
 /// The index of the first entry whose key is not less than the query, or the number of entries. Keys often come in order, so
 /// the last entry is compared first.
-fn index_of_key<K: Key, V, Q: Query<K>>(entries: &[(K, V)], query: &Q) -> usize
+fn insertion_index<K: Key, V, Q: Query<K>>(entries: &[(K, V)], query: &Q) -> usize
     requires { IsTrue (is_sorted K.cmp entries.now) }
     ensures { result ≡ position_or_len (λ entry. is_le (K.cmp (Q.key query.now) entry.0)) entries.now }
 {
@@ -81,11 +81,11 @@ fn index_of_key<K: Key, V, Q: Query<K>>(entries: &[(K, V)], query: &Q) -> usize
 }
 
 /// The index of the entry with a key, if there is one, found by binary search. The entries are in the order of their keys.
-pub fn index_of_entry<K: Key, V, Q: Query<K>>(entries: &[(K, V)], query: &Q) -> Option<usize>
+pub fn find_index<K: Key, V, Q: Query<K>>(entries: &[(K, V)], query: &Q) -> Option<usize>
     requires { IsTrue (is_sorted K.cmp entries.now) }
     ensures { result ≡ position (λ entry. is_eq (K.cmp (Q.key query.now) entry.0)) entries.now }
 {
-    let at = index_of_key(entries, query);
+    let at = insertion_index(entries, query);
     if at < entries.len() {
         let entry = &entries[at];
         if query.compare(&entry.0).is_eq() {
@@ -100,7 +100,7 @@ pub fn find_entry<'a, K: Key, V, Q: Query<K>>(entries: &'a [(K, V)], query: &Q) 
     requires { IsTrue (is_sorted K.cmp entries.now) }
     ensures { option_copied result ≡ find K.cmp (Q.key query.now) entries.now }
 {
-    let at = index_of_key(entries, query);
+    let at = insertion_index(entries, query);
     if at < entries.len() {
         let entry = &entries[at];
         if query.compare(&entry.0).is_eq() {
@@ -123,7 +123,7 @@ fn put_entry<K: Key + Drop, V: Drop>(
     ensures sorted { IsTrue (is_sorted K.cmp entries.new.items) }
     ensures room { vec_len entries.old < vec_capacity entries.old → IsOk result }
 {
-    let at = index_of_key(entries, &key);
+    let at = insertion_index(entries, &key);
     entries.insert(at, (key, value))?;
     Ok(())
 }

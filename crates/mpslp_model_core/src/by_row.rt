@@ -113,8 +113,10 @@ fn put_cell(
     ensures list_len { length list.new.items ≡ length list.old.items }
     ensures objective { slice_index ends.new.items 0 ≡ slice_index ends.old.items 0 }
     ensures counted { HasCounted number ends.old.items ends.new.items }
-    ensures put { 0 < number → (d : RowElement) → slice_index_or list.new.items (slice_index ends.old.items number) d ≡ record { column = column; place = place } }
-    ensures kept { (p : ℕ) (d : RowElement) → (0 < number → p ≢ slice_index ends.old.items number) → slice_index_or list.new.items p d ≡ slice_index_or list.old.items p d }
+    ensures put { 0 < number → (d : RowElement)
+        → slice_index_or list.new.items (slice_index ends.old.items number) d ≡ record { column = column; place = place } }
+    ensures kept { (p : ℕ) (d : RowElement) → (0 < number → p ≢ slice_index ends.old.items number)
+        → slice_index_or list.new.items p d ≡ slice_index_or list.old.items p d }
 {
     if number > 0 {
         let end = ends[number as usize];
@@ -164,7 +166,7 @@ pub(crate) fn elements_by_row(
 }
 
 /// The list of the row of number `i`.
-pub(crate) fn list_of(lists: &RowLists, i: usize) -> &[RowElement]
+pub(crate) fn row_list(lists: &RowLists, i: usize) -> &[RowElement]
     requires { HasList lists.now i }
     ensures { result.now ≡ list_at lists.now i }
 {
@@ -177,7 +179,7 @@ pub(crate) fn element_at(lists: &RowLists, i: usize, k: usize) -> RowElement
     requires element { k < length (list_at lists.now i) }
     ensures { slice_get (list_at lists.now i) k ≡ Some result }
 {
-    list_of(lists, i)[k]
+    row_list(lists, i)[k]
 }
 
 /// How many columns have a coefficient in the row at this index. Searches in all columns.

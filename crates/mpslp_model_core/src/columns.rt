@@ -56,7 +56,7 @@ pub(crate) fn row_cells(cells: &[(u32, PackedDecimal)]) -> &[(u32, PackedDecimal
 }
 
 /// The coefficient of the objective, or 0 if there is none.
-pub(crate) fn first_value(cells: &[(u32, PackedDecimal)]) -> Decimal
+pub(crate) fn objective_value(cells: &[(u32, PackedDecimal)]) -> Decimal
     requires { IsTrue (is_sorted nat_cmp cells.now) }
     ensures { result ≡ unwrap_or (find nat_cmp 0 cells.now) zero_number }
 {
@@ -139,7 +139,7 @@ pub(crate) fn same_columns(own: &[(Name, ModelColumn)], other: &[(Name, ModelCol
 }
 
 /// The index of the row to which a coefficient's number refers.
-pub(crate) fn row_of(number: u32) -> usize
+pub(crate) fn index_of_row_number(number: u32) -> usize
     requires { 0 < number }
     ensures { result + 1 ≡ number }
 {

@@ -8,7 +8,7 @@ ghost use Rattle.mpslp_model_core.specs.Iterators.{IsOfRow, entry_of_cell};
 ghost use Rattle.mpslp_model_core.specs.ModelParts.{bounds_in};
 ghost use Rattle.mpslp_model_core.specs.Numbered.{each_part};
 
-use crate::columns::row_of;
+use crate::columns::index_of_row_number;
 use crate::model::ModelColumn;
 use crate::model_row::ModelRow;
 use crate::sides::{ColumnBounds, RowLimits};
@@ -168,7 +168,7 @@ impl<'a> Iterator for ColumnEntries<'a> {
 
     fn next(&mut self) -> Option<(usize, Decimal)> {
         let cell = self.cells.next()?;
-        Some((row_of(cell.0), cell.1.value()))
+        Some((index_of_row_number(cell.0), cell.1.value()))
     }
 
     fn size_hint(&self) -> (usize, Option<usize>) {

@@ -13,10 +13,11 @@ ghost use Rattle.mpslp_model_core.specs.Views.{letter_E, letter_R, row_names, co
 ghost use Rattle.mpslp_model_core.specs.Model.{is_integer_column};
 
 use crate::by_row::{
-    RowLists, column_with, count_columns_with, element_at, elements_by_row, list_of,
+    RowLists, column_with, count_columns_with, element_at, elements_by_row, row_list,
 };
 use crate::columns::{
-    cells_at, count_elements, first_value, row_cells, row_of, same_columns, value_at,
+    cells_at, count_elements, index_of_row_number, objective_value, row_cells, same_columns,
+    value_at,
 };
 use crate::iterators::{ColumnEntries, Columns, Rows};
 use crate::model_row::{ModelBounds, ModelRow};
@@ -25,7 +26,7 @@ use crate::row_names::{RowNames, name_at, names_of};
 use crate::sides::{ColumnBounds, RowLimits};
 use mpslp_decimal::laws::each_value_is_a_decimal;
 use mpslp_decimal::{Decimal, PackedDecimal};
-use mpslp_maps::{entry_at, index_of_entry};
+use mpslp_maps::{entry_at, find_index};
 use mpslp_types::{Kind, Limit, Name, Sense};
 use std::alloc::{AllocError, Global};
 use std::cmp::Ordering;
@@ -98,7 +99,7 @@ fn index_of<X>(entries: &[(Name, X)], name: &[u8]) -> Option<usize>
     requires { IsTrue (is_sorted bytes_cmp entries.now) }
     ensures { result ≡ position (λ entry. same_bytes name.now entry.0) entries.now }
 {
-    index_of_entry(entries, &name)
+    find_index(entries, &name)
 }
 
 /// The letter of a row with two finite limits.
@@ -406,7 +407,7 @@ impl Model {
         requires { j < num_columns self.now }
         ensures { result ≡ coefficient_at self.now self.now.objective (column_name self.now j) }
     {
-        first_value(cells_at(&self.parts.columns, j))
+        objective_value(cells_at(&self.parts.columns, j))
     }
 
     /// The coefficient of the row of number `i` in the column of number `j`; 0 if there is none.
@@ -453,7 +454,7 @@ impl Model {
         ensures { slice_get (numbered_elements self.now (column_name self.now j)) k ≡ Some (Some result.0, result.1) }
     {
         let cell = entry_at(row_cells(cells_at(&self.parts.columns, j)), k);
-        (row_of(cell.0), cell.1.value())
+        (index_of_row_number(cell.0), cell.1.value())
     }
 
     /// The nonzero coefficients of the column of number `j` in the order of rows, without the objective's: for each the number of
@@ -472,7 +473,7 @@ impl Model {
         ensures { result ≡ length (row_columns self.now (row_name self.now i)) }
     {
         match &self.by_row {
-            Some(lists) => list_of(lists, i).len(),
+            Some(lists) => row_list(lists, i).len(),
             None => count_columns_with(&self.parts.columns, i),
         }
     }
@@ -496,7 +497,8 @@ impl Model {
     }
 
     /// The nonzero coefficients of the row of number `i` in the order of columns: for each the number of the column, and the
-    /// value. Each takes constant time if the model has lists by rows, and else a search in all columns.
+    /// value. Each takes constant time if the model has lists by rows. Without them each is searched in all columns, so that a
+    /// row with many coefficients, or all rows, take quadratic time: call [`with_row_lists`](Self::with_row_lists) first.
     pub fn row_entries(&self, i: usize) -> RowEntries<'_>
         requires { i < num_rows self.now }
         ensures { result ≡ row_elements self.now (row_name self.now i) }

@@ -10,7 +10,8 @@ use std::iter::FusedIterator;
 use std::marker;
 
 /// The nonzero coefficients of a row in the order of columns, each as the number of its column and its value. Contracts see it as
-/// the list of those that are left. [`Model::row_entries`] makes it.
+/// the list of those that are left. [`Model::row_entries`] makes it. Each takes constant time if the model has lists by rows,
+/// which [`Model::with_row_lists`] makes, and else a search in all columns.
 #[derive(Drop)]
 pub struct RowEntries<'a> {
     model: &'a Model,

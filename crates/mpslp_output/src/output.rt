@@ -67,10 +67,13 @@ impl<'a, W: Sink> Output<'a, W> {
     /// the number of bytes of the text that it accepted.
     pub fn finish(&mut self) -> Result<(), WriteFault>
         ensures same { IsSameOutput self.old self.new }
-        ensures answer { (first : W) (text header : List ℕ) → Holds W.Sink first self.old text header → IsTaken W.holds W.failed first self.new.sink.now text result }
+        ensures answer { (first : W) (text header : List ℕ) → Holds W.Sink first self.old text header
+            → IsTaken W.holds W.failed first self.new.sink.now text result }
         ensures calls { (first : W) (text header : List ℕ) → Holds W.Sink first self.old text header → W.count self.new.sink.now ≤ W.count first + length text }
-        ensures stays { (first : W) (text header : List ℕ) → Holds W.Sink first self.old text header → W.failed first ≡ true → W.failed self.new.sink.now ≡ true }
-        ensures works { (first : W) (text header : List ℕ) → Holds W.Sink first self.old text header → 0 < length text → IsOk result → W.failed self.new.sink.now ≡ false }
+        ensures stays { (first : W) (text header : List ℕ) → Holds W.Sink first self.old text header
+            → W.failed first ≡ true → W.failed self.new.sink.now ≡ true }
+        ensures works { (first : W) (text header : List ℕ) → Holds W.Sink first self.old text header
+            → 0 < length text → IsOk result → W.failed self.new.sink.now ≡ false }
     {
         self.buffer.finish(self.sink)
     }

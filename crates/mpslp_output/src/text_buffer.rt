@@ -22,7 +22,8 @@ struct Sent {
 impl Sent {
     /// Sends a piece to the sink.
     fn send<W: Sink>(&mut self, sink: &mut W, piece: &[u8])
-        ensures { (header : List ℕ) → KeepsPut W.holds W.failed W.count sink.old sink.new (buffer_state header piece.now self.old.taken self.old.has_failed) (buffer_state header [] self.new.taken self.new.has_failed) }
+        ensures { (header : List ℕ) → KeepsPut W.holds W.failed W.count sink.old sink.new
+            (buffer_state header piece.now self.old.taken self.old.has_failed) (buffer_state header [] self.new.taken self.new.has_failed) }
     {
         if self.has_failed {
             return;
@@ -128,10 +129,14 @@ impl Buffer {
     /// Sends the waiting bytes to the sink. If the sink has failed, now or before, returns [`Write`](WriteFault::Write) with
     /// the number of bytes of the text that it accepted.
     pub fn finish<W: Sink>(&mut self, sink: &mut W) -> Result<(), WriteFault>
-        ensures answer { (first : W) (text header : List ℕ) → HasPut W.holds W.failed W.count first sink.old self.old text header → IsTaken W.holds W.failed first sink.new text result }
-        ensures calls { (first : W) (text header : List ℕ) → HasPut W.holds W.failed W.count first sink.old self.old text header → W.count sink.new ≤ W.count first + length text }
-        ensures stays { (first : W) (text header : List ℕ) → HasPut W.holds W.failed W.count first sink.old self.old text header → W.failed first ≡ true → W.failed sink.new ≡ true }
-        ensures works { (first : W) (text header : List ℕ) → HasPut W.holds W.failed W.count first sink.old self.old text header → 0 < length text → IsOk result → W.failed sink.new ≡ false }
+        ensures answer { (first : W) (text header : List ℕ) → HasPut W.holds W.failed W.count first sink.old self.old text header
+            → IsTaken W.holds W.failed first sink.new text result }
+        ensures calls { (first : W) (text header : List ℕ) → HasPut W.holds W.failed W.count first sink.old self.old text header
+            → W.count sink.new ≤ W.count first + length text }
+        ensures stays { (first : W) (text header : List ℕ) → HasPut W.holds W.failed W.count first sink.old self.old text header
+            → W.failed first ≡ true → W.failed sink.new ≡ true }
+        ensures works { (first : W) (text header : List ℕ) → HasPut W.holds W.failed W.count first sink.old self.old text header
+            → 0 < length text → IsOk result → W.failed sink.new ≡ false }
     {
         self.hand_over(sink);
         self.answer()

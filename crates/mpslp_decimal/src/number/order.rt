@@ -5,7 +5,7 @@ ghost use Rattle.std.specs.Ordering.{int_cmp, on, then_cmp, as_partial_cmp};
 ghost use Rattle.std.specs.Cmp.{partial_order_from_own_ties};
 ghost use Rattle.std.specs.Cmp.Rules.{comparing};
 ghost use Rattle.std.proofs.Common.{rules};
-ghost use Rattle.mpslp_decimal.specs.Decimal.{IsDecimal, decimal_cmp, scaled};
+ghost use Rattle.mpslp_decimal.specs.Decimal.{IsDecimal, decimal_cmp, have_same_value, scaled};
 ghost use Rattle.mpslp_decimal.specs.Values.{order_of};
 
 use crate::number::{Decimal, MAX_DIGITS};
@@ -33,6 +33,17 @@ impl PartialOrd for Decimal {
 
     fn partial_cmp(&self, other: &Decimal) -> Option<Ordering> {
         Some(self.cmp(other))
+    }
+}
+
+impl Decimal {
+    /// Whether the numbers have the same value.
+    pub fn has_same_value(self, other: Decimal) -> bool
+        ensures { result ≡ have_same_value self other }
+    {
+        self.is_in_form();
+        other.is_in_form();
+        self.cmp(&other).is_eq()
     }
 }
 

@@ -10,7 +10,7 @@ returns-then-is_eq g c =
     let cmp = g.K.Key.cmp in
     let key = g.Q.Query.key c.args.query.now in
     let entry = c.index-entries-at.result in
-    sym (found_here cmp g.met.K.Key.total key c.args.entries.now c.index_of_key-at.result entry c.requires c.index_of_key-at.ensures c.if-at-entries.true c.index-entries-at.is
+    sym (found_here cmp g.met.K.Key.total key c.args.entries.now c.insertion_index-at.result entry c.requires c.insertion_index-at.ensures c.if-at-entries.true c.index-entries-at.is
     ∙ ap (λ (b : Bool). cond b (Some entry.1) None) (ap is_eq (sym c.compare.ensures) ∙ sym c.is_eq.ensures ∙ c.if-is_eq.true))
 
 pub returns : goal.returns
@@ -20,7 +20,7 @@ returns g c =
     elim c.if-at-entries.branch [
       | then-at-entries+else-is_eq w ↦
           let entry = w.index-entries-at.result in
-          sym (found_here cmp g.met.K.Key.total key c.args.entries.now c.index_of_key-at.result entry c.requires c.index_of_key-at.ensures w.if-at-entries.true w.index-entries-at.is
+          sym (found_here cmp g.met.K.Key.total key c.args.entries.now c.insertion_index-at.result entry c.requires c.insertion_index-at.ensures w.if-at-entries.true w.index-entries-at.is
           ∙ ap (λ (b : Bool). cond b (Some entry.1) None) (ap is_eq (sym w.compare.ensures) ∙ sym w.is_eq.ensures ∙ w.if-is_eq.false))
-      | else-at-entries w ↦ sym (found_nowhere cmp g.met.K.Key.total key c.args.entries.now c.index_of_key-at.result c.requires c.index_of_key-at.ensures w.if-at-entries.false)
+      | else-at-entries w ↦ sym (found_nowhere cmp g.met.K.Key.total key c.args.entries.now c.insertion_index-at.result c.requires c.insertion_index-at.ensures w.if-at-entries.false)
     ]

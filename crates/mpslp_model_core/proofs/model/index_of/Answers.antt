@@ -4,4 +4,4 @@ use Rattle.std.specs.Cmp.Lexicographic.{texts_ties}
 use Rattle.mpslp_model_core.proofs.model.index_of.Goals as goal
 
 pub returns : goal.returns
-returns g c = c.index_of_entry.ensures ∙ (λ i. position (λ entry. sym (texts_ties c.args.name.now entry.0) i) c.args.entries.now)
+returns g c = c.find_index.ensures ∙ (λ i. position (λ entry. sym (texts_ties c.args.name.now entry.0) i) c.args.entries.now)

@@ -21,13 +21,13 @@ entry_at-cell-requires c =
     ))
     c.requires.entry
 
-pub row_of-requires : goal.row_of-requires
-row_of-requires c = above_zero c.cells_at.result.now c.args.k c.entry_at-cell.result.now (ap (λ (es : List (ℕ × Number)). slice_get es c.args.k) (sym c.row_cells.ensures) ∙ c.entry_at-cell.ensures)
+pub index_of_row_number-requires : goal.index_of_row_number-requires
+index_of_row_number-requires c = above_zero c.cells_at.result.now c.args.k c.entry_at-cell.result.now (ap (λ (es : List (ℕ × Number)). slice_get es c.args.k) (sym c.row_cells.ensures) ∙ c.entry_at-cell.ensures)
 
 pub returns : goal.returns
 returns c =
     entry_numbered c.self.inside.parts c.self.invariant.parts c.args.self.now c.self.view_is c.args.j c.cells_at.result.now
     (cells_here c.self.inside.parts c.self.invariant.parts c.args.self.now c.self.view_is c.args.j c.deref.result.now c.cells_at.result.now c.deref.ensures.value c.cells_at.ensures)
     c.args.k c.entry_at-cell.result.now (ap (λ (es : List (ℕ × Number)). slice_get es c.args.k) (sym c.row_cells.ensures) ∙ c.entry_at-cell.ensures)
-    c.row_of.result c.row_of.ensures
-    ∙ ap (λ (x : Number). Some (Some c.row_of.result, x)) (sym c.value.ensures)
+    c.index_of_row_number.result c.index_of_row_number.ensures
+    ∙ ap (λ (x : Number). Some (Some c.index_of_row_number.result, x)) (sym c.value.ensures)

@@ -2,7 +2,7 @@ use Rattle.std.proofs.Common.{rules, of_calls, sym, ◌∙◌}
 use Rattle.std.specs.Ordering.{is_gt}
 use Rattle.std.proofs.lemmas.List.Sorted.{IsPartitionPoint-from_clause}
 use Rattle.mpslp_maps.proofs.SearchLemmas.{parted, place_after, place_from_point}
-use Rattle.mpslp_maps.proofs.sorted_map.index_of_key.Goals as goal
+use Rattle.mpslp_maps.proofs.sorted_map.insertion_index.Goals as goal
 
 pub returns : goal.returns
 returns g c =

@@ -2,14 +2,14 @@ use Rattle.std.proofs.Common.{sym, ap, ◌∙◌, cond, Bool}
 use Rattle.std.specs.Prelude.{Some, None}
 use Rattle.std.specs.Ordering.{is_eq}
 use Rattle.mpslp_maps.proofs.SearchLemmas.{found_here, found_nowhere, number_here, number_nowhere}
-use Rattle.mpslp_maps.proofs.sorted_map.index_of_entry.Goals as goal
+use Rattle.mpslp_maps.proofs.sorted_map.find_index.Goals as goal
 
 pub returns-then-is_eq : goal.returns-then-is_eq
 returns-then-is_eq g c =
     let cmp = g.K.Key.cmp in
     let key = g.Q.Query.key c.args.query.now in
     let tie = ap is_eq (sym c.compare.ensures) ∙ sym c.is_eq.ensures ∙ c.if-is_eq.true in
-    sym (number_here cmp key c.args.entries.now c.index_of_key-at.result c.index-entries-at.result c.index_of_key-at.ensures c.if-at-entries.true c.index-entries-at.is tie)
+    sym (number_here cmp key c.args.entries.now c.insertion_index-at.result c.index-entries-at.result c.insertion_index-at.ensures c.if-at-entries.true c.index-entries-at.is tie)
 
 pub returns-else-is_eq : goal.returns-else-is_eq
 returns-else-is_eq g c =
@@ -17,11 +17,11 @@ returns-else-is_eq g c =
     let key = g.Q.Query.key c.args.query.now in
     let entry = c.index-entries-at.result in
     sym (number_nowhere cmp key c.args.entries.now
-    (found_here cmp g.met.K.Key.total key c.args.entries.now c.index_of_key-at.result entry c.requires c.index_of_key-at.ensures c.if-at-entries.true c.index-entries-at.is
+    (found_here cmp g.met.K.Key.total key c.args.entries.now c.insertion_index-at.result entry c.requires c.insertion_index-at.ensures c.if-at-entries.true c.index-entries-at.is
     ∙ ap (λ (b : Bool). cond b (Some entry.1) None) (ap is_eq (sym c.compare.ensures) ∙ sym c.is_eq.ensures ∙ c.if-is_eq.false)))
 
 pub returns-else-at-entries : goal.returns-else-at-entries
 returns-else-at-entries g c =
     let cmp = g.K.Key.cmp in
     let key = g.Q.Query.key c.args.query.now in
-    sym (number_nowhere cmp key c.args.entries.now (found_nowhere cmp g.met.K.Key.total key c.args.entries.now c.index_of_key-at.result c.requires c.index_of_key-at.ensures c.if-at-entries.false))
+    sym (number_nowhere cmp key c.args.entries.now (found_nowhere cmp g.met.K.Key.total key c.args.entries.now c.insertion_index-at.result c.requires c.insertion_index-at.ensures c.if-at-entries.false))
