@@ -184,7 +184,8 @@ fn put_elements(model: &Model, j: usize, elements: &mut Vec<MpslpElement>) -> Re
     requires { j < num_columns model.now }
     ensures keeps { KeepsElements elements.old.items elements.new.items }
     ensures count { IfOk result (λ _. length elements.new.items ≡ length elements.old.items + length (column_elements model.now (column_name model.now j))) }
-    ensures represents { IfOk result (λ _. RepresentsElements model.now j (length elements.old.items) (length (column_elements model.now (column_name model.now j))) elements.new.items) }
+    ensures represents { let count = length (column_elements model.now (column_name model.now j)) in
+        IfOk result (λ _. RepresentsElements model.now j (length elements.old.items) count elements.new.items) }
 {
     for k in 0..model.column_len(j) {
         let element = c_element(model, j, k);

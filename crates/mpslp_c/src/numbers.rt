@@ -33,14 +33,14 @@ pub struct MpslpNumber {
 const _: () = prove!(size_of::<MpslpNumber>() == 24);
 
 /// The lower part of a mantissa, by its bits.
-fn low_part(bits: u128) -> u64
+fn low_mantissa_bits(bits: u128) -> u64
     ensures { result ≡ bits % 2 ^ 64 }
 {
     (bits % LOWS) as u64
 }
 
 /// Its upper part.
-fn high_part(bits: u128) -> i64
+fn high_mantissa_bits(bits: u128) -> i64
     ensures { result ≡ cast_signed w64 (bits / 2 ^ 64) }
 {
     ((bits / LOWS) as u64).cast_signed()
@@ -52,8 +52,8 @@ pub(crate) fn c_number(value: Decimal) -> MpslpNumber
 {
     let bits = value.mantissa().cast_unsigned();
     MpslpNumber {
-        low: low_part(bits),
-        high: high_part(bits),
+        low: low_mantissa_bits(bits),
+        high: high_mantissa_bits(bits),
         exponent: value.exponent(),
         infinity: 0,
     }
@@ -115,7 +115,8 @@ fn literal_of(mantissa: i128, exponent: i32) -> ArrayVec<u8, LITERAL_ROOM>
 /// The decimal of a mantissa and an exponent, which need not be in normal form. It is read from their literal, as every
 /// decimal is.
 fn decimal_given(mantissa: i128, exponent: i32) -> Result<Decimal, LineError>
-    ensures { MatchResult result (λ value. decimal_given (record { mantissa = mantissa; exponent = exponent }) ≡ Ok value) (IsFaultGiven (decimal_given (record { mantissa = mantissa; exponent = exponent }))) }
+    ensures { let given = decimal_given (record { mantissa = mantissa; exponent = exponent }) in
+        MatchResult result (λ value. given ≡ Ok value) (IsFaultGiven given) }
 {
     let literal = literal_of(mantissa, exponent);
     match Decimal::parse(literal.as_slice()) {

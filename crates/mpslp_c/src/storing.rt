@@ -125,7 +125,8 @@ fn declare_columns(
     objective: &[u8],
     builder: &mut Builder,
 ) -> Result<(), StoreFault>
-    ensures { TakesItems (column_items model.now.names.now objective.now model.now.rows.now model.now.elements.now 0 model.now.columns.now) builder.old builder.new result }
+    ensures { let items = column_items model.now.names.now objective.now model.now.rows.now model.now.elements.now 0 model.now.columns.now in
+        TakesItems items builder.old builder.new result }
 {
     for j in 0..model.columns.len() {
         let column = model.columns[j];

@@ -58,7 +58,8 @@ pub(crate) fn same_in(
     second_file_format: FileFormat,
     second: &[u8],
 ) -> Result<bool, ConvertFault>
-    ensures answer { IsComparison (declares_in first_file_format) (first_fault_in first_file_format) (declares_in second_file_format) (first_fault_in second_file_format) first.now second.now result }
+    ensures answer { IsComparison (declares_in first_file_format) (first_fault_in first_file_format)
+        (declares_in second_file_format) (first_fault_in second_file_format) first.now second.now result }
     ensures accepts { (m n : LinearModel) → declares_in first_file_format first.now m → declares_in second_file_format second.now n
         → IsOkUnless result ConvertFault.OutOfMemory }
     ensures refuses { (fault : Fault) → first_fault_in first_file_format first.now fault

@@ -28,7 +28,7 @@ use Rattle.mpslp_lp.specs.FirstFault.{fault_of, first_lp_fault}
 use Rattle.mpslp_lp_grammar.specs.Declares.{TakesToken}
 use Rattle.mpslp_lp.specs.Fed.{lines_outcome, IsFaultOfLines, LedTo, HasRead}
 use Rattle.mpslp_lp.specs.FedLaws.{ended-reads}
-use Rattle.mpslp_lp.specs.Laws.{FaultsOfLinesStay}
+use Rattle.mpslp_lp.specs.Laws.{FaultStaysWhenLinesFollow}
 use Rattle.mpslp_lp_grammar.specs.declared.context.Context.{Context}
 use Rattle.mpslp_lp.specs.declared.line_reader.LineReader.{LineReader}
 use Rattle.mpslp_lp_grammar.specs.declared.states.State.{State}
@@ -108,7 +108,7 @@ ends-text bytes reader answer led ended = finished-reads bytes reader.context.bu
 
 -- ---- an error of some lines
 
-pub faults-stay : FaultsOfLinesStay
+pub faults-stay : FaultStaysWhenLinesFollow
 faults-stay text fault h = λ more.
     lines-read (text ++ more) 0 1 start.context (Between AtStart) (omega arith)
     ∙ refused-stays text more 1 start.context (Between AtStart) fault (sym (lines-read text 0 1 start.context (Between AtStart) (omega arith)) ∙ h)

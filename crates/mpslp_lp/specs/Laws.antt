@@ -53,5 +53,5 @@ abbrev pub UnknownAreIllegal : Type 0
 UnknownAreIllegal = (line : List ℕ) → has_legal_bytes line ≡ list_all (λ (token : Token). is_known token.kind) (tokens line)
 
 -- The error of a text of some lines is that of every text that begins with these lines.
-abbrev pub FaultsOfLinesStay : Type 0
-FaultsOfLinesStay = (text : List (List ℕ)) (fault : Fault) → lines_outcome text ≡ Refused fault → IsFaultOfLines text fault
+abbrev pub FaultStaysWhenLinesFollow : Type 0
+FaultStaysWhenLinesFollow = (text : List (List ℕ)) (fault : Fault) → lines_outcome text ≡ Refused fault → IsFaultOfLines text fault

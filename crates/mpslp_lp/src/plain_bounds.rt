@@ -38,7 +38,8 @@ fn take_right_side<'a>(
     left: Tokens<'a>,
 ) -> Result<Tokens<'a>, LineError>
     requires { IsMpsName column.now }
-    ensures { (start : State) (found : List Token) → take context.old start (Terminal.Compares right.now.relation) ≡ Goes context.old (State.AtSide (SideOwner.SideOfBound is_new column.now right.now.relation))
+    ensures { (start : State) (found : List Token) → take context.old start (Terminal.Compares right.now.relation)
+        ≡ Goes context.old (State.AtSide (SideOwner.SideOfBound is_new column.now right.now.relation))
         → BeginsWithRight found right.now.relation right.now.limit left.entry → TakesSome context.old start found result context.new state.new }
 {
     match declare_bound(context, is_new, column, right.relation, &right.limit) {
@@ -122,7 +123,8 @@ fn take_after_column<'a>(
     left: Tokens<'a>,
 ) -> Result<Tokens<'a>, LineError>
     requires { IsMpsName column.now }
-    ensures { (before : Option (List ℕ × Relation)) → state.old ≡ State.Between (Place.InBounds before) → Begins tokens.entry (Terminal.Name column.now) left.entry
+    ensures { (before : Option (List ℕ × Relation)) → state.old ≡ State.Between (Place.InBounds before)
+        → Begins tokens.entry (Terminal.Name column.now) left.entry
         → TakesSome context.old state.old tokens.entry result context.new state.new }
 {
     let mut left = left;
@@ -152,7 +154,8 @@ pub(crate) fn take_bound<'a>(
     state: &mut State,
     tokens: Tokens<'a>,
 ) -> Result<Tokens<'a>, LineError>
-    ensures { (before : Option (List ℕ × Relation)) → state.old ≡ State.Between (Place.InBounds before) → TakesSome context.old state.old tokens.entry result context.new state.new }
+    ensures { (before : Option (List ℕ × Relation)) → state.old ≡ State.Between (Place.InBounds before)
+        → TakesSome context.old state.old tokens.entry result context.new state.new }
 {
     let mut left = tokens.again();
     let Some(first) = next_terminal(&mut left) else {

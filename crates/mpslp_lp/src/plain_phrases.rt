@@ -1,9 +1,6 @@
 //! Phrases that are taken as a whole and not token by token: terms, labels and right-hand sides of rows, bounds, and names that a
 //! section lists.
 
-ghost use Rattle.std.specs.Prelude.{◌≡◌, ◌≤◌, Err, MatchResult, length};
-ghost use Rattle.mpslp_lp_grammar.specs.Declares.{TakesToken};
-ghost use Rattle.mpslp_lp.specs.LineByLine.{take_tokens};
 ghost use Rattle.mpslp_lp.specs.PlainPhrase.{TakesSome};
 
 use crate::plain_bounds::take_bound;
@@ -21,9 +18,7 @@ pub(crate) fn take_phrases<'a>(
     state: &mut State,
     tokens: Tokens<'a>,
 ) -> Result<Tokens<'a>, LineError>
-    ensures { MatchResult result
-        (λ left. (take_tokens context.new state.new left ≡ take_tokens context.old state.old tokens.entry) × (length left ≤ length tokens.entry))
-        (λ error. TakesToken (take_tokens context.old state.old tokens.entry) (Err error) context.new) }
+    ensures { TakesSome context.old state.old tokens.entry result context.new state.new }
 {
     match state {
         State::Between(Place::BetweenRows) => take_new_row(context, state, tokens),

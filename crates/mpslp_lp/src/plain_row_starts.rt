@@ -15,7 +15,7 @@ ghost use Rattle.mpslp_lp.specs.PlainTerm.{Begins};
 ghost use Rattle.mpslp_lp.specs.PlainPhrase.{BeginsWithRight, TakesSome};
 ghost use Rattle.mpslp_lp.specs.PlainStart.{BeginsWithColumn, BeginsWithTerm, row_of_term};
 
-use crate::plain_rows::{end_row, take_rest_of_row};
+use crate::plain_rows::{end_plain_row, take_rest_of_row};
 use crate::plain_terms::set_state;
 use crate::plain_tokens::{RightSide, next_name, next_terminal, right_side_after};
 use mpslp_decimal::Decimal;
@@ -37,7 +37,8 @@ struct FirstTerm<'a> {
 #[inline(always)]
 fn unsigned_from<'a>(token: &TerminalToken<'a>, tokens: &mut Tokens<'a>) -> Option<FirstTerm<'a>>
     requires { HasLegalName token.now }
-    ensures term { (found : List Token) → Begins found (terminal_of_token token.now) tokens.old → IfSome result (λ term. BeginsWithColumn found term.value term.column.now tokens.new) }
+    ensures term { (found : List Token) → Begins found (terminal_of_token token.now) tokens.old
+        → IfSome result (λ term. BeginsWithColumn found term.value term.column.now tokens.new) }
     ensures legal { IfSome result (λ term. IsMpsName term.column.now) }
 {
     match token.kind {
@@ -56,7 +57,8 @@ fn unsigned_from<'a>(token: &TerminalToken<'a>, tokens: &mut Tokens<'a>) -> Opti
 /// The term after this sign.
 #[inline(always)]
 fn term_after<'a>(sign: Sign, tokens: &mut Tokens<'a>) -> Option<FirstTerm<'a>>
-    ensures term { (found : List Token) → Begins found (Terminal.Sign sign) tokens.old → IfSome result (λ term. BeginsWithTerm found term.value term.column.now tokens.new) }
+    ensures term { (found : List Token) → Begins found (Terminal.Sign sign) tokens.old
+        → IfSome result (λ term. BeginsWithTerm found term.value term.column.now tokens.new) }
     ensures legal { IfSome result (λ term. IsMpsName term.column.now) }
 {
     let Some(token) = next_terminal(tokens) else {
@@ -75,7 +77,8 @@ fn term_after<'a>(sign: Sign, tokens: &mut Tokens<'a>) -> Option<FirstTerm<'a>>
 #[inline(always)]
 fn term_from<'a>(token: &TerminalToken<'a>, tokens: &mut Tokens<'a>) -> Option<FirstTerm<'a>>
     requires { HasLegalName token.now }
-    ensures term { (found : List Token) → Begins found (terminal_of_token token.now) tokens.old → IfSome result (λ term. BeginsWithTerm found term.value term.column.now tokens.new) }
+    ensures term { (found : List Token) → Begins found (terminal_of_token token.now) tokens.old
+        → IfSome result (λ term. BeginsWithTerm found term.value term.column.now tokens.new) }
     ensures legal { IfSome result (λ term. IsMpsName term.column.now) }
 {
     match token.kind {
@@ -137,7 +140,8 @@ fn row_of_term(
 /// The row without a label that begins with this column.
 fn row_of_column(context: &mut Context, column: &[u8]) -> Result<PartialRow, LineError>
     requires { IsMpsName column.now }
-    ensures { MatchResult result (λ row. (row ≡ row_of_term (default_row context.old) column.now one) × (context.new ≡ context.old)) (λ error. error ≡ LineError.OutOfMemory) }
+    ensures { MatchResult result (λ row. (row ≡ row_of_term (default_row context.old) column.now one) × (context.new ≡ context.old))
+        (λ error. error ≡ LineError.OutOfMemory) }
 {
     let name = default_name(context)?;
     row_of_term(context, name, column, Decimal::one())
@@ -152,7 +156,8 @@ fn take_first_term<'a>(
     left: Tokens<'a>,
 ) -> Result<Tokens<'a>, LineError>
     requires { IsMpsName term.column.now }
-    ensures { (found : List Token) → BeginsWithTerm found term.entry.value term.entry.column.now left.entry → TakesSome context.old (State.RowLabel name) found result context.new state.new }
+    ensures { (found : List Token) → BeginsWithTerm found term.entry.value term.entry.column.now left.entry
+        → TakesSome context.old (State.RowLabel name) found result context.new state.new }
 {
     let row = row_of_term(context, name, term.column, term.value)?;
     set_state(state, State::Between(Place::InRow(row)));
@@ -189,7 +194,8 @@ fn take_unlabelled_term<'a>(
     left: Tokens<'a>,
 ) -> Result<Tokens<'a>, LineError>
     requires { HasLegalName first.now }
-    ensures { take context.old (State.Between Place.BetweenRows) (terminal_of_token first.now) ≡ take context.old (State.RowLabel (default_row context.old)) (terminal_of_token first.now)
+    ensures { take context.old (State.Between Place.BetweenRows) (terminal_of_token first.now)
+        ≡ take context.old (State.RowLabel (default_row context.old)) (terminal_of_token first.now)
         → Begins tokens.entry (terminal_of_token first.now) left.entry → state.old ≡ State.Between Place.BetweenRows → TakesSome context.old state.old tokens.entry result context.new state.new }
 {
     let mut left = left;
@@ -229,7 +235,7 @@ fn take_row_of_column<'a>(
         → TakesSome context.old (State.RowName column.now) found result context.new (State.Between Place.BetweenRows) }
 {
     let row = row_of_column(context, column)?;
-    end_row(context, row, right, left)
+    end_plain_row(context, row, right, left)
 }
 
 /// Takes the start of a row that begins with this name: a label and the first term after it, a column that is the first term, or the
@@ -242,7 +248,8 @@ fn take_after_name<'a>(
     left: Tokens<'a>,
 ) -> Result<Tokens<'a>, LineError>
     requires { IsMpsName name.now }
-    ensures { Begins tokens.entry (Terminal.Name name.now) left.entry → state.old ≡ State.Between Place.BetweenRows → TakesSome context.old state.old tokens.entry result context.new state.new }
+    ensures { Begins tokens.entry (Terminal.Name name.now) left.entry → state.old ≡ State.Between Place.BetweenRows
+        → TakesSome context.old state.old tokens.entry result context.new state.new }
 {
     let mut after = left.again();
     let Some(second) = next_terminal(&mut after) else {

@@ -17,7 +17,7 @@ use std::mem::replace;
 
 /// Declares a row with this right-hand side. `left` are the tokens after it on its line: their lexical errors are reported before
 /// the error of the row.
-pub(crate) fn end_row<'a>(
+pub(crate) fn end_plain_row<'a>(
     context: &mut Context,
     row: PartialRow,
     right: &RightSide,
@@ -49,7 +49,7 @@ pub(crate) fn take_right_side<'a>(
     match replace(state, State::Between(Place::BetweenRows)) {
         State::Between(Place::InRow(row)) => {
             if fits_left(&row, right.relation) {
-                end_row(context, row, &right, left)
+                end_plain_row(context, row, &right, left)
             } else {
                 set_state(state, State::Between(Place::InRow(row)));
                 Ok(tokens)

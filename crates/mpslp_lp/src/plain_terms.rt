@@ -86,7 +86,8 @@ fn take_plain_term(
     requires { IsMpsName term.column.now }
     ensures later { (found : List Token) → IsPlainTerm found term.entry.sign term.entry.literal.now term.entry.column.now left.entry
         → MatchResult result (λ _. TakesInRow context.now row.old found (Ok row.new) left.entry) (λ error. TakesInRow context.now row.old found (Err error) left.entry) }
-    ensures first { (found : List Token) (name : List ℕ) → IsPlainTerm found term.entry.sign term.entry.literal.now term.entry.column.now left.entry → row.old ≡ without_terms name None
+    ensures first { (found : List Token) (name : List ℕ) → IsPlainTerm found term.entry.sign term.entry.literal.now term.entry.column.now left.entry
+        → row.old ≡ without_terms name None
         → MatchResult result
         (λ _. take_tokens context.now (State.Between (Place.InRow row.new)) left.entry ≡ take_tokens context.now (State.RowLabel name) found)
         (λ error. TakesToken (take_tokens context.now (State.RowLabel name) found) (Err error) context.now) }
@@ -170,7 +171,7 @@ fn take_terms_after_label<'a>(
 /// Takes a term of the objective. `left` are the tokens after it on its line: their lexical errors are reported before the
 /// error of the term.
 #[inline(always)]
-fn take_objective_term(
+fn take_plain_objective_term(
     context: &mut Context,
     objective: &Name,
     term: PlainTerm<'_>,
@@ -209,7 +210,7 @@ fn take_objective_terms<'a>(
         let Some(term) = plain_term(&mut left) else {
             return Ok(tokens);
         };
-        take_objective_term(context, objective, term, left.again())?;
+        take_plain_objective_term(context, objective, term, left.again())?;
         tokens = left;
     }
 }
@@ -238,9 +239,7 @@ pub(crate) fn take_terms<'a>(
     state: &mut State,
     tokens: Tokens<'a>,
 ) -> Result<Tokens<'a>, LineError>
-    ensures { MatchResult result
-        (λ left. (take_tokens context.new state.new left ≡ take_tokens context.old state.old tokens.entry) × (length left ≤ length tokens.entry))
-        (λ error. TakesToken (take_tokens context.old state.old tokens.entry) (Err error) context.new) }
+    ensures { TakesSome context.old state.old tokens.entry result context.new state.new }
 {
     match state {
         State::Between(Place::InRow(row)) => take_plain_terms(context, row, tokens),

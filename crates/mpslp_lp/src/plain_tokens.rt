@@ -121,7 +121,8 @@ pub(crate) struct RightSide {
 /// The limit that comes next, after this relation.
 #[inline(always)]
 pub(crate) fn right_side_after(relation: Relation, tokens: &mut Tokens<'_>) -> Option<RightSide>
-    ensures { (found : List Token) → Begins found (Terminal.Compares relation) tokens.old → IfSome result (λ right. BeginsWithRight found right.relation right.limit tokens.new) }
+    ensures { (found : List Token) → Begins found (Terminal.Compares relation) tokens.old
+        → IfSome result (λ right. BeginsWithRight found right.relation right.limit tokens.new) }
 {
     let limit = next_limit(tokens)?;
     Some(RightSide { relation, limit })

@@ -25,6 +25,22 @@ objective f
 row r L
 row s G";
 
+/// Calls that declare a model in which each row has coefficients in two of three columns.
+const TWO_OF_THREE: &str = "\
+objective COST
+row r L
+row s G
+column c
+column b
+column a
+coefficient r c 3
+coefficient COST b 9
+coefficient s b 2
+coefficient r a 1
+coefficient s c 4
+rhs r 5
+integer b";
+
 /// The result of `finish`, if the objective has a name.
 fn finished(builder: Builder) -> Option<Result<Model, ReadFault>> {
     if builder.has_objective() {

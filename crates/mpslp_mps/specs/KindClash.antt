@@ -15,7 +15,11 @@ column_clash context earlier fields = context.in_integer_part && option_map_or (
 abbrev pub type_clash : Draft → BoundType → List ℕ → Bool
 type_clash earlier type column = (is_integer_type type && is_semi earlier column) || (is_semi_type type && is_integer earlier column)
 
+-- the same for a line of BOUNDS, by its type and its other fields, and by all of them
+abbrev pub line_clash : Draft → BoundType → Fields → Bool
+line_clash earlier type more = option_map_or (λ line. type_clash earlier type line.column) (bound_shape type more) false
+
 abbrev pub bound_clash : Draft → Fields → Bool
 bound_clash earlier [] = false
 bound_clash earlier (letters ∷ more) =
-    option_map_or (λ type. option_map_or (λ line. type_clash earlier type line.column) (bound_shape type more) false) (bound_type letters) false
+    option_map_or (λ type. line_clash earlier type more) (bound_type letters) false

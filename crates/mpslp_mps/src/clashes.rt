@@ -7,7 +7,7 @@ ghost use Rattle.std.specs.Option.{option_map_or};
 ghost use Rattle.mpslp_builder.specs.Declaration.{is_integer, is_semi};
 ghost use Rattle.mpslp_lines.specs.Declaring.{is_kind_clash};
 ghost use Rattle.mpslp_mps_fields.specs.DataLine.{column_shape, bound_shape};
-ghost use Rattle.mpslp_mps.specs.KindClash.{column_clash, type_clash, bound_clash};
+ghost use Rattle.mpslp_mps.specs.KindClash.{column_clash, type_clash, bound_clash, line_clash};
 
 use crate::context::LineContext;
 use mpslp_model::laws::each_builder_is_made;
@@ -75,7 +75,7 @@ fn has_type_clash(builder: &Builder, bound_type: BoundType, column: &[u8]) -> bo
 
 /// Whether a bound of this type, with these fields after it, makes its column both integer and semi-continuous.
 fn has_line_clash(builder: &Builder, bound_type: BoundType, more: &[&[u8]]) -> bool
-    ensures { result ≡ option_map_or (λ line. type_clash builder.now bound_type line.column) (bound_shape bound_type (map (λ field. field.now) more.now)) false }
+    ensures { result ≡ line_clash builder.now bound_type (map (λ field. field.now) more.now) }
 {
     match bound_shape(bound_type, more) {
         Some(line) => has_type_clash(builder, bound_type, line.column),

@@ -14,8 +14,8 @@ ghost use Rattle.mpslp_mps.specs.LineFault.{is_split};
 ghost use Rattle.mpslp_lines.specs.FaultTests.{first_held};
 ghost use Rattle.mpslp_lines.specs.Declaring.{declared_fault};
 ghost use Rattle.mpslp_lines.specs.LineAnswer.{AreDeclared, IfFault, IsErrorOf};
-ghost use Rattle.mpslp_mps.specs.ColumnDeclared.{front_declared, value_declared, has_duplicate};
-ghost use Rattle.mpslp_mps.specs.LineAnswer.{ReadsContent};
+ghost use Rattle.mpslp_mps.specs.ColumnDeclared.{front_declared, value_declared, has_duplicate, row_and_column_tests};
+ghost use Rattle.mpslp_mps.specs.LineAnswer.{DeclaresUnlessOutOfMemory, ReadsContent};
 
 use crate::clashes::has_column_clash;
 use crate::context::LineContext;
@@ -65,7 +65,7 @@ fn check_rows_and_column(
     column: &[u8],
     values: &RowValues<'_>,
 ) -> Result<(), FaultKind>
-    ensures { let first_fault = first_held ((not (list_all (λ value. has_row builder.now value.0) values.now), FaultKind.UnknownRow) ∷ (is_split context.now builder.now column.now, FaultKind.ColumnSplit) ∷ []) in
+    ensures { let first_fault = first_held (row_and_column_tests context.now builder.now column.now values.now) in
         MatchResult result (λ _. first_fault ≡ None) (λ kind. first_fault ≡ Some kind) }
 {
     if !has_rows(builder, values) {
@@ -105,7 +105,7 @@ fn declare_column_name(builder: &mut Builder, alloc: Global, column: &[u8]) -> R
 fn declare_mark(builder: &mut Builder, column: &[u8], is_marked: bool) -> Result<(), LineError>
     requires column { has_column builder.old column.now ≡ true }
     requires apart { (is_marked && is_semi builder.old column.now) ≡ false }
-    ensures { MatchResult result (λ _. builder.new ≡ with_declarations builder.old (when is_marked (declare_marked column.now))) (λ error. error ≡ LineError.OutOfMemory) }
+    ensures { DeclaresUnlessOutOfMemory builder.old (when is_marked (declare_marked column.now)) result builder.new }
 {
     if is_marked {
         builder.marked(column)?;
@@ -122,7 +122,7 @@ fn declare_column(
 ) -> Result<(), LineError>
     requires name { IsMpsName column.now }
     requires apart { (is_marked && is_semi builder.old column.now) ≡ false }
-    ensures { MatchResult result (λ _. builder.new ≡ with_declarations builder.old (front_declared is_marked column.now)) (λ error. error ≡ LineError.OutOfMemory) }
+    ensures { DeclaresUnlessOutOfMemory builder.old (front_declared is_marked column.now) result builder.new }
 {
     declare_column_name(builder, alloc, column)?;
     declare_mark(builder, column, is_marked)?;

@@ -61,7 +61,7 @@ fn is_name(name: &Option<Vec<u8>>, bytes: &[u8]) -> bool
 }
 
 /// The bytes of a name.
-fn bytes_of(name: &Option<Vec<u8>>) -> Option<&[u8]>
+fn set_name_bytes(name: &Option<Vec<u8>>) -> Option<&[u8]>
     ensures { option_map (λ bytes. bytes.now) result ≡ option_map (λ known. known.items) name.now }
 {
     match name {
@@ -203,21 +203,21 @@ impl LineContext {
     pub(crate) fn rhs_set(&self) -> Option<&[u8]>
         ensures { option_map (λ name. name.now) result ≡ self.now.rhs_set }
     {
-        bytes_of(&self.rhs_set)
+        set_name_bytes(&self.rhs_set)
     }
 
     /// The set name of the first line of RANGES.
     pub(crate) fn ranges_set(&self) -> Option<&[u8]>
         ensures { option_map (λ name. name.now) result ≡ self.now.ranges_set }
     {
-        bytes_of(&self.ranges_set)
+        set_name_bytes(&self.ranges_set)
     }
 
     /// The set name of the first line of BOUNDS.
     pub(crate) fn bounds_set(&self) -> Option<&[u8]>
         ensures { option_map (λ name. name.now) result ≡ self.now.bounds_set }
     {
-        bytes_of(&self.bounds_set)
+        set_name_bytes(&self.bounds_set)
     }
 
     /// Drops the names with which later lines are compared.

@@ -11,7 +11,7 @@ ghost use Rattle.mpslp_lines.specs.FaultTests.{judged_by, first_held, number_tes
 ghost use Rattle.mpslp_mps.specs.LineFault.{literals_of};
 ghost use Rattle.mpslp_mps.specs.LineAnswer.{item_fault, MayRead};
 ghost use Rattle.mpslp_mps.specs.LineValues.{named_values};
-ghost use Rattle.mpslp_mps.specs.UsualLine.{usual_declared, TakesUsual, MayPass};
+ghost use Rattle.mpslp_mps.specs.UsualLine.{shape_fault, TakesUsual, LeavesNext, LeavesFirst, LeavesFaulty, MayPass};
 ghost use Rattle.mpslp_mps_fields.specs.DataLine.{column_shape, is_marker_line};
 ghost use Rattle.mpslp_mps_fields.specs.Line.{data_line};
 ghost use Rattle.mpslp_mps_fields.specs.declared.sections.Section.{Section};
@@ -54,9 +54,9 @@ fn entries_of<'a>(values: &RowValues<'a>) -> Entries<'a>
 
 /// The column and the values of a line, if its fields and numbers have no error.
 fn usual_parts<'a>(fields: &[&'a [u8]]) -> Option<(&'a [u8], RowValues<'a>)>
-    ensures parts { let parts = column_shape (map (λ field. field.now) fields.now) in
-        IfSome result (λ line. (first_held (judged_by (λ line. number_tests (literals_of line.pairs)) parts) ≡ None) × (option_map named_values parts ≡ Some (line.0.now, line.1))) }
-    ensures found { first_held (judged_by (λ line. number_tests (literals_of line.pairs)) (column_shape (map (λ field. field.now) fields.now))) ≡ None → is_some result ≡ true }
+    ensures parts { let names = map (λ field. field.now) fields.now in
+        IfSome result (λ line. (shape_fault names ≡ None) × (option_map named_values (column_shape names) ≡ Some (line.0.now, line.1))) }
+    ensures found { shape_fault (map (λ field. field.now) fields.now) ≡ None → is_some result ≡ true }
 {
     let Some(line) = column_shape(fields) else {
         return None;
@@ -79,7 +79,7 @@ fn declare_next(
     values: &RowValues<'_>,
 ) -> Result<bool, LineError>
     ensures taken { TakesUsual builder.old.draft is_marked column.now values.now result builder.new.draft }
-    ensures refused { result ≡ Ok false → has_column builder.old.draft column.now ≡ true → refusals_in_turn builder.old.draft (usual_declared is_marked column.now values.now) ≢ [] }
+    ensures refused { LeavesNext builder.old.draft is_marked column.now values.now result }
 {
     let Entries { first, second } = entries_of(values);
     let is_done = builder.next_line(column, is_marked, &Entries { first, second })?;
@@ -97,7 +97,7 @@ fn declare_first(
 ) -> Result<bool, LineError>
     ensures taken { TakesUsual builder.old.draft is_marked column.now values.now result builder.new.draft }
     ensures absent { result ≡ Ok true → has_column builder.old.draft column.now ≡ false }
-    ensures refused { result ≡ Ok false → name_refusal column.now ≡ None → has_column builder.old.draft column.now ≡ false → refusals_in_turn builder.old.draft (usual_declared is_marked column.now values.now) ≢ [] }
+    ensures refused { LeavesFirst builder.old.draft is_marked column.now values.now result }
 {
     let name = match Name::new(alloc, column) {
         Ok(name) => name,
@@ -119,7 +119,7 @@ fn pass_next(
 ) -> Result<bool, LineError>
     requires { option_map_or (same_bytes column.now) context.old.last_column false ≡ true }
     ensures passed { MayPass context.old builder.old.draft column.now values.now result context.new builder.new.draft }
-    ensures refused { result ≡ Ok false → has_column builder.old.draft column.now ≡ true → refusals_in_turn builder.old.draft (usual_declared context.old.in_integer_part column.now values.now) ≢ [] }
+    ensures refused { LeavesNext builder.old.draft context.old.in_integer_part column.now values.now result }
 {
     if declare_next(builder, column, context.in_integer_part(), values)? {
         context.pass_data();
@@ -137,7 +137,7 @@ fn pass_first(
     values: &RowValues<'_>,
 ) -> Result<bool, LineError>
     ensures passed { MayPass context.old builder.old.draft column.now values.now result context.new builder.new.draft }
-    ensures refused { result ≡ Ok false → name_refusal column.now ≡ None → has_column builder.old.draft column.now ≡ false → refusals_in_turn builder.old.draft (usual_declared context.old.in_integer_part column.now values.now) ≢ [] }
+    ensures refused { LeavesFirst builder.old.draft context.old.in_integer_part column.now values.now result }
 {
     let is_marked = context.in_integer_part();
     if declare_first(builder, alloc, column, is_marked, values)? {
@@ -157,7 +157,7 @@ pub(crate) fn read_usual(
     requires section { context.old.section ≡ Some Section.Columns }
     requires plain { is_marker_line (map (λ field. field.now) fields.now) ≡ false }
     ensures read { MayRead context.old builder.old.draft (data_line (map (λ field. field.now) fields.now)) result context.new builder.new.draft }
-    ensures refused { result ≡ Ok false → ForSome context.old.last_column (λ name. has_column builder.old.draft name ≡ true) → item_fault context.old builder.old.draft (data_line (map (λ field. field.now) fields.now)) ≢ None }
+    ensures refused { LeavesFaulty context.old builder.old.draft (data_line (map (λ field. field.now) fields.now)) result }
 {
     let Some((column, values)) = usual_parts(fields) else {
         return Ok(false);

@@ -4,8 +4,8 @@ ghost use Rattle.std.specs.Prelude.{◌≡◌, [], ◌∷◌, map, not, false, S
 ghost use Rattle.std.specs.Option.{option_map, option_map_or};
 ghost use Rattle.mpslp_types.specs.Name.{same_bytes};
 ghost use Rattle.mpslp_lines.specs.FaultTests.{kind_of_number_fault, number_tests, value_of, first_held};
-ghost use Rattle.mpslp_mps.specs.LineFault.{literals_of};
-ghost use Rattle.mpslp_mps.specs.LineValues.{row_value};
+ghost use Rattle.mpslp_mps.specs.LineAnswer.{ReturnsUnless};
+ghost use Rattle.mpslp_mps.specs.LineValues.{numbers_fault, row_value};
 
 use mpslp_decimal::Decimal;
 use mpslp_lines::{kind_of_number_fault, lower_ranked_number_fault, value_of};
@@ -48,7 +48,7 @@ impl<'a> Model for RowValues<'a> {
 
 /// The value of one pair, or its error.
 fn value_of_one<'a>(pair: Pair<'a>) -> Result<RowValues<'a>, FaultKind>
-    ensures { let first_fault = first_held (number_tests (pair.entry.literal ∷ [])) in MatchResult result (λ values. (first_fault ≡ None) × (values ≡ row_value pair.entry ∷ [])) (λ kind. first_fault ≡ Some kind) }
+    ensures { ReturnsUnless (numbers_fault (pair.entry ∷ [])) result (λ values. values ≡ map row_value (pair.entry ∷ [])) }
 {
     match value_of(pair.literal) {
         Ok(value) => Ok(RowValues {
@@ -64,7 +64,7 @@ fn value_of_one<'a>(pair: Pair<'a>) -> Result<RowValues<'a>, FaultKind>
 
 /// The values of two pairs, or the first of their errors in the order of kinds.
 fn values_of_both<'a>(pair: Pair<'a>, other: Pair<'a>) -> Result<RowValues<'a>, FaultKind>
-    ensures { let first_fault = first_held (number_tests (pair.entry.literal ∷ other.entry.literal ∷ [])) in MatchResult result (λ values. (first_fault ≡ None) × (values ≡ row_value pair.entry ∷ row_value other.entry ∷ [])) (λ kind. first_fault ≡ Some kind) }
+    ensures { ReturnsUnless (numbers_fault (pair.entry ∷ other.entry ∷ [])) result (λ values. values ≡ map row_value (pair.entry ∷ other.entry ∷ [])) }
 {
     match (Decimal::parse(pair.literal), Decimal::parse(other.literal)) {
         (Ok(value), Ok(second)) => Ok(RowValues {
@@ -87,7 +87,7 @@ fn values_of_both<'a>(pair: Pair<'a>, other: Pair<'a>) -> Result<RowValues<'a>, 
 
 /// The values of the pairs of a line, or the first of their errors in the order of kinds.
 pub(crate) fn values_of<'a>(pairs: Pairs<'a>) -> Result<RowValues<'a>, FaultKind>
-    ensures { let first_fault = first_held (number_tests (literals_of pairs.entry)) in MatchResult result (λ values. (first_fault ≡ None) × (values ≡ map row_value pairs.entry)) (λ kind. first_fault ≡ Some kind) }
+    ensures { ReturnsUnless (numbers_fault pairs.entry) result (λ values. values ≡ map row_value pairs.entry) }
 {
     let Pairs { first, second } = pairs;
     match second {

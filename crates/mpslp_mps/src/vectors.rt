@@ -7,8 +7,8 @@ ghost use Rattle.mpslp_types.specs.FaultOrder.{least_kind};
 ghost use Rattle.mpslp_lines.specs.Declaring.{declaring_faults, declared_fault};
 ghost use Rattle.mpslp_mps_fields.specs.Line.{data_line};
 ghost use Rattle.mpslp_lines.specs.LineAnswer.{IsErrorOf, AreDeclared, IfFault};
-ghost use Rattle.mpslp_mps.specs.LineAnswer.{ReadsContent};
-ghost use Rattle.mpslp_mps.specs.VectorDeclared.{HasMpsSides, rhs_values_declared, ranges_of};
+ghost use Rattle.mpslp_mps.specs.LineAnswer.{ReadsContent, ReturnsFault};
+ghost use Rattle.mpslp_mps.specs.VectorDeclared.{HasMpsSides, rhs_pair_declared, rhs_values_declared, ranges_of};
 ghost use Rattle.mpslp_mps_fields.specs.declared.sections.Section.{Section};
 
 use crate::context::LineContext;
@@ -38,7 +38,7 @@ fn declare_rhs<'a>(builder: &mut Builder, side: RowValue<'a>) -> Result<(), Line
 /// The error, if any, of declaring this right-hand side.
 fn check_rhs_value(builder: &Builder, side: &RowValue) -> Result<(), LineError>
     requires { HasMpsSides builder.now }
-    ensures { MatchResult result (λ _. declared_fault builder.now (rhs_declared builder.now side.now.0 side.now.1) ≡ None) (IsErrorOf (declared_fault builder.now (rhs_declared builder.now side.now.0 side.now.1))) }
+    ensures { ReturnsFault (declared_fault builder.now (rhs_declared builder.now side.now.0 side.now.1)) result }
 {
     builder.check_rhs(side.row)?;
     Ok(())
@@ -55,8 +55,7 @@ fn is_second_rhs(builder: &Builder, first: &RowValue, second: &RowValue) -> bool
 fn check_rhs_pair(builder: &Builder, first: &RowValue, second: &RowValue) -> Result<(), LineError>
     requires sides { HasMpsSides builder.now }
     requires rows { (has_row builder.now first.now.0 && has_row builder.now second.now.0) ≡ true }
-    ensures { let first_fault = declared_fault builder.now (rhs_declared builder.now first.now.0 first.now.1 ++ rhs_declared builder.now second.now.0 second.now.1) in
-        MatchResult result (λ _. first_fault ≡ None) (IsErrorOf first_fault) }
+    ensures { ReturnsFault (declared_fault builder.now (rhs_pair_declared builder.now first.now second.now)) result }
 {
     check_rhs_value(builder, first)?;
     if is_second_rhs(builder, first, second) {
@@ -73,7 +72,7 @@ fn declare_rhs_pair<'a>(
     second: RowValue<'a>,
 ) -> Result<(), LineError>
     requires { HasMpsSides builder.old }
-    ensures answers { AreDeclared builder.old (rhs_declared builder.old first.entry.0 first.entry.1 ++ rhs_declared builder.old second.entry.0 second.entry.1) result builder.new }
+    ensures answers { AreDeclared builder.old (rhs_pair_declared builder.old first.entry second.entry) result builder.new }
     ensures unchanged { IfFault result (builder.new ≡ builder.old) }
 {
     if !are_rows(builder, &first, &second) {
@@ -125,7 +124,7 @@ fn declare_range<'a>(builder: &mut Builder, row: RowValue<'a>) -> Result<(), Lin
 
 /// The error, if any, of declaring this range.
 fn check_range(builder: &Builder, row: &RowValue) -> Result<(), LineError>
-    ensures { MatchResult result (λ _. declared_fault builder.now (declare_range row.now.0 row.now.1 ∷ []) ≡ None) (IsErrorOf (declared_fault builder.now (declare_range row.now.0 row.now.1 ∷ []))) }
+    ensures { ReturnsFault (declared_fault builder.now (declare_range row.now.0 row.now.1 ∷ [])) result }
 {
     builder.check_range(row.row, row.value)?;
     Ok(())
@@ -149,8 +148,7 @@ fn check_ranges_apart(
     second: &RowValue,
 ) -> Result<(), LineError>
     requires { same_bytes second.now.0 first.now.0 ≡ false }
-    ensures { let first_fault = declared_fault builder.now (declare_range first.now.0 first.now.1 ∷ declare_range second.now.0 second.now.1 ∷ []) in
-        MatchResult result (λ _. first_fault ≡ None) (IsErrorOf first_fault) }
+    ensures { ReturnsFault (declared_fault builder.now (ranges_of (first.now ∷ second.now ∷ []))) result }
 {
     match check_range(builder, first) {
         Ok(()) => check_range(builder, second),
@@ -166,7 +164,7 @@ fn declare_ranges_apart<'a>(
     second: RowValue<'a>,
 ) -> Result<(), LineError>
     requires { same_bytes second.0 first.0 ≡ false }
-    ensures answers { AreDeclared builder.old (declare_range first.entry.0 first.entry.1 ∷ declare_range second.entry.0 second.entry.1 ∷ []) result builder.new }
+    ensures answers { AreDeclared builder.old (ranges_of (first.entry ∷ second.entry ∷ [])) result builder.new }
     ensures unchanged { IfFault result (builder.new ≡ builder.old) }
 {
     check_ranges_apart(builder, &first, &second)?;
@@ -181,7 +179,7 @@ fn declare_both_ranges<'a>(
     first: RowValue<'a>,
     second: RowValue<'a>,
 ) -> Result<(), LineError>
-    ensures answers { AreDeclared builder.old (declare_range first.entry.0 first.entry.1 ∷ declare_range second.entry.0 second.entry.1 ∷ []) result builder.new }
+    ensures answers { AreDeclared builder.old (ranges_of (first.entry ∷ second.entry ∷ [])) result builder.new }
     ensures unchanged { IfFault result (builder.new ≡ builder.old) }
 {
     if !is_same_row(&first, &second) {

@@ -87,7 +87,7 @@ fn same_of<A: Format, B: Format>(
 }
 
 /// Prints the result of a comparison.
-fn say<W: Sink>(same: Result<bool, ConvertFault>, out: &mut W) -> Result<u8, Failure>
+fn print_comparison<W: Sink>(same: Result<bool, ConvertFault>, out: &mut W) -> Result<u8, Failure>
     ensures answer { IsSaid (sink_change W.Sink out.old out.new) same result }
     ensures out_stays { W.failed out.old ≡ true → W.failed out.new ≡ true }
 {
@@ -121,7 +121,7 @@ fn compare<A: Format, B: Format, R: Source, S: Source, W: Sink>(
         Ok(other) => other,
         Err(fault) => return Err(Failure::new(Input::Second, fault)),
     };
-    say(same_of::<A, B>(one, other), out)
+    print_comparison(same_of::<A, B>(one, other), out)
 }
 
 /// Prints whether two sources, each in its own format, declare the same model.

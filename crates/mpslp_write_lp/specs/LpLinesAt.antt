@@ -1,6 +1,7 @@
 -- Lines of canonical LP that are printed for one entry after another.
 use Rattle.std.specs.Prelude.{◌≡◌, ◌+◌, ◌<◌, ℕ, Bool, true, false, List, [], ◌∷◌, length, slice_get, slice_index_or, Option, Some, None, if◌then◌else◌}
 use Rattle.std.specs.Borrow.{Bor}
+use Rattle.std.specs.List.{flat_map}
 use Rattle.std.specs.FinMap.{entries}
 use Rattle.mpslp_model_core.specs.Model.{LinearModel, Column, Listing, listing_of}
 use Rattle.mpslp_model_core.specs.Views.{row_name, row_columns, column_name, column_names, coefficient_at}
@@ -9,8 +10,8 @@ use Rattle.mpslp_decimal.specs.Decimal.{Number, have_same_value}
 use Rattle.mpslp_types.specs.declared.kinds.Sense.{Sense}
 use Rattle.mpslp_types.specs.declared.kinds.Limit.TheVariants.{Finite, PlusInf}
 use Rattle.mpslp_lp_grammar.specs.declared.relations.Relation.TheVariants.{AtMost, EqualTo}
-use Rattle.mpslp_canonical_lp.specs.Printed.{number, sense}
-use Rattle.mpslp_canonical_lp.specs.CanonicalLp.{Lines, heading, long_line, sense_word, Term, term_line, term_in, objective_term, right_line, bound_lexemes, line_of_some, is_integer_kind, is_semi_kind, name_line}
+use Rattle.mpslp_canonical_lp.specs.Printed.{Lexeme, PrintedLine, word, number, sense}
+use Rattle.mpslp_canonical_lp.specs.CanonicalLp.{Lines, heading, short_line, long_line, sense_word, Term, term_line, term_in, objective_term, right_line, bound_lexemes, line_of_some, is_integer_kind, is_semi_kind, name_line}
 use Rattle.mpslp_output.specs.LinesAt.{lines_at}
 use Rattle.mpslp_write_lp.specs.declared.lp.kinds.KindSection.{KindSection}
 use Rattle.mpslp_write_lp.specs.declared.lp.kinds.KindSection.TheVariants.{Generals, SemiContinuous}
@@ -33,6 +34,13 @@ row_term_lines m row column = term_lines (term_in m row column)
 -- of the column with this number in the row of this name
 abbrev pub numbered_term_lines : LinearModel → List ℕ → ℕ → Lines
 numbered_term_lines m row j = lines_at (row_term_lines (listing_of m) row) (entries m.columns) j
+
+-- the line of term `k` of the row of this name, and the lines of all its terms
+abbrev pub term_lines_at : LinearModel → List ℕ → ℕ → Lines
+term_lines_at m row k = lines_at (numbered_term_lines m row) (row_columns m row) k
+
+abbrev pub lines_of_terms : LinearModel → List ℕ → Lines
+lines_of_terms m row = flat_map (numbered_term_lines m row) (row_columns m row)
 
 -- the column and the value of term `k` of row `i`
 pub record IsTerm (m : LinearModel) (i k : ℕ) (term : ℕ × Number) : Type 0 where
@@ -68,6 +76,10 @@ last_between lower upper = (if have_same_value lower upper then right_line Equal
 
 abbrev pub lines_between : List ℕ → Number → Number → Lines
 lines_between column lower upper = line_of_some (bound_lexemes column (Finite lower) (Finite upper))
+
+-- a column between a lower bound, printed as this, and an upper one
+abbrev pub between_line : Lexeme → List ℕ → Number → PrintedLine
+between_line lower column upper = short_line (lower ∷ sense AtMost ∷ word column ∷ sense AtMost ∷ number upper ∷ [])
 
 -- only a lower bound
 abbrev pub lines_from : List ℕ → Number → Lines

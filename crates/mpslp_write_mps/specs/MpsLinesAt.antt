@@ -1,15 +1,18 @@
 -- Lines of MPS that are printed for one entry after another.
 use Rattle.std.specs.Prelude.{◌≡◌, ◌+◌, ◌<◌, ℕ, Bool, true, false, not, List, [], ◌∷◌, length, slice_get, slice_index_or, Option, Some, None, ◌==◌, if◌then◌else◌}
 use Rattle.std.specs.Option.{option_map}
+use Rattle.std.specs.List.{flat_map}
+use Rattle.std.specs.FinMap.{entries}
 use Rattle.std.specs.Borrow.{Bor}
 use Rattle.mpslp_decimal.specs.Decimal.{Number, is_zero}
-use Rattle.mpslp_model_core.specs.Model.{LinearModel, CoefficientKey, Column}
+use Rattle.mpslp_model_core.specs.Model.{LinearModel, CoefficientKey, Column, listing_of}
 use Rattle.mpslp_model_core.specs.Views.{coefficient_at, column_name, column_elements, letter_G, letter_R}
 use Rattle.mpslp_types.specs.declared.kinds.Kind.{Kind}
 use Rattle.mpslp_types.specs.declared.kinds.Limit.{Limit}
 use Rattle.mpslp_types.specs.declared.kinds.Limit.TheVariants.{MinusInf, Finite, PlusInf}
 use Rattle.mpslp_canonical_mps.specs.PrintedValues.{is_fixed}
-use Rattle.mpslp_canonical_mps.specs.CanonicalMps.{Lines, is_integer_column, coefficient_line}
+use Rattle.mpslp_canonical_mps.specs.CanonicalMps.{Lines, is_integer_column, coefficient_line, column_lines}
+use Rattle.mpslp_output.specs.LinesAt.{lines_at}
 use Rattle.mpslp_write_mps.specs.declared.mps.columns.Part.{Part}
 use Rattle.mpslp_write_mps.specs.declared.mps.columns.Part.TheVariants.{Plain, Integers}
 
@@ -26,9 +29,20 @@ is_wanted Plain is_integer = not is_integer
 abbrev pub of_part : Part → (List ℕ × Column → Lines) → List ℕ × Column → Lines
 of_part part lines_of column = if is_wanted part (is_integer_column column) then lines_of column else []
 
+-- the lines of all columns of the part
+abbrev pub lines_of_part : LinearModel → Part → Lines
+lines_of_part m part = flat_map (of_part part (column_lines (listing_of m))) (entries m.columns)
+
 -- the line of a coefficient of a row
 abbrev pub element_lines : List ℕ → CoefficientKey × Number → Lines
 element_lines column element = coefficient_line column (element.0.row, element.1) ∷ []
+
+-- the line of coefficient `k` of a column, among its coefficients in rows, and all these lines
+abbrev pub element_lines_at : LinearModel → List ℕ → ℕ → Lines
+element_lines_at m column k = lines_at (element_lines column) (column_elements m column) k
+
+abbrev pub lines_of_elements : LinearModel → List ℕ → Lines
+lines_of_elements m column = flat_map (element_lines column) (column_elements m column)
 
 -- the row of coefficient `k` of column `j`, among its coefficients in rows
 abbrev pub IsRowOf : LinearModel → ℕ → ℕ → List ℕ → Type 0

@@ -6,5 +6,4 @@
 
 mod mps;
 
-pub use mps::bounds::have_same_value;
 pub use mps::write_mps;

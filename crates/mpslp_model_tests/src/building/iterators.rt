@@ -1,28 +1,12 @@
 //! Tests of the iterators of models.
 
 use super::calls::built;
-use super::{Shown, model_of};
+use super::{Shown, TWO_OF_THREE, model_of};
 use mpslp_decimal::DecimalText;
 use mpslp_model_core::Model;
 use mpslp_types::{BuildFault, Kind};
 use std::alloc::{AllocError, Global};
 use std::test::Fail;
-
-/// A model in which each row has coefficients in two of three columns.
-const CALLS: &str = "\
-objective COST
-row r L
-row s G
-column c
-column b
-column a
-coefficient r c 3
-coefficient COST b 9
-coefficient s b 2
-coefficient r a 1
-coefficient s c 4
-rhs r 5
-integer b";
 
 /// What the iterators return for the model.
 const VISITED: &str = "\
@@ -129,7 +113,7 @@ fn visited_if_any(alloc: Global, model: &Option<Model>) -> Result<Vec<u8>, Alloc
 
 /// The model of the calls, without lists by rows.
 fn by_columns(alloc: Global) -> Result<Option<Model>, BuildFault> {
-    let builder = built(alloc, CALLS)?;
+    let builder = built(alloc, TWO_OF_THREE)?;
     if !builder.has_objective() {
         return Ok(None);
     }
@@ -144,7 +128,7 @@ fn is_visited(alloc: Global, model: &Option<Model>) -> Result<bool, AllocError> 
 
 /// Whether the iterators return what is expected for the model with lists by rows, and without.
 fn are_visited(alloc: Global) -> Result<(bool, bool), BuildFault> {
-    let with_lists = model_of(alloc, CALLS)?;
+    let with_lists = model_of(alloc, TWO_OF_THREE)?;
     let without_lists = by_columns(alloc)?;
     Ok((
         is_visited(alloc, &with_lists)?,
@@ -183,7 +167,7 @@ fn entries_left_in(model: &Model) -> [usize; 4] {
 
 /// The numbers of `left_in` and `entries_left_in` for the model of the calls.
 fn left(alloc: Global) -> Result<([usize; 4], [usize; 4]), BuildFault> {
-    match model_of(alloc, CALLS)? {
+    match model_of(alloc, TWO_OF_THREE)? {
         Some(model) => Ok((left_in(&model), entries_left_in(&model))),
         None => Ok(([0; 4], [0; 4])),
     }
@@ -211,7 +195,7 @@ fn names_of_integers(alloc: Global, model: &Model) -> Result<Vec<u8>, AllocError
 
 /// Whether the model of the calls has one integer column, which is named b.
 fn has_one_integer(alloc: Global) -> Result<bool, BuildFault> {
-    match model_of(alloc, CALLS)? {
+    match model_of(alloc, TWO_OF_THREE)? {
         Some(model) => Ok(names_of_integers(alloc, &model)?.as_slice() == b"b\n".as_slice()),
         None => Ok(false),
     }

@@ -1,30 +1,15 @@
 //! Tests of models with and without lists by rows.
 
 use super::calls::built;
-use super::{first_absent, views_of};
+use super::{TWO_OF_THREE, first_absent, views_of};
 use mpslp_model_core::Model;
 use mpslp_types::BuildFault;
 use std::alloc::Global;
 use std::test::Fail;
 
-/// A model in which each row has coefficients in two of three columns.
-const CALLS: &str = "\
-objective COST
-row r L
-row s G
-column c
-column b
-column a
-coefficient r c 3
-coefficient COST b 9
-coefficient s b 2
-coefficient r a 1
-coefficient s c 4
-rhs r 5";
-
 /// The model of the calls, without lists by rows.
 fn by_columns(alloc: Global) -> Result<Option<Model>, BuildFault> {
-    let builder = built(alloc, CALLS)?;
+    let builder = built(alloc, TWO_OF_THREE)?;
     if !builder.has_objective() {
         return Ok(None);
     }

@@ -19,13 +19,12 @@ use crate::lp::lines::{
 use mpslp_decimal::Decimal;
 use mpslp_model::{Limit, Model, Sink};
 use mpslp_output::{Output, put_each};
-use mpslp_write_mps::have_same_value;
 
 /// Prints the line of two finite bounds.
 fn put_between<W: Sink>(output: &mut Output<W>, column: &[u8], lower: Decimal, upper: Decimal)
     ensures { Prints line_text W.Sink output.old output.new (lines_between column.now lower upper) }
 {
-    if have_same_value(lower, upper) {
+    if lower.has_same_value(upper) {
         put_fixed_line(output, column, upper);
     } else {
         put_between_line(output, column, lower, upper);

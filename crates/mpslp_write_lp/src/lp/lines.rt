@@ -6,6 +6,7 @@ ghost use Rattle.mpslp_decimal.specs.NumberText.{number_text};
 ghost use Rattle.mpslp_lp_grammar.specs.declared.relations.Relation.TheVariants as relations;
 ghost use Rattle.mpslp_canonical_lp.specs.Printed.{line_text, sign_bytes, word, number, sense, minus_infinity};
 ghost use Rattle.mpslp_canonical_lp.specs.CanonicalLp.{short_line, long_line, label_line, term_line, signed_lexemes, right_line, minus_large};
+ghost use Rattle.mpslp_write_lp.specs.LpLinesAt.{between_line};
 ghost use Rattle.mpslp_output.specs.Printing.{Puts, Prints};
 
 use mpslp_decimal::{Decimal, DecimalText};
@@ -139,7 +140,7 @@ pub(crate) fn put_free_column_line<W: Sink>(output: &mut Output<W>, column: &[u8
 
 /// Prints the line of a column with only an upper bound.
 pub(crate) fn put_upper_bound_line<W: Sink>(output: &mut Output<W>, column: &[u8], upper: Decimal)
-    ensures { Prints line_text W.Sink output.old output.new (short_line (minus_infinity ∷ sense relations.AtMost ∷ word column.now ∷ sense relations.AtMost ∷ number upper ∷ []) ∷ []) }
+    ensures { Prints line_text W.Sink output.old output.new (between_line minus_infinity column.now upper ∷ []) }
 {
     output.put_header();
     output.put(b" -infinity <= ");
@@ -180,7 +181,7 @@ pub(crate) fn put_between_line<W: Sink>(
     lower: Decimal,
     upper: Decimal,
 )
-    ensures { Prints line_text W.Sink output.old output.new (short_line (number lower ∷ sense relations.AtMost ∷ word column.now ∷ sense relations.AtMost ∷ number upper ∷ []) ∷ []) }
+    ensures { Prints line_text W.Sink output.old output.new (between_line (number lower) column.now upper ∷ []) }
 {
     output.put_header();
     output.put(b" ");

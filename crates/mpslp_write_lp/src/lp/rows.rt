@@ -8,7 +8,7 @@ ghost use Rattle.mpslp_canonical_lp.specs.Printed.{line_text};
 ghost use Rattle.mpslp_model_core.specs.Model.{listing_of};
 ghost use Rattle.mpslp_canonical_lp.specs.CanonicalLp.{term_line, row_terms, left_lines, last_line, row_lines, rows_section};
 ghost use Rattle.mpslp_output.specs.LinesAt.{lines_at};
-ghost use Rattle.mpslp_write_lp.specs.LpLinesAt.{IsTerm, AreTerms, AreNamesOf, numbered_term_lines, left_between, last_between};
+ghost use Rattle.mpslp_write_lp.specs.LpLinesAt.{IsTerm, AreTerms, AreNamesOf, term_lines_at, lines_of_terms, left_between, last_between};
 ghost use Rattle.mpslp_output.specs.Printing.{Prints, PrintsSection};
 
 use crate::lp::lines::{
@@ -19,7 +19,6 @@ use mpslp_decimal::Decimal;
 use mpslp_model::laws::each_model_is_sound;
 use mpslp_model::{Limit, Model, Sink};
 use mpslp_output::{Output, put_each};
-use mpslp_write_mps::have_same_value;
 
 /// Prints term `k` of row `i`, whose column has this name.
 fn put_term<W: Sink>(
@@ -33,7 +32,7 @@ fn put_term<W: Sink>(
     requires row { i < num_rows model.now }
     requires term { IsTerm model.now i k term }
     requires name { slice_get (column_names model.now) term.0 ≡ Some name.now }
-    ensures { Prints line_text W.Sink output.old output.new (lines_at (numbered_term_lines model.now (row_name model.now i)) (row_columns model.now (row_name model.now i)) k) }
+    ensures { Prints line_text W.Sink output.old output.new (term_lines_at model.now (row_name model.now i) k) }
 {
     let (_j, value) = term;
     put_term_line(output, name, value);
@@ -97,7 +96,7 @@ fn names_of<'a>(
 /// Prints the terms of row `i`.
 fn put_terms<W: Sink>(model: &Model, i: usize, output: &mut Output<W>)
     requires { i < num_rows model.now }
-    ensures { Prints line_text W.Sink output.old output.new (flat_map (numbered_term_lines model.now (row_name model.now i)) (row_columns model.now (row_name model.now i))) }
+    ensures { Prints line_text W.Sink output.old output.new (lines_of_terms model.now (row_name model.now i)) }
 {
     let mut from = 0;
     let mut terms = terms_from(model, i, from);
@@ -129,7 +128,7 @@ fn put_row_terms<W: Sink>(model: &Model, i: usize, output: &mut Output<W>)
 fn put_left_between<W: Sink>(output: &mut Output<W>, lower: Decimal, upper: Decimal)
     ensures { Prints line_text W.Sink output.old output.new (left_between lower upper) }
 {
-    if !have_same_value(lower, upper) {
+    if !lower.has_same_value(upper) {
         put_left_line(output, lower);
     }
 }
@@ -151,7 +150,7 @@ fn put_left_limit<W: Sink>(output: &mut Output<W>, lower: &Limit, upper: &Limit)
 fn put_last_between<W: Sink>(output: &mut Output<W>, lower: Decimal, upper: Decimal)
     ensures { Prints line_text W.Sink output.old output.new (last_between lower upper) }
 {
-    if have_same_value(lower, upper) {
+    if lower.has_same_value(upper) {
         put_equal_line(output, upper);
     } else {
         put_at_most_line(output, upper);

@@ -5,7 +5,6 @@ ghost use Rattle.std.specs.List.{flat_map};
 ghost use Rattle.std.specs.FinMap.{entries};
 ghost use Rattle.mpslp_model_core.specs.Views.{num_columns};
 ghost use Rattle.mpslp_canonical_mps.specs.CanonicalMps.{line_text, bound_line, column_bound_lines, bounds_section};
-ghost use Rattle.mpslp_decimal.specs.Decimal.{have_same_value};
 ghost use Rattle.mpslp_canonical_mps.specs.PrintedValues.{is_fixed, printed_lower, printed_upper, printed_bounds};
 ghost use Rattle.mpslp_model_core.specs.Model.{listing_of};
 ghost use Rattle.mpslp_output.specs.LinesAt.{lines_at};
@@ -14,7 +13,6 @@ ghost use Rattle.mpslp_output.specs.Printing.{Prints, PrintsSection};
 
 use crate::mps::lines::{put_bare_bound, put_valued_bound};
 use mpslp_decimal::Decimal;
-use mpslp_decimal::laws::each_value_is_a_decimal;
 use mpslp_model::{Kind, Limit, Model, Sink};
 use mpslp_output::{Output, put_each};
 
@@ -72,22 +70,13 @@ fn put_both<W: Sink>(
     put_upper(output, column, kind, upper);
 }
 
-/// Whether the numbers have the same value.
-pub fn have_same_value(a: Decimal, b: Decimal) -> bool
-    ensures { result ≡ have_same_value a b }
-{
-    each_value_is_a_decimal(a);
-    each_value_is_a_decimal(b);
-    a.cmp(&b).is_eq()
-}
-
 /// Whether finite bounds are printed in one line: they have the same value, and the column is not semi-continuous. The upper
 /// bound of a semi-continuous column needs its own line, which gives the type of the column.
 fn is_fixed(kind: Kind, lower: Decimal, upper: Decimal) -> bool
     ensures { result ≡ is_fixed kind lower upper }
 {
     match kind {
-        Kind::Continuous | Kind::Integer => have_same_value(lower, upper),
+        Kind::Continuous | Kind::Integer => lower.has_same_value(upper),
         Kind::Semi => false,
     }
 }

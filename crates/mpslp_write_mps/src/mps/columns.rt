@@ -1,13 +1,12 @@
 //! The section COLUMNS.
 
 ghost use Rattle.std.specs.Prelude.{◌≡◌, ◌+◌, ◌<◌, ◌≤◌, [], ◌∷◌, length};
-ghost use Rattle.std.specs.List.{flat_map};
 ghost use Rattle.std.specs.FinMap.{entries};
 ghost use Rattle.mpslp_model_core.specs.Views.{num_columns, column_name, column_elements};
 ghost use Rattle.mpslp_canonical_mps.specs.CanonicalMps.{line_text, column_lines, columns_section, integer_part};
 ghost use Rattle.mpslp_model_core.specs.Model.{listing_of};
 ghost use Rattle.mpslp_output.specs.LinesAt.{lines_at};
-ghost use Rattle.mpslp_write_mps.specs.MpsLinesAt.{is_wanted, of_part, element_lines, IsRowOf, AreRowsOf, objective_lines};
+ghost use Rattle.mpslp_write_mps.specs.MpsLinesAt.{is_wanted, of_part, lines_of_part, element_lines_at, lines_of_elements, IsRowOf, AreRowsOf, objective_lines};
 ghost use Rattle.mpslp_output.specs.Printing.{Prints, PrintsSection};
 
 use crate::mps::lines::put_value_line;
@@ -29,7 +28,7 @@ enum Part {
 const AHEAD: usize = 8;
 
 /// The name of the row of coefficient `from + n` of column `j`, among its coefficients in rows. Empty if there is none.
-fn row_of(model: &Model, j: usize, from: usize, n: usize) -> &[u8]
+fn row_of_coefficient(model: &Model, j: usize, from: usize, n: usize) -> &[u8]
     requires column { j < num_columns model.now }
     requires within { from ≤ length (column_elements model.now (column_name model.now j)) }
     ensures { from + n < length (column_elements model.now (column_name model.now j)) → IsRowOf model.now j (from + n) result.now }
@@ -48,14 +47,14 @@ fn rows_from(model: &Model, j: usize, from: usize) -> [&[u8]; AHEAD]
     ensures { AreRowsOf model.now j from AHEAD result }
 {
     [
-        row_of(model, j, from, 0),
-        row_of(model, j, from, 1),
-        row_of(model, j, from, 2),
-        row_of(model, j, from, 3),
-        row_of(model, j, from, 4),
-        row_of(model, j, from, 5),
-        row_of(model, j, from, 6),
-        row_of(model, j, from, 7),
+        row_of_coefficient(model, j, from, 0),
+        row_of_coefficient(model, j, from, 1),
+        row_of_coefficient(model, j, from, 2),
+        row_of_coefficient(model, j, from, 3),
+        row_of_coefficient(model, j, from, 4),
+        row_of_coefficient(model, j, from, 5),
+        row_of_coefficient(model, j, from, 6),
+        row_of_coefficient(model, j, from, 7),
     ]
 }
 
@@ -64,7 +63,7 @@ fn put_element<W: Sink>(model: &Model, j: usize, k: usize, row: &[u8], output: &
     requires column { j < num_columns model.now }
     requires element { k < length (column_elements model.now (column_name model.now j)) }
     requires row { IsRowOf model.now j k row.now }
-    ensures { Prints line_text W.Sink output.old output.new (lines_at (element_lines (column_name model.now j)) (column_elements model.now (column_name model.now j)) k) }
+    ensures { Prints line_text W.Sink output.old output.new (element_lines_at model.now (column_name model.now j) k) }
 {
     let (_i, value) = model.entry(j, k);
     put_value_line(output, model.column_name(j).as_bytes(), row, value);
@@ -73,7 +72,7 @@ fn put_element<W: Sink>(model: &Model, j: usize, k: usize, row: &[u8], output: &
 /// Prints the lines of the coefficients of column `j` in rows.
 fn put_elements<W: Sink>(model: &Model, j: usize, output: &mut Output<W>)
     requires { j < num_columns model.now }
-    ensures { Prints line_text W.Sink output.old output.new (flat_map (element_lines (column_name model.now j)) (column_elements model.now (column_name model.now j))) }
+    ensures { Prints line_text W.Sink output.old output.new (lines_of_elements model.now (column_name model.now j)) }
 {
     let mut from = 0;
     let mut rows = rows_from(model, j, from);
@@ -131,7 +130,7 @@ fn put_column_of_part<W: Sink>(model: &Model, j: usize, part: Part, output: &mut
 
 /// Prints the lines of all columns of the part.
 fn put_columns<W: Sink>(model: &Model, part: Part, output: &mut Output<W>)
-    ensures { Prints line_text W.Sink output.old output.new (flat_map (of_part part (column_lines (listing_of model.now))) (entries model.now.columns)) }
+    ensures { Prints line_text W.Sink output.old output.new (lines_of_part model.now part) }
 {
     put_each(model.num_cols(), output, |j, output| {
         put_column_of_part(model, j, part, output)
@@ -140,7 +139,7 @@ fn put_columns<W: Sink>(model: &Model, part: Part, output: &mut Output<W>)
 
 /// Prints the lines of the integer columns between marker lines, or nothing if no column is integer.
 fn put_integer_part<W: Sink>(model: &Model, output: &mut Output<W>)
-    ensures { PrintsSection line_text W.Sink output.old output.new (integer_part (flat_map (of_part Part.Integers (column_lines (listing_of model.now))) (entries model.now.columns))) }
+    ensures { PrintsSection line_text W.Sink output.old output.new (integer_part (lines_of_part model.now Part.Integers)) }
 {
     output.open_section(b"    MARKER  'MARKER'  'INTORG'\n");
     put_columns(model, Part::Integers, output);

@@ -65,7 +65,7 @@ fn rhs_at(model: &Model, i: usize) -> Decimal
 }
 
 /// Prints the line of a right-hand side, unless it is 0.
-fn put_rhs<W: Sink>(output: &mut Output<W>, row: &[u8], value: Decimal)
+fn put_rhs_line<W: Sink>(output: &mut Output<W>, row: &[u8], value: Decimal)
     ensures { Prints line_text W.Sink output.old output.new (rhs_lines row.now value) }
 {
     if !value.is_zero() {
@@ -79,7 +79,7 @@ fn put_row_rhs<W: Sink>(model: &Model, i: usize, output: &mut Output<W>)
     ensures { Prints line_text W.Sink output.old output.new (lines_at row_rhs_lines (entries model.now.rows) i) }
 {
     let side = rhs_at(model, i);
-    put_rhs(output, model.row_name_bytes(i), side);
+    put_rhs_line(output, model.row_name_bytes(i), side);
 }
 
 /// Prints the right-hand sides of all rows.
@@ -98,13 +98,13 @@ pub(crate) fn put_rhs_section<W: Sink>(model: &Model, output: &mut Output<W>)
 {
     output.open_section(b"RHS\n");
     let objective = model.objective_name().as_bytes();
-    put_rhs(output, objective, model.objective_offset());
+    put_rhs_line(output, objective, model.objective_offset());
     put_all_rhs(model, output);
     output.close_section();
 }
 
 /// Prints the range of row `i`, unless it is 0.
-fn put_range<W: Sink>(model: &Model, i: usize, output: &mut Output<W>)
+fn put_range_line<W: Sink>(model: &Model, i: usize, output: &mut Output<W>)
     requires { i < num_rows model.now }
     ensures { Prints line_text W.Sink output.old output.new (lines_at range_lines (entries model.now.rows) i) }
 {
@@ -119,7 +119,7 @@ fn put_ranges<W: Sink>(model: &Model, output: &mut Output<W>)
     ensures { Prints line_text W.Sink output.old output.new (flat_map range_lines (entries model.now.rows)) }
 {
     put_each(model.num_rows(), output, |i, output| {
-        put_range(model, i, output)
+        put_range_line(model, i, output)
     });
 }
 

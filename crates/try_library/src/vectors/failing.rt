@@ -79,19 +79,23 @@ fn reports_written(answer: &Result<(), RunFault>, len: usize) -> bool {
     matches!(answer, Err(RunFault::Write { written }) if *written == len as u64)
 }
 
+/// The result of a run of the text of an entry into this sink.
+fn run_into(
+    alloc: Global,
+    entry: &Entry,
+    to: FileFormat,
+    sink: &mut FailingWriter,
+) -> Result<(), RunFault> {
+    let mut source = whole(&entry.text);
+    run_in(alloc, MUCH, entry.format, to, &mut source, sink)
+}
+
 /// Whether a run reports how many bytes its sink took before it failed.
 fn run_is_cut(alloc: Global, entry: &Entry, to: FileFormat, take: usize) -> bool {
     let Ok(mut sink) = FailingWriter::new(alloc, take) else {
         return false;
     };
-    let answer = run_in(
-        alloc,
-        MUCH,
-        entry.format,
-        to,
-        &mut whole(&entry.text),
-        &mut sink,
-    );
+    let answer = run_into(alloc, entry, to, &mut sink);
     let text = entry.answer_in(to).text.as_slice();
     reports_written(&answer, take) && text.starts_with(sink.bytes()) && sink.bytes().len() == take
 }
@@ -102,14 +106,7 @@ fn run_is_whole(alloc: Global, entry: &Entry, to: FileFormat) -> bool {
     let Ok(mut sink) = FailingWriter::new(alloc, text.len().saturating_add(1)) else {
         return false;
     };
-    let answer = run_in(
-        alloc,
-        MUCH,
-        entry.format,
-        to,
-        &mut whole(&entry.text),
-        &mut sink,
-    );
+    let answer = run_into(alloc, entry, to, &mut sink);
     matches!(&answer, Ok(())) && sink.bytes() == text
 }
 

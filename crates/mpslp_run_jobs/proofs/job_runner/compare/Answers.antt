@@ -13,4 +13,4 @@ pub returns-clause-answer : goal.returns-clause-answer
 returns-clause-answer g c =
     let one = c.in-Ok.ensures.answer in
     let other = c.in-Ok-read_text.ensures.answer in
-    (Ok one.0, one.1, (Ok other.0, other.1, (c.same_of.result, c.same_of.ensures one.0.items other.0.items one.2 other.2, c.say.ensures.answer)))
+    (Ok one.0, one.1, (Ok other.0, other.1, (c.same_of.result, c.same_of.ensures one.0.items other.0.items one.2 other.2, c.print_comparison.ensures.answer)))

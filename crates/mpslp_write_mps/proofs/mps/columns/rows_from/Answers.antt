@@ -10,14 +10,14 @@ returns c = by
     by : (n : ℕ) (default : Bor (List ℕ)) → n < 8 → c.args.from + n < length (column_elements c.args.model.now (column_name c.args.model.now c.args.j))
         → IsRowOf c.args.model.now c.args.j (c.args.from + n)
         (slice_index_or
-        (c.row_of.result ∷ c.row_of-2.result ∷ c.row_of-3.result ∷ c.row_of-4.result ∷ c.row_of-5.result ∷ c.row_of-6.result ∷ c.row_of-7.result ∷ c.row_of-8.result ∷ [])
+        (c.row_of_coefficient.result ∷ c.row_of_coefficient-2.result ∷ c.row_of_coefficient-3.result ∷ c.row_of_coefficient-4.result ∷ c.row_of_coefficient-5.result ∷ c.row_of_coefficient-6.result ∷ c.row_of_coefficient-7.result ∷ c.row_of_coefficient-8.result ∷ [])
         n default).now
-    by zero default below within = c.row_of.ensures within
-    by (suc zero) default below within = c.row_of-2.ensures within
-    by (suc (suc zero)) default below within = c.row_of-3.ensures within
-    by (suc (suc (suc zero))) default below within = c.row_of-4.ensures within
-    by (suc (suc (suc (suc zero)))) default below within = c.row_of-5.ensures within
-    by (suc (suc (suc (suc (suc zero))))) default below within = c.row_of-6.ensures within
-    by (suc (suc (suc (suc (suc (suc zero)))))) default below within = c.row_of-7.ensures within
-    by (suc (suc (suc (suc (suc (suc (suc zero))))))) default below within = c.row_of-8.ensures within
+    by zero default below within = c.row_of_coefficient.ensures within
+    by (suc zero) default below within = c.row_of_coefficient-2.ensures within
+    by (suc (suc zero)) default below within = c.row_of_coefficient-3.ensures within
+    by (suc (suc (suc zero))) default below within = c.row_of_coefficient-4.ensures within
+    by (suc (suc (suc (suc zero)))) default below within = c.row_of_coefficient-5.ensures within
+    by (suc (suc (suc (suc (suc zero))))) default below within = c.row_of_coefficient-6.ensures within
+    by (suc (suc (suc (suc (suc (suc zero)))))) default below within = c.row_of_coefficient-7.ensures within
+    by (suc (suc (suc (suc (suc (suc (suc zero))))))) default below within = c.row_of_coefficient-8.ensures within
     by (suc (suc (suc (suc (suc (suc (suc (suc n)))))))) default below within = absurd (omega (arith, below))

@@ -13,7 +13,7 @@ use Rattle.mpslp_lp_grammar.specs.declared.states.Place.TheVariants.{InObjective
 use Rattle.mpslp_lp_grammar.specs.declared.states.State.TheVariants.{Between}
 use Rattle.mpslp_lp_grammar.proofs.NumberFaults.{tested-number}
 use Rattle.mpslp_lp.proofs.PlainTerms.{plain-goes, plain-refused, plain-number, in-objective}
-use Rattle.mpslp_lp.proofs.plain_terms.take_objective_term.Goals as goal
+use Rattle.mpslp_lp.proofs.plain_terms.take_plain_objective_term.Goals as goal
 
 pub returns-in-Err : goal.returns-in-Err
 returns-in-Err c = λ found p.

@@ -1,4 +1,4 @@
-use Rattle.mpslp_run_jobs.proofs.job_runner.say.Goals as goal
+use Rattle.mpslp_run_jobs.proofs.job_runner.print_comparison.Goals as goal
 
 pub returns-in-Ok-false-clause-answer : goal.returns-in-Ok-false-clause-answer
 returns-in-Ok-false-clause-answer g c =

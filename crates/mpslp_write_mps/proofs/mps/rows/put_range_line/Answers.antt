@@ -2,7 +2,7 @@ use Rattle.std.proofs.Common.{sym}
 use Rattle.std.specs.FinMap.{entries}
 use Rattle.mpslp_write_mps.proofs.RowLines.{range-put, range-left}
 use Rattle.mpslp_output.proofs.OutputLemmas.{prints_same, prints_nothing}
-use Rattle.mpslp_write_mps.proofs.mps.rows.put_range.Goals as goal
+use Rattle.mpslp_write_mps.proofs.mps.rows.put_range_line.Goals as goal
 
 pub returns-then-not-is_zero : goal.returns-then-not-is_zero
 returns-then-not-is_zero g c =

@@ -5,7 +5,7 @@ use Rattle.mpslp_decimal.specs.Decimal.{Number}
 use Rattle.mpslp_model_core.specs.Model.{CoefficientKey}
 use Rattle.mpslp_model_core.specs.Views.{column_name, column_elements}
 use Rattle.mpslp_write_mps.proofs.ColumnLemmas.{element-seen, row-within, row-named}
-use Rattle.mpslp_write_mps.proofs.mps.columns.row_of.Goals as goal
+use Rattle.mpslp_write_mps.proofs.mps.columns.row_of_coefficient.Goals as goal
 
 pub row_name_bytes-requires : goal.row_name_bytes-requires
 row_name_bytes-requires c =

@@ -2,7 +2,7 @@ use Rattle.mpslp_lp_grammar.specs.declared.states.Place.TheVariants.{BetweenRows
 use Rattle.mpslp_lp_grammar.specs.declared.states.SideOwner.TheVariants.{SideOfRow}
 use Rattle.mpslp_lp_grammar.specs.declared.states.State.TheVariants.{Between}
 use Rattle.mpslp_lp.proofs.PlainPhrases.{phrase-goes, phrase-refused, right-last, row-compared}
-use Rattle.mpslp_lp.proofs.plain_rows.end_row.Goals as goal
+use Rattle.mpslp_lp.proofs.plain_rows.end_plain_row.Goals as goal
 
 pub returns-in-Ok : goal.returns-in-Ok
 returns-in-Ok c = λ found begins.
