@@ -1,30 +1,20 @@
 -- The lists of columns by rows, and the model.
-use Rattle.std.proofs.Common.{◌≡◌, refl, sym, ap, subst, ◌∙◌, ℕ, zero, suc, ◌+◌, ◌-◌, ◌<◌, ◌≤◌, List, [], ◌∷◌, ◌++◌, length, map, Bool, true, false, cond, arith}
-use Rattle.std.specs.Prelude.{IfSome, Option, Some, None, is_some, filter, slice_get, unwrap_or}
-use Rattle.std.specs.List.{All, list_all, range_with_len}
-use Rattle.std.specs.Option.{option_map, option_map_or}
-use Rattle.std.specs.Ordering.{nat_cmp}
-use Rattle.std.specs.FinMap.{find, is_sorted}
-use Rattle.std.proofs.lemmas.List.{append-nil, map-id, length-map}
-use Rattle.std.proofs.lemmas.Option.{same_Some, slice_get-map, slice_get_within, get_or_from_slice_get}
-use Rattle.std.proofs.lemmas.List.FromFn.{length-range_with_len, get_or-range_with_len, map-range_with_len_more}
-use Rattle.std.proofs.lemmas.List.Elements.{All-from_get_or, filter-append}
+use Rattle.std.proofs.Common.{◌≡◌, refl, sym, ap, subst, ◌∙◌, ℕ, zero, suc, ◌+◌, ◌-◌, ◌<◌, ◌≤◌, List, [], ◌∷◌, ◌++◌, length, map, Bool}
+use Rattle.std.proofs.{Common.{true, false, cond, arith}, lemmas.{List.{append-nil, map-id, length-map}, Option.same_Some}}
+use Rattle.std.proofs.lemmas.{Option.{slice_get-map, slice_get_within, get_or_from_slice_get}, List.FromFn.length-range_with_len}
+use Rattle.std.proofs.lemmas.List.{FromFn.{get_or-range_with_len, map-range_with_len_more}, Elements.{All-from_get_or, filter-append}}
+use Rattle.std.specs.{Prelude.{IfSome, Option, Some, None, is_some, filter, slice_get, unwrap_or}, List.{All, list_all, range_with_len}}
+use Rattle.std.specs.{Option.{option_map, option_map_or}, Ordering.nat_cmp, FinMap.{find, is_sorted}, Cmp.{first_so, second_so}}
+use Rattle.std.specs.Cmp.{nat_cmp_total}
 use Rattle.mpslp_decimal.specs.Decimal.{Number, zero_number}
-use Rattle.mpslp_model_core.specs.Model.{LinearModel}
-use Rattle.mpslp_model_core.specs.Views.{num_rows, num_columns, row_name, column_name, has_coefficient, row_columns, coefficient_at}
-use Rattle.std.specs.Cmp.{first_so, second_so, nat_cmp_total}
-use Rattle.mpslp_model_core.specs.Numbered.{name_of}
-use Rattle.mpslp_model_core.specs.ModelParts.{linear_model, AreModelParts, cells_in, cells_by_name, name_of_row_key}
-use Rattle.mpslp_model_core.specs.ByRow.{list_at, column_if, has_number, cells_of, columns_with, IsPlaced, AreByRow, AreIndexed, AreListed}
-use Rattle.mpslp_model_core.specs.declared.by_row.RowElement.{RowElement}
-use Rattle.mpslp_model_core.specs.declared.by_row.RowLists.{RowLists}
-use Rattle.mpslp_model_core.specs.declared.model.ModelColumn.{ModelColumn}
-use Rattle.mpslp_model_core.specs.declared.model.ModelParts.{ModelParts}
-use Rattle.mpslp_model_core.specs.declared.row_names.RowNames.{RowNames}
-use Rattle.mpslp_model_core.proofs.CellLemmas.{number_same}
-use Rattle.mpslp_model_core.proofs.OnceLemmas.{once-sorted}
-use Rattle.mpslp_model_core.proofs.NumberLemmas.{slice_get-part, all_at, found_by}
-use Rattle.mpslp_model_core.proofs.ViewLemmas.{rows_seen, count_seen, count_columns, row_numbered, cells_seen, cells_here, found_seen, value_seen}
+use Rattle.mpslp_model_core.specs.{Model.LinearModel, Views.{num_rows, num_columns, row_name, column_name, has_coefficient, row_columns}}
+use Rattle.mpslp_model_core.specs.{Views.coefficient_at, Numbered.name_of, ModelParts.{linear_model, AreModelParts, cells_in}}
+use Rattle.mpslp_model_core.specs.{ModelParts.{cells_by_name, name_of_row_key}, ByRow.{list_at, column_if, has_number, cells_of}}
+use Rattle.mpslp_model_core.specs.{ByRow.{columns_with, IsPlaced, AreByRow, AreIndexed, AreListed}, declared.by_row.RowElement.RowElement}
+use Rattle.mpslp_model_core.specs.declared.{by_row.RowLists.RowLists, model.{ModelColumn.ModelColumn, ModelParts.ModelParts}}
+use Rattle.mpslp_model_core.{specs.declared.row_names.RowNames.RowNames, proofs.{CellLemmas.number_same, OnceLemmas.once-sorted}}
+use Rattle.mpslp_model_core.proofs.{NumberLemmas.{slice_get-part, all_at, found_by}, ViewLemmas.{rows_seen, count_seen, count_columns}}
+use Rattle.mpslp_model_core.proofs.ViewLemmas.{row_numbered, cells_seen, cells_here, found_seen, value_seen}
 
 -- ---- column by column
 

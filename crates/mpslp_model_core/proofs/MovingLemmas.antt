@@ -1,19 +1,15 @@
 -- Coefficients with the final numbers of their rows.
-use Rattle.std.proofs.Common.{◌≡◌, refl, sym, ap, subst, ◌∙◌, ℕ, zero, suc, ◌<◌, List, [], ◌∷◌, true, false, cond, map, not, arith, IsPermutation}
-use Rattle.std.specs.Prelude.{Option, Some, None, filter}
-use Rattle.std.specs.Cmp.{nat_cmp_total, both_ways}
-use Rattle.std.specs.Ordering.{nat_cmp, is_lt, eq_by_cmp}
-use Rattle.std.specs.List.{All}
-use Rattle.std.specs.FinMap.{find, is_sorted, nat_cmp-IsAntisymmetric}
-use Rattle.std.proofs.lemmas.List.Sorted.{IsPermutation-sym, IsPermutation-trans, IsPermutation-map, All-permutation}
-use Rattle.mpslp_decimal.specs.Decimal.{Number, is_zero}
-use Rattle.mpslp_types.proofs.BoolLemmas.{T_from, true_from}
+use Rattle.std.proofs.Common.{◌≡◌, refl, sym, ap, subst, ◌∙◌, ℕ, zero, suc, ◌<◌, List, [], ◌∷◌, true, false, cond, map, not, arith}
+use Rattle.std.proofs.{Common.IsPermutation, lemmas.List.Sorted.{IsPermutation-sym, IsPermutation-trans, IsPermutation-map}}
+use Rattle.std.{proofs.lemmas.List.Sorted.All-permutation, specs.{Prelude.{Option, Some, None, filter}, Cmp.{nat_cmp_total, both_ways}}}
+use Rattle.std.specs.{Ordering.{nat_cmp, is_lt, eq_by_cmp}, List.All, FinMap.{find, is_sorted, nat_cmp-IsAntisymmetric}}
 use Rattle.std.specs.Option.{option_and_then}
-use Rattle.mpslp_types.proofs.EachLemmas.{Each, Each-filter, Each-weaker}
-use Rattle.mpslp_model_core.specs.Numbered.{sorted_of, is_kept, IsOnceBy}
-use Rattle.mpslp_model_core.proofs.CellLemmas.{number_same, number_tied}
+use Rattle.mpslp_decimal.specs.Decimal.{Number, is_zero}
+use Rattle.mpslp_types.proofs.{BoolLemmas.{T_from, true_from}, EachLemmas.{Each, Each-filter, Each-weaker}}
+use Rattle.mpslp_model_core.{specs.Numbered.{sorted_of, is_kept, IsOnceBy}, proofs.CellLemmas.{number_same, number_tied}}
 use Rattle.mpslp_model_core.proofs.SortedLemmas.{sorted_of-alike, sorted_of-sorted, find-sorted_of, is_sorted-sorted_of}
-use Rattle.mpslp_model_core.proofs.OnceLemmas.{NeverFalls, find-filter, once-sorted, is_sorted-filter, filter-permutation, once-filter, once-permutation, find-permutation, sorted_of-permutation, permuted-is_map}
+use Rattle.mpslp_model_core.proofs.OnceLemmas.{NeverFalls, find-filter, once-sorted, is_sorted-filter, filter-permutation, once-filter}
+use Rattle.mpslp_model_core.proofs.OnceLemmas.{once-permutation, find-permutation, sorted_of-permutation, permuted-is_map}
 
 -- a property at each index is one of each item
 pub each-from_all : {X : Type 0} (P : X → Type 0) (xs : List X) → All P xs → Each P xs

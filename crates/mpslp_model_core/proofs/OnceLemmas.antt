@@ -1,25 +1,15 @@
 -- Entries with distinct keys: what is found does not depend on their order.
-use Rattle.std.proofs.Common.{◌≡◌, refl, sym, ap, subst, ◌∙◌, ℕ, zero, suc, ◌<◌, ◌≤◌, List, [], ◌∷◌, ◌++◌, length, get_or, Bool, true, false, cond, arith, IsPermutation}
-use Rattle.std.specs.Prelude.{Option, Some, None, is_some, filter, map}
-use Rattle.std.specs.Map.{lookup}
-use Rattle.std.specs.Option.{option_and_then}
-use Rattle.std.specs.Ordering.{is_eq, is_lt, eq_by_cmp, ordering_reverse}
-use Rattle.std.specs.Cmp.{IsTotalOrder, eq_by_cmp_equiv, first_so, second_so, tied_itself}
-use Rattle.std.specs.declared.cmp.Ordering.{Ordering}
-use Rattle.std.specs.declared.cmp.Ordering.TheVariants.{Less, Equal, Greater}
-use Rattle.std.specs.FinMap.{find, put, is_sorted}
-use Rattle.std.specs.FinMap.Entries.{below_all, by_order, find_tied}
-use Rattle.std.specs.List.{AllByRecursion}
-use Rattle.std.specs.List.Sorted.{IsSortedBy, IsStrictlySortedBy}
-use Rattle.std.proofs.lemmas.List.Sorted.{IsPermutation-refl, IsPermutation-cons, IsPermutation-trans, IsPermutation-swap, IsPermutation-append_left, sorted_far, ranks_by}
-use Rattle.mpslp_types.proofs.BoolLemmas.{both_so, T_from}
-use Rattle.mpslp_types.proofs.EachLemmas.{Each}
-use Rattle.mpslp_model_core.specs.Numbered.{sorted_of, IsOnceBy}
-use Rattle.mpslp_model_core.proofs.PutsLemmas.{equal_from}
-use Rattle.mpslp_model_core.proofs.SortedLemmas.{find-sorted_of, sorted_of-alike, sorted_of-sorted}
-use Rattle.mpslp_model_core.proofs.CellLemmas.{swapped, or_else, find-two, first_none, clear}
-use Rattle.mpslp_model_core.proofs.RunLemmas.{lookup_is_find, absent_first}
-use Rattle.mpslp_model_core.proofs.PermutationLemmas.{along_permutation}
+use Rattle.std.proofs.Common.{◌≡◌, refl, sym, ap, subst, ◌∙◌, ℕ, zero, suc, ◌<◌, ◌≤◌, List, [], ◌∷◌, ◌++◌, length, get_or, Bool, true}
+use Rattle.std.proofs.{Common.{false, cond, arith, IsPermutation}, lemmas.List.Sorted.{IsPermutation-refl, IsPermutation-cons}}
+use Rattle.std.proofs.lemmas.List.Sorted.{IsPermutation-trans, IsPermutation-swap, IsPermutation-append_left, sorted_far, ranks_by}
+use Rattle.std.specs.{Prelude.{Option, Some, None, is_some, filter, map}, Map.lookup, Option.option_and_then, Ordering.{is_eq, is_lt}}
+use Rattle.std.specs.{Ordering.{eq_by_cmp, ordering_reverse}, Cmp.{IsTotalOrder, eq_by_cmp_equiv, first_so, second_so, tied_itself}}
+use Rattle.std.specs.{declared.cmp.Ordering.{Ordering, TheVariants.{Less, Equal, Greater}}, FinMap.{find, put, is_sorted}}
+use Rattle.std.specs.{FinMap.Entries.{below_all, by_order, find_tied}, List.{AllByRecursion, Sorted.{IsSortedBy, IsStrictlySortedBy}}}
+use Rattle.mpslp_types.proofs.{BoolLemmas.{both_so, T_from}, EachLemmas.Each}
+use Rattle.mpslp_model_core.{specs.Numbered.{sorted_of, IsOnceBy}, proofs.{PutsLemmas.equal_from, SortedLemmas.find-sorted_of}}
+use Rattle.mpslp_model_core.proofs.{SortedLemmas.{sorted_of-alike, sorted_of-sorted}, CellLemmas.{swapped, or_else, find-two, first_none}}
+use Rattle.mpslp_model_core.proofs.{CellLemmas.clear, RunLemmas.{lookup_is_find, absent_first}, PermutationLemmas.along_permutation}
 
 pub passed : {X : Type 0} (b : Bool) (v : X) (o : Option X) → cond b (Some v) o ≡ None → (b ≡ false) × (o ≡ None)
 passed true v o h = cc

@@ -1,34 +1,23 @@
 -- Entries put one after another, in any order and any number of times.
-use Rattle.std.proofs.Common.{◌≡◌, refl, sym, ap, ◌∙◌, List, [], ◌∷◌, ◌++◌, Bool, true, false, cond}
-use Rattle.std.specs.Prelude.{Option, Some, None, is_some, ◌&&◌}
-use Rattle.std.specs.Ordering.{is_eq, is_lt, eq_by_cmp}
-use Rattle.std.specs.Cmp.{IsTotalOrder, tied_itself, first_so, second_so}
-use Rattle.std.specs.declared.cmp.Ordering.{Ordering}
-use Rattle.std.specs.declared.cmp.Ordering.TheVariants.{Less, Equal, Greater}
-use Rattle.std.specs.FinMap.{find, put, is_sorted}
-use Rattle.std.specs.FinMap.Entries.{find-put, same_entries, is_sorted-put, below_all}
-use Rattle.std.proofs.Math.Dec.{T}
-use Rattle.mpslp_types.proofs.BoolLemmas.{true_from, T_from}
-use Rattle.mpslp_types.proofs.EachLemmas.{Each}
+use Rattle.std.proofs.{Common.{arith, ◌≡◌, refl, sym, ap, ◌∙◌, List, [], ◌∷◌, ◌++◌, Bool, true, false, cond}, Math.Dec.T}
+use Rattle.std.specs.{Prelude.{Option, Some, None, is_some, ◌&&◌}, Ordering.{is_eq, is_lt, eq_by_cmp}, Cmp.{IsTotalOrder, first_so}}
+use Rattle.std.specs.{Cmp.second_so, declared.cmp.Ordering.{Ordering, TheVariants.Equal}, FinMap.{find, put, is_sorted, Entries.find-put}}
+use Rattle.std.specs.FinMap.Entries.{same_entries, is_sorted-put, below_all}
+use Rattle.mpslp_types.proofs.{BoolLemmas.{true_from, T_from}, EachLemmas.Each}
 
 -- equality, by its test
 pub equal_from : (r : Ordering) → is_eq r ≡ true → r ≡ Equal
-equal_from Less h = cc
-equal_from Equal h = refl
-equal_from Greater h = cc
+equal_from = grind arith
 
 none_is : false ≡ true → ⊥
 none_is e = cc
 
 module _ {K : Type 0} (R : K → K → Ordering) (o : IsTotalOrder R) (same : (x y : K) → R x y ≡ Equal → x ≡ y) where
   tied : (k : K) → eq_by_cmp R k k ≡ true
-  tied k = ap is_eq (tied_itself o k)
+  tied = grind arith
 
   apart : (k q : K) (r : Ordering) → R k q ≡ r → is_lt r ≡ true → eq_by_cmp R q k ≡ true → ⊥
-  apart k q r e below tie =
-      let s : q ≡ k = same q k (equal_from (R q k) tie) in
-      let z : R k q ≡ Equal = ap (R k) s ∙ tied_itself o k in
-      let w : is_lt Equal ≡ true = ap is_lt (sym z ∙ e) ∙ below in cc
+  apart = grind arith
 
 module _ {K X : Type 0} (R : K → K → Ordering) where
   -- entries put one after another

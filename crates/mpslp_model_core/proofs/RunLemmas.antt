@@ -1,47 +1,36 @@
 -- A map in two parts.
-use Rattle.std.proofs.Common.{◌≡◌, refl, sym, ap, ◌∙◌, List, [], ◌∷◌, ◌++◌, Bool, true, false, cond}
-use Rattle.std.specs.Prelude.{Option, Some, None, is_some, ◌||◌}
-use Rattle.std.specs.Ordering.{is_eq, eq_by_cmp}
-use Rattle.std.specs.Cmp.{IsTotalOrder, eq_by_cmp_equiv}
-use Rattle.std.specs.declared.cmp.Ordering.{Ordering}
-use Rattle.std.specs.declared.cmp.Ordering.TheVariants.{Equal}
-use Rattle.std.specs.FinMap.{find, put}
-use Rattle.std.specs.FinMap.Entries.{find-put, find_tied}
-use Rattle.std.specs.Map.{lookup}
-use Rattle.mpslp_model_core.specs.Numbered.{sorted_of}
-use Rattle.mpslp_model_core.proofs.PutsLemmas.{equal_from}
-use Rattle.mpslp_model_core.proofs.SortedLemmas.{find-sorted_of, sorted_of-put}
+use Rattle.std.{proofs.Common.{arith, rules, ◌≡◌, refl, sym, ap, ◌∙◌, List, [], ◌∷◌, ◌++◌, Bool, true, false, cond}, specs.Prelude.Option}
+use Rattle.std.specs.{Prelude.{Some, None, is_some, ◌||◌}, Ordering.{is_eq, eq_by_cmp}, Cmp.{IsTotalOrder, eq_by_cmp_equiv}}
+use Rattle.std.specs.{declared.cmp.Ordering.{Ordering, TheVariants.Equal}, FinMap.{find, put, Entries.{find-put, find_tied}}, Map.lookup}
+use Rattle.mpslp_model_core.{specs.Numbered.sorted_of, proofs.{PutsLemmas.equal_from, SortedLemmas.{find-sorted_of, sorted_of-put}}}
 use Rattle.mpslp_model_core.proofs.CellLemmas.{or_else, find-two, first_none}
 
 some_of : {A : Type 0} (a b : Option A) → is_some (or_else a b) ≡ (is_some a || is_some b)
-some_of None b = refl
-some_of (Some x) b = refl
+some_of = grind arith
 
 pub or_left : (a b r : Bool) → r ≡ a → r ≡ true → r ≡ (a || b)
-or_left true b r e h = h
-or_left false b r e h = cc
+or_left = grind arith
 
 pub or_right : (a b r : Bool) → false ≡ a → r ≡ b → r ≡ (a || b)
-or_right true b r h e = cc
-or_right false b r h e = e
+or_right = grind arith
 
 pub lookup_is_find : {K X : Type 0} (R : K → K → Ordering) (q : K) (es : List (K × X)) → lookup (λ k. is_eq (R q k)) es ≡ find R q es
 lookup_is_find R q [] = refl
-lookup_is_find R q (e ∷ es) = ap (cond (is_eq (R q e.0)) (Some e.1)) (lookup_is_find R q es)
+lookup_is_find R q (e ∷ es) = grind (arith, lookup_is_find R q es)
 
 module _ {K X : Type 0} (R : K → K → Ordering) (o : IsTotalOrder R) where
   of_two : (q : K) (xs ys : List (K × X)) → find R q (sorted_of R (xs ++ ys)) ≡ or_else (find R q xs) (find R q ys)
-  of_two q xs ys = find-sorted_of R o q (xs ++ ys) ∙ find-two R q xs ys
+  of_two = grind (arith, find-sorted_of, find-two)
 
   -- what is in one of the parts is in the map
   pub has_two : (q : K) (xs ys : List (K × X)) → is_some (find R q (sorted_of R (xs ++ ys))) ≡ (is_some (find R q xs) || is_some (find R q ys))
-  has_two q xs ys = ap is_some (of_two q xs ys) ∙ some_of (find R q xs) (find R q ys)
+  has_two = grind (arith, of_two, some_of)
 
   none_of_two : (q : K) (xs ys : List (K × X)) → find R q (sorted_of R (xs ++ ys)) ≡ None → or_else (find R q xs) (find R q ys) ≡ None
-  none_of_two q xs ys h = sym (of_two q xs ys) ∙ h
+  none_of_two = grind (arith, of_two)
 
   pub absent_first : (q : K) (xs ys : List (K × X)) → find R q (sorted_of R (xs ++ ys)) ≡ None → find R q xs ≡ None
-  absent_first q xs ys h = first_none (find R q xs) (find R q ys) (none_of_two q xs ys h)
+  absent_first q xs ys h = search (rules, first_none, none_of_two)
 
   module _ (same : (x y : K) → R x y ≡ Equal → x ≡ y) where
     -- an entry that is put into the first part

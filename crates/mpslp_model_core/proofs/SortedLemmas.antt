@@ -1,13 +1,7 @@
 -- Entries in any order, and the sorted map of them.
-use Rattle.std.proofs.Common.{◌≡◌, refl, sym, ap, ◌∙◌, List, [], ◌∷◌, ◌++◌, cond}
-use Rattle.std.specs.Prelude.{Some, None}
-use Rattle.std.specs.Ordering.{eq_by_cmp}
-use Rattle.std.specs.Cmp.{IsTotalOrder}
-use Rattle.std.specs.declared.cmp.Ordering.{Ordering}
-use Rattle.std.specs.declared.cmp.Ordering.TheVariants.{Equal}
-use Rattle.std.specs.FinMap.{find, put, is_sorted}
-use Rattle.std.specs.FinMap.Entries.{find-put, same_entries, is_sorted-put, find-append}
-use Rattle.std.proofs.Math.Dec.{T}
+use Rattle.std.{proofs.{Common.{◌≡◌, refl, sym, ap, ◌∙◌, List, [], ◌∷◌, ◌++◌, cond}, Math.Dec.T}, specs.Prelude.{Some, None}}
+use Rattle.std.specs.{Ordering.eq_by_cmp, Cmp.IsTotalOrder, declared.cmp.Ordering.{Ordering, TheVariants.Equal}, FinMap.{find, put}}
+use Rattle.std.specs.FinMap.{is_sorted, Entries.{find-put, same_entries, is_sorted-put, find-append}}
 use Rattle.mpslp_model_core.specs.Numbered.{sorted_of}
 
 module _ {K X : Type 0} (R : K → K → Ordering) (o : IsTotalOrder R) where
