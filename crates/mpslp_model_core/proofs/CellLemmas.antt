@@ -70,11 +70,7 @@ module _ (name : ℕ → Option (List ℕ)) (apart : IsInjective name) where
   -- what is found at a row of the column is the value at its number
   pub find-column_cells : (n : ℕ) (r c : List ℕ) (es : List (ℕ × Number)) → name n ≡ Some r → find key_cmp (at r c) (column_cells name c es) ≡ find nat_cmp n es
   find-column_cells n r c [] p = refl
-  find-column_cells n r c (e ∷ es) p =
-      elim (name e.0) as (λ o. name e.0 ≡ o → find key_cmp (at r c) (option_map_or (λ row. (at row c, e.1) ∷ column_cells name c es) o (column_cells name c es)) ≡ cond (eq_by_cmp nat_cmp n e.0) (Some e.1) (find nat_cmp n es)) [
-        | None ↦ λ q. find-column_cells n r c es p ∙ ap (λ (b : Bool). cond b (Some e.1) (find nat_cmp n es)) (sym (not_named n e.0 r p q))
-        | Some s ↦ λ q. λ i. cond ((in_column r s c ∙ same_row n e.0 r s p q) i) (Some e.1) (find-column_cells n r c es p i)
-      ] refl
+  find-column_cells n r c (e ∷ es) p = grind (arith, find-column_cells n r c es p, not_named, in_column, same_row)
 
   -- nothing is found in another column
   pub find-other_column : (q : CoefficientKey) (c : List ℕ) (es : List (ℕ × Number)) → eq_by_cmp bytes_cmp q.column c ≡ false → find key_cmp q (column_cells name c es) ≡ None
@@ -118,16 +114,12 @@ module _ (name : ℕ → Option (List ℕ)) (apart : IsInjective name) where
       → find key_cmp (at r c) (all_cells name cols) ≡ option_and_then (find nat_cmp n) (find bytes_cmp c cols)
   find-all_cells n r c [] p once = refl
   find-all_cells n r c (col ∷ cols) p once =
-      find-two key_cmp (at r c) (column_cells name col.0 col.1) (all_cells name cols)
-      ∙ elim (eq_by_cmp bytes_cmp c col.0) as (λ b. eq_by_cmp bytes_cmp c col.0 ≡ b → or_else (find key_cmp (at r c) (column_cells name col.0 col.1)) (find key_cmp (at r c) (all_cells name cols)) ≡ option_and_then (find nat_cmp n) (cond b (Some col.1) (find bytes_cmp c cols))) [
-        | true ↦ λ tie.
-            let same : c ≡ col.0 = name_same c col.0 tie in
-            let later : find bytes_cmp c cols ≡ None = ap (λ (x : List ℕ). find bytes_cmp x cols) same ∙ once.0 in
-            let rest : find key_cmp (at r c) (all_cells name cols) ≡ None = find-all_cells n r c cols p once.1 ∙ ap (option_and_then (find nat_cmp n)) later in
-            let own : find key_cmp (at r c) (column_cells name col.0 col.1) ≡ find nat_cmp n col.1 =
-            ap (λ (x : List ℕ). find key_cmp (at r c) (column_cells name x col.1)) (sym same) ∙ find-column_cells n r c col.1 p in
-            ap (or_else (find key_cmp (at r c) (column_cells name col.0 col.1))) rest ∙ or_none (find key_cmp (at r c) (column_cells name col.0 col.1)) ∙ own
-        | false ↦ λ differ.
-            ap (λ (o : Option Number). or_else o (find key_cmp (at r c) (all_cells name cols))) (find-other_column (at r c) col.0 col.1 differ)
-            ∙ find-all_cells n r c cols p once.1
-      ] refl
+      grind (
+        arith,
+        find-all_cells n r c cols p once.1,
+        find-two key_cmp (at r c) (column_cells name col.0 col.1) (all_cells name cols),
+        name_same c col.0,
+        find-column_cells n r c col.1 p,
+        or_none (find key_cmp (at r c) (column_cells name col.0 col.1)),
+        find-other_column (at r c) col.0 col.1,
+      )

@@ -12,7 +12,7 @@ is_below = grind arith
 pub all_above : (n : ℕ) (es : List (ℕ × Number)) → below_all nat_cmp n es ≡ true → row_cells es ≡ es
 all_above n [] h = refl
 all_above n ((zero, x) ∷ es) h = grind arith
-all_above n ((suc m, x) ∷ es) h = grind (arith, all_above n es (second_so (is_lt (nat_cmp n (suc m))) (below_all nat_cmp n es) h))
+all_above n ((suc m, x) ∷ es) h = grind (arith, all_above n es)
 
 row_first : (m : ℕ) (x : Number) (es : List (ℕ × Number)) → find nat_cmp 0 ((suc m, x) ∷ es) ≡ find nat_cmp 0 es
 row_first = grind arith
@@ -20,7 +20,7 @@ row_first = grind arith
 none_above : (n : ℕ) (es : List (ℕ × Number)) → below_all nat_cmp n es ≡ true → find nat_cmp 0 es ≡ None
 none_above n [] h = refl
 none_above n ((zero, x) ∷ es) h = grind arith
-none_above n ((suc m, x) ∷ es) h = grind (arith, none_above n es (second_so (is_lt (nat_cmp n (suc m))) (below_all nat_cmp n es) h))
+none_above n ((suc m, x) ∷ es) h = grind (arith, none_above n es)
 
 -- without the first, if that is the objective's
 pub rest_after_first : (cells : List (ℕ × Number)) (first : ℕ × Number) → is_sorted nat_cmp cells ≡ true → 1 ≤ length cells → first ≡ get_or cells 0 first → first.0 ≡ 0
@@ -50,11 +50,7 @@ above_zero ((suc n, x) ∷ es) (suc k) e at = above_zero es k e at
 above_by_index : (n : ℕ) (cells : List (ℕ × Number)) (m : ℕ) (d : ℕ × Number) → below_all nat_cmp n cells ≡ true → is_sorted nat_cmp cells ≡ true → m < length cells → n + m < (get_or cells m d).0
 above_by_index n [] m d above h below = grind arith
 above_by_index n (c ∷ cells) zero d above h below = grind arith
-above_by_index n (c ∷ cells) (suc m) d above h below =
-    grind (
-      arith,
-      above_by_index c.0 cells m d (first_so (below_all nat_cmp c.0 cells) (is_sorted nat_cmp cells) h) (second_so (below_all nat_cmp c.0 cells) (is_sorted nat_cmp cells) h),
-    )
+above_by_index n (c ∷ cells) (suc m) d above h below = grind (arith, above_by_index c.0 cells m d)
 
 -- a coefficient's number is at least its index
 pub index_within : (cells : List (ℕ × Number)) (m : ℕ) (d : ℕ × Number) → is_sorted nat_cmp cells ≡ true → m < length cells → m ≤ (get_or cells m d).0

@@ -20,19 +20,11 @@ rows_only (col ∷ cols) = (col.0, row_cells col.1) ∷ rows_only cols
 module _ {K X : Type 0} (R : K → K → Ordering) where
   below_all-append : (k : K) (xs ys : List (K × X)) → below_all R k xs ≡ true → below_all R k ys ≡ true → below_all R k (xs ++ ys) ≡ true
   below_all-append k [] ys g h = h
-  below_all-append k (x ∷ xs) ys g h = grind (arith, below_all-append k xs ys (second_so (is_lt (R k x.0)) (below_all R k xs) g) h)
+  below_all-append k (x ∷ xs) ys g h = grind (arith, below_all-append k xs ys)
 
   is_sorted-append : (xs ys : List (K × X)) → is_sorted R xs ≡ true → is_sorted R ys ≡ true → list_all (λ x. below_all R x.0 ys) xs ≡ true → is_sorted R (xs ++ ys) ≡ true
   is_sorted-append [] ys g h all = h
-  is_sorted-append (x ∷ xs) ys g h all =
-      grind (
-        arith,
-        is_sorted-append xs ys (second_so (below_all R x.0 xs) (is_sorted R xs) g) h,
-        both_so,
-        below_all-append,
-        first_so,
-        second_so,
-      )
+  is_sorted-append (x ∷ xs) ys g h all = grind (arith, is_sorted-append xs ys, second_so, both_so, below_all-append, first_so)
 
 and_true : (t : Bool) → (t && true) ≡ t
 and_true = grind arith
@@ -51,16 +43,7 @@ module _ (name : ℕ → Option (List ℕ)) where
 
   below_columns : (r c : List ℕ) (cols : List (List ℕ × List (ℕ × Number))) → below_all bytes_cmp c cols ≡ true → below_all key_cmp (at r c) (all_cells name (rows_only cols)) ≡ true
   below_columns r c [] h = refl
-  below_columns r c (col ∷ cols) h =
-      grind (
-        arith,
-        below_columns r c cols (second_so (is_lt (bytes_cmp c col.0)) (below_all bytes_cmp c cols) h),
-        below_all-append,
-        at,
-        below_column,
-        first_so,
-        second_so,
-      )
+  below_columns r c (col ∷ cols) h = grind (arith, below_columns r c cols, second_so, below_all-append, at, below_column, first_so)
 
   each_below : (c : List ℕ) (es : List (ℕ × Number)) (cols : List (List ℕ × List (ℕ × Number))) → below_all bytes_cmp c cols ≡ true
       → list_all (λ x. below_all key_cmp x.0 (all_cells name (rows_only cols))) (column_cells name c es) ≡ true
@@ -98,13 +81,8 @@ module _ (name : ℕ → Option (List ℕ)) where
               ] refl
 
       find-all_rows : (q : CoefficientKey) (cols : List (List ℕ × List (ℕ × Number))) → find key_cmp q (all_cells name (rows_only cols)) ≡ cond (not (same_bytes objective q.row)) (find key_cmp q (all_cells name cols)) None
-      find-all_rows q [] = sym (both_none (not (same_bytes objective q.row)))
-      find-all_rows q (col ∷ cols) =
-          let row = not (same_bytes objective q.row) in
-          find-two key_cmp q (column_cells name col.0 (row_cells col.1)) (all_cells name (rows_only cols))
-          ∙ (λ i. or_else (find-of_rows q col.0 col.1 i) (find-all_rows q cols i))
-          ∙ joined row (find key_cmp q (column_cells name col.0 col.1)) (find key_cmp q (all_cells name cols))
-          ∙ ap (λ (o : Option Number). cond row o None) (sym (find-two key_cmp q (column_cells name col.0 col.1) (all_cells name cols)))
+      find-all_rows q [] = grind arith
+      find-all_rows q (col ∷ cols) = grind (arith, find-all_rows q cols, find-two, or_else, find-of_rows, joined)
 
       -- the nonzeros are the cells of rows, column after column
       pub elements_are_rows : (cols : List (List ℕ × List (ℕ × Number))) → is_sorted bytes_cmp cols ≡ true → list_all (λ c. is_sorted nat_cmp c.1) cols ≡ true

@@ -1,11 +1,11 @@
 -- How the lists by rows are filled, coefficient by coefficient.
 use Rattle.std.proofs.Common.{rules, ◌≡◌, refl, sym, ap, subst, ◌∙◌, ℕ, zero, suc, ◌+◌, ◌-◌, ◌<◌, ◌≤◌, List, [], ◌∷◌, ◌++◌, length, map}
-use Rattle.std.proofs.Common.{take, drop, Bool, true, false, cond, get_or, sum, ◌⊎◌, inl, inr, add-one, add-zero, arith}
-use Rattle.std.proofs.lemmas.{Bool.{cases_order, cases_lt, cases_Bool}, List.{append-nil, append_assoc, length-append, length-drop}}
-use Rattle.std.proofs.lemmas.List.{length-take-le, take-append-drop, take_all, take_more, get_or-map, get_or_append_left, get_or_push}
-use Rattle.std.proofs.lemmas.{List.{get_or-take, get_or-drop, length-map, Sums.fold_push}, Option.slice_get-get_or}
-use Rattle.std.{proofs.lemmas.Grind.same_number_lists, specs.{Prelude.{Option, Some, None, is_some, slice_get}, List.{All, list_all}}}
-use Rattle.std.specs.{Option.option_map, Ordering.{eq_by_cmp, nat_cmp}, FinMap.{find, is_sorted}, Cmp.nat_cmp_total}
+use Rattle.std.proofs.{Common.{take, drop, Bool, true, false, cond, get_or, sum, add-one, add-zero, arith}, lemmas.Bool.cases_order}
+use Rattle.std.proofs.lemmas.{Bool.{cases_lt, cases_Bool}, List.{append-nil, append_assoc, length-append, length-drop, length-take-le}}
+use Rattle.std.proofs.lemmas.List.{take-append-drop, take_all, take_more, get_or-map, get_or_append_left, get_or_push, get_or-take}
+use Rattle.std.proofs.lemmas.{List.{get_or-drop, length-map, Sums.fold_push}, Option.slice_get-get_or, Grind.same_number_lists}
+use Rattle.std.specs.{Prelude.{Option, Some, None, is_some, slice_get}, List.{All, list_all}, Option.option_map, Ordering.eq_by_cmp}
+use Rattle.std.specs.{Ordering.nat_cmp, FinMap.{find, is_sorted}, Cmp.nat_cmp_total}
 use Rattle.mpslp_decimal.specs.Decimal.{Number}
 use Rattle.mpslp_model_core.specs.{Numbered.IsOnceBy, ByRow.{list_at, HasList, column_if, has_number, cells_of, columns_with, AreWithin}}
 use Rattle.mpslp_model_core.specs.{ByRow.{HasCounted, AreCounts, start_of, IsPlaced, AreByRow}, declared.by_row.RowElement.RowElement}
@@ -120,22 +120,12 @@ starts_rise columns i j below =
 places_apart : (columns : List (List ℕ × ModelColumn)) (i r p q : ℕ)
     → p < length (columns_with columns (suc i) (length columns)) → q < length (columns_with columns (suc r) (length columns))
     → start_of columns i + p ≡ start_of columns r + q → i ≡ r
-places_apart columns i r p q under over same = by (cases_order i r)
-  where
-    by : (i ≡ r) ⊎ ((i < r) ⊎ (r < i)) → i ≡ r
-    by (inl e) = e
-    by (inr (inl before)) = let far : start_of columns (suc i) ≤ start_of columns r = starts_rise columns (suc i) r before in absurd (omega arith)
-    by (inr (inr after)) = let far : start_of columns (suc r) ≤ start_of columns i = starts_rise columns (suc r) i after in absurd (omega arith)
+places_apart columns i r p q under over same = grind (arith, cases_order i r, starts_rise columns (suc i) r, starts_rise columns (suc r) i)
 
 pub sums_are_starts : (columns : List (List ℕ × ModelColumn)) (rows : ℕ) (counts : List ℕ) → AreCounts columns rows counts → (i : ℕ) → i ≤ rows → sum (take (suc i) counts) ≡ start_of columns i
 sums_are_starts columns rows counts are zero below = grind arith
 sums_are_starts columns rows counts are (suc i) below =
-    let some : suc i < length counts = let len = are.len in omega arith in
-    let x = get_or counts (suc i) 0 in
-    ap (λ (n : ℕ). sum (take n counts)) (sym (add-one (suc i)))
-    ∙ ap sum (take_more counts (suc i) 0 some)
-    ∙ fold_push (λ (a x : ℕ). a + x) 0 (take (suc i) counts) x
-    ∙ (λ t. sums_are_starts columns rows counts are i (omega arith) t + are.own i (omega arith) t)
+    grind (arith, sums_are_starts columns rows counts are i, add-one (suc i), take_more counts (suc i) 0, fold_push)
 
 -- ---- column by column
 
@@ -203,13 +193,14 @@ put_fits {columns} {rows} {own} {next} {row_ends} {list} (suc i) column are belo
 -- before the first column
 pub put_none : (columns : List (List ℕ × ModelColumn)) (rows : ℕ) (counts starts : List ℕ) (list : List RowElement) → AreCounts columns rows counts → length starts ≡ length counts
     → ((i : ℕ) → i < length counts → get_or starts i 0 ≡ sum (take i counts)) → length list ≡ sum counts → ArePut columns rows (λ i. columns_with columns (suc i) 0) starts list
-put_none columns rows counts starts list are len sums room = record {
-  len = len ∙ are.len;
-  room = room ∙ ap sum (sym (take_all (suc rows) counts (let some = are.len in omega arith))) ∙ sums_are_starts columns rows counts are rows (omega arith);
-  objective = sums 0 (let some = are.len in omega arith);
-  ends = λ i below. sums (suc i) (let some = are.len in omega arith) ∙ sums_are_starts columns rows counts are i (omega arith) ∙ sym (add-zero (start_of columns i));
-  put = λ i p d below under. absurd (omega arith);
-}
+put_none columns rows counts starts list are len sums room =
+    grind (
+      arith,
+      take_all (suc rows) counts,
+      sums_are_starts columns rows counts are rows,
+      sums_are_starts columns rows counts are,
+      add-zero,
+    )
 
 module _ (columns : List (List ℕ × ModelColumn)) (rows : ℕ) (own next : ℕ → List ℕ) (old_ends : List ℕ) (old_list : List RowElement) (ends : List ℕ) (list : List RowElement) (number column : ℕ)
     (are : ArePut columns rows own old_ends old_list)
@@ -224,29 +215,23 @@ module _ (columns : List (List ℕ × ModelColumn)) (rows : ℕ) (own next : ℕ
   -- the place that is written is in the list of another row
   elsewhere : (i p : ℕ) → p < length (own i) → eq_by_cmp nat_cmp (suc i) number ≡ false → 0 < number → start_of columns i + p ≡ get_or old_ends number 0 → ⊥
   elsewhere i p under other some same =
-      let r = number - 1 in
-      let is : number ≡ suc r = omega arith in
-      let below : r < rows = omega arith in
-      let tied : eq_by_cmp nat_cmp (suc r) number ≡ true = number_tied (suc r) number (sym is) in
-      let longer : length (next r) ≡ length (own r) + 1 = next_length r ∙ ap (λ (b : Bool). length (own r) + cond b 1 0) tied in
-      let within : length (own r) < length (columns_with columns (suc r) (length columns)) = let fit = fits r in omega arith in
-      let alike : length (next i) ≡ length (own i) + 0 = next_length i ∙ ap (λ (b : Bool). length (own i) + cond b 1 0) other in
-      let under_all : p < length (columns_with columns (suc i) (length columns)) = let fit = fits i in omega arith in
-      let one = places_apart columns i r p (length (own r)) under_all within (same ∙ ap (λ (n : ℕ). get_or old_ends n 0) is ∙ are.ends r below) in
-      let tie : eq_by_cmp nat_cmp (suc i) number ≡ true = number_tied (suc i) number (ap (λ (n : ℕ). suc n) one ∙ sym is) in
-      grind arith
+      grind (
+        arith,
+        number_tied (suc (number - 1)) number,
+        next_length (number - 1),
+        next_length i,
+        places_apart columns i (number - 1) p (length (own (number - 1))),
+        number_tied (suc i) number,
+      )
 
   put_own : (i p : ℕ) (d : RowElement) → i < rows → p < length (next i) → eq_by_cmp nat_cmp (suc i) number ≡ true → IsListed columns (suc i) (get_or (next i) p 0) (get_or list (start_of columns i + p) d)
-  put_own = grind (arith, cases_lt, number_same, next_length, inl, listed_same, get_or_append_left, inr, get_or_push)
+  put_own = grind (arith, cases_lt, number_same, next_length, listed_same, get_or_append_left, get_or_push)
 
   put_other : (i p : ℕ) (d : RowElement) → i < rows → p < length (next i) → eq_by_cmp nat_cmp (suc i) number ≡ false → IsListed columns (suc i) (get_or (next i) p 0) (get_or list (start_of columns i + p) d)
-  put_other i p d below under other =
-      let now : next i ≡ own i = more i ∙ ap (λ (b : Bool). own i ++ column_if b column) other ∙ append-nil (own i) in
-      let inside : p < length (own i) = subst (λ (l : List ℕ). p < length l) now under in
-      listed_same columns (suc i) (ap (λ (l : List ℕ). get_or l p 0) (sym now)) (sym (kept (start_of columns i + p) d (elsewhere i p inside other))) (are.put i p d below inside)
+  put_other i p d below under other = grind (arith, append-nil (own i), listed_same columns (suc i), elsewhere i p)
 
   put_at : (i p : ℕ) (d : RowElement) → i < rows → p < length (next i) → IsListed columns (suc i) (get_or (next i) p 0) (get_or list (start_of columns i + p) d)
-  put_at = grind (arith, cases_Bool, inl, put_own, inr, put_other)
+  put_at = grind (arith, cases_Bool, put_own, put_other)
 
   pub put_more : length ends ≡ length old_ends → length list ≡ length old_list → get_or ends 0 0 ≡ get_or old_ends 0 0 → HasCounted number old_ends ends → ArePut columns rows next ends list
   put_more = grind (arith, next_length, put_at)
@@ -265,27 +250,13 @@ module _ (columns : List (List ℕ × ModelColumn)) (rows : ℕ) (lists : RowLis
     filled = take (length own_columns) (drop (start_of columns i) lists.elements.items)
 
     list_filled : list_at lists i ≡ filled
-    list_filled =
-        let start = start_of columns i in
-        let count = length own_columns in
-        let first : get_or lists.starts.items i 0 ≡ start = all_starts i (omega arith) in
-        let end : get_or lists.starts.items (suc i) 0 ≡ start + count = all_starts (suc i) below in
-        let taken : start + count - start ≡ count = omega arith in
-        (λ t. take (end t - first t) (drop (first t) lists.elements.items)) ∙ ap (λ (n : ℕ). take n (drop start lists.elements.items)) taken
+    list_filled = grind (arith, all_starts)
 
     filled_length : length filled ≡ length own_columns
-    filled_length =
-        let far : start_of columns (suc i) ≤ start_of columns rows = starts_rise columns (suc i) rows below in
-        let left = length-drop (start_of columns i) lists.elements.items in
-        let room = are.room in
-        length-take-le (length own_columns) (drop (start_of columns i) lists.elements.items) (omega arith)
+    filled_length = grind (arith, starts_rise columns (suc i) rows below, length-drop, length-take-le)
 
     filled_at : (p : ℕ) (d : RowElement) → p < length filled → IsListed columns (suc i) (get_or own_columns p 0) (get_or filled p d)
-    filled_at p d under =
-        let inside : p < length own_columns = subst (λ (n : ℕ). p < n) filled_length under in
-        listed_same columns (suc i) refl
-        (sym (get_or-take (length own_columns) (drop (start_of columns i) lists.elements.items) p d inside ∙ get_or-drop (start_of columns i) lists.elements.items p d))
-        (are.put i p d below inside)
+    filled_at = grind (arith, filled_length, listed_same, get_or-take, get_or-drop)
 
     own_filled : map (λ (e : RowElement). e.column) filled ≡ own_columns
     own_filled =
@@ -298,13 +269,7 @@ module _ (columns : List (List ℕ × ModelColumn)) (rows : ℕ) (lists : RowLis
         get_or-map column filled p none 0 inside ∙ (filled_at p none inside).0)
 
   pub lists_from_put : AreByRow columns rows lists
-  lists_from_put = record {
-    len = are.len;
-    starts = all_starts;
-    room = are.room;
-    own = λ i below. ap (map (λ (e : RowElement). e.column)) (list_filled i below) ∙ own_filled i below;
-    placed = λ i below. subst (All (IsPlaced columns (suc i))) (sym (list_filled i below)) (λ p d under. (filled_at i below p d under).1);
-  }
+  lists_from_put = grind (arith, all_starts, list_filled, own_filled, filled_at)
 
 -- ---- the list of a row
 

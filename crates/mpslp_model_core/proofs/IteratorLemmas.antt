@@ -1,7 +1,7 @@
 -- What the iterators of a model have left.
-use Rattle.std.proofs.Common.{rules, ◌≡◌, refl, sym, ap, ◌∙◌, ℕ, ◌+◌, ◌-◌, ◌<◌, List, [], ◌∷◌, length, drop, arith}
-use Rattle.std.proofs.lemmas.{List.{length-map, drop_all, drop_more}, Option.{slice_get-map, slice_get_within, slice_get-get_or}}
-use Rattle.std.{proofs.lemmas.Option.get_or_from_slice_get, specs.{Prelude.{Some, slice_get}, List.All, Option.option_map}}
+use Rattle.std.proofs.{Common.{rules, ◌≡◌, refl, ℕ, ◌+◌, ◌-◌, ◌<◌, List, [], ◌∷◌, length, drop, arith}, lemmas.List.length-map}
+use Rattle.std.proofs.lemmas.{List.{drop_all, drop_more}, Option.{slice_get-map, slice_get_within, slice_get-get_or}}
+use Rattle.std.{proofs.lemmas.Option.get_or_from_slice_get, specs.{Prelude.{Some, slice_get}, List.All}}
 use Rattle.mpslp_decimal.specs.Decimal.{Number}
 use Rattle.mpslp_model_core.specs.{Columned.row_cells, Iterators.{IsOfRow, AreCounted}, Model.LinearModel, Numbered.each_part}
 use Rattle.mpslp_model_core.specs.Views.{column_name, coefficient_at, row_name, row_columns, row_elements}
@@ -22,12 +22,13 @@ module _ (m : LinearModel) (i : ℕ) where
   pub one_first : (k : ℕ) (entry : ℕ × Number) → slice_get (row_columns m (row_name m i)) k ≡ Some entry.0 → entry.1 ≡ coefficient_at m (row_name m i) (column_name m entry.0)
       → drop k (row_elements m (row_name m i)) ≡ entry ∷ drop (k + 1) (row_elements m (row_name m i))
   one_first k entry column value =
-      let all = row_elements m (row_name m i) in
-      let numbered : ℕ → ℕ × Number = λ j. (j, coefficient_at m (row_name m i) (column_name m j)) in
-      let here : slice_get all k ≡ Some entry =
-      slice_get-map numbered (row_columns m (row_name m i)) k ∙ ap (option_map numbered) column ∙ ap (λ (x : Number). Some (entry.0, x)) (sym value) in
-      drop_more all k entry (slice_get_within all k entry here)
-      ∙ ap (λ (first : ℕ × Number). first ∷ drop (k + 1) all) (get_or_from_slice_get all k entry entry here)
+      grind (
+        arith,
+        slice_get-map,
+        drop_more (row_elements m (row_name m i)) k entry,
+        slice_get_within (row_elements m (row_name m i)) k entry,
+        get_or_from_slice_get (row_elements m (row_name m i)) k entry entry,
+      )
 
   count_all : {k count : ℕ} → AreCounted m i k count → length (row_elements m (row_name m i)) ≡ count
   count_all = grind (arith, length-map)

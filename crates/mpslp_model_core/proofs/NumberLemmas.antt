@@ -1,6 +1,6 @@
 -- Rows in the order of their names: their numbers identify them, and are in the same order as the names.
-use Rattle.std.proofs.Common.{rules, ◌≡◌, refl, sym, ap, ◌∙◌, ℕ, zero, suc, ◌<◌, List, [], ◌∷◌, map, Bool, true, false, arith}
-use Rattle.std.specs.{Prelude.{Some, None, slice_get, ◌&&◌}, Option.option_map, List.list_all, Ordering.{is_lt, eq_by_cmp, nat_cmp}}
+use Rattle.std.proofs.Common.{rules, ◌≡◌, refl, sym, ◌∙◌, ℕ, zero, suc, ◌<◌, List, [], ◌∷◌, map, Bool, true, false, arith}
+use Rattle.std.specs.{Prelude.{Some, None, slice_get}, Option.option_map, List.list_all, Ordering.{is_lt, eq_by_cmp, nat_cmp}}
 use Rattle.std.specs.{Ordering.MatchOrdering, Cmp.{IsTotalOrder, first_so, second_so, ranks, Lexicographic.nat_list_eq_equiv}}
 use Rattle.std.specs.{declared.cmp.Ordering.{Ordering, TheVariants.{Less, Equal, Greater}}, FinMap.{find, is_sorted, Entries.below_all}}
 use Rattle.mpslp_types.specs.Name.{same_bytes, is_one_of, bytes_cmp}
@@ -14,13 +14,13 @@ less_from = grind arith
 pub above_at : {X : Type 0} (k : List ℕ) (es : List (List ℕ × X)) (i : ℕ) (e : List ℕ × X) → below_all bytes_cmp k es ≡ true → slice_get es i ≡ Some e → bytes_cmp k e.0 ≡ Less
 above_at k [] i e h at = cc
 above_at {X} k (d ∷ es) zero e h at = grind arith
-above_at k (d ∷ es) (suc i) e h at = above_at k es i e (second_so (is_lt (bytes_cmp k d.0)) (below_all bytes_cmp k es) h) at
+above_at k (d ∷ es) (suc i) e h at = grind (arith, above_at k es i e)
 
 pub rise : {X : Type 0} (es : List (List ℕ × X)) (i j : ℕ) (e f : List ℕ × X) → is_sorted bytes_cmp es ≡ true → slice_get es i ≡ Some e → slice_get es j ≡ Some f → i < j → bytes_cmp e.0 f.0 ≡ Less
 rise [] i j e f h at there below = cc
 rise (d ∷ es) i zero e f h at there below = absurd (omega arith)
 rise {X} (d ∷ es) zero (suc j) e f h at there below = grind (arith, above_at, first_so)
-rise (d ∷ es) (suc i) (suc j) e f h at there below = rise es i j e f (second_so (below_all bytes_cmp d.0 es) (is_sorted bytes_cmp es) h) at there (omega arith)
+rise (d ∷ es) (suc i) (suc j) e f h at there below = grind (arith, rise es i j e f)
 
 never_below_itself : (a b : List ℕ) → a ≡ b → bytes_cmp a b ≡ Less → ⊥
 never_below_itself = grind (arith, bytes_total)
@@ -59,17 +59,11 @@ module _ {X : Type 0} (objective : List ℕ) (es : List (List ℕ × X)) (sorted
 
   module _ (no_row : is_one_of (map (λ (e : List ℕ × X). e.0) es) objective ≡ false) where
     not_objective : (m : ℕ) (r : List ℕ) → objective ≡ r → name_of (Some objective) es (suc m) ≡ Some r → ⊥
-    not_objective m r is q =
-        let f = named_entry es m r q in
-        let no : false ≡ true = sym no_row ∙ ap (is_one_of (map (λ (e : List ℕ × X). e.0) es)) (is ∙ sym f.2) ∙ is_there es m f.0 f.1 in
-        cc
+    not_objective = grind (arith, named_entry, is_there)
 
     -- different numbers are those of different rows
     pub is_injective : IsInjective (name_of (Some objective) es)
-    is_injective zero zero r p q = refl
-    is_injective zero (suc m) r p q = absurd (not_objective m r (cc) q)
-    is_injective (suc n) zero r p q = absurd (not_objective n r (cc) p)
-    is_injective (suc n) (suc m) r p q = ap (λ (k : ℕ). suc k) (one_number n m r p q)
+    is_injective = grind (arith, not_objective, one_number)
 
 -- ---- parts of sorted entries
 
@@ -80,7 +74,7 @@ module _ {V X : Type 0} (f : V → X) where
 
   pub is_sorted-part : (es : List (List ℕ × V)) → is_sorted bytes_cmp (each_part f es) ≡ is_sorted bytes_cmp es
   is_sorted-part [] = refl
-  is_sorted-part (e ∷ es) = λ i. below_all-part e.0 es i && is_sorted-part es i
+  is_sorted-part (e ∷ es) = grind (arith, is_sorted-part es, below_all-part)
 
   pub slice_get-part : (es : List (List ℕ × V)) (i : ℕ) → slice_get (each_part f es) i ≡ option_map (λ (e : List ℕ × V). (e.0, f e.1)) (slice_get es i)
   slice_get-part [] i = refl
@@ -94,13 +88,12 @@ module _ {V X : Type 0} (f : V → X) where
 -- a name below all names is not found
 none_below : {X : Type 0} (k : List ℕ) (es : List (List ℕ × X)) → below_all bytes_cmp k es ≡ true → find bytes_cmp k es ≡ None
 none_below k [] h = refl
-none_below k (e ∷ es) h = grind (arith, none_below k es (second_so (is_lt (bytes_cmp k e.0)) (below_all bytes_cmp k es) h))
+none_below k (e ∷ es) h = grind (arith, none_below k es)
 
 -- ascending names are distinct
 pub once_sorted : {X : Type 0} (es : List (List ℕ × X)) → is_sorted bytes_cmp es ≡ true → IsOnce es
 once_sorted [] h = tt
-once_sorted (e ∷ es) h =
-    grind (arith, once_sorted es (second_so (below_all bytes_cmp e.0 es) (is_sorted bytes_cmp es) h), none_below, first_so, second_so)
+once_sorted (e ∷ es) h = grind (arith, once_sorted es, second_so, none_below, first_so)
 
 -- the entry at an index is found by its key
 pub found_by : {K X : Type 0} (R : K → K → Ordering) → IsTotalOrder R → ((p q : K) → eq_by_cmp R p q ≡ true → p ≡ q) → (es : List (K × X)) (i : ℕ) (e : K × X) → IsOnceBy R es → slice_get es i ≡ Some e
@@ -116,4 +109,4 @@ found_at = grind (arith, found_by, bytes_total, name_same)
 pub all_at : {X : Type 0} (p : X → Bool) (es : List X) (i : ℕ) (e : X) → list_all p es ≡ true → slice_get es i ≡ Some e → p e ≡ true
 all_at p [] i e h at = absurd cc
 all_at {X} p (d ∷ es) zero e h at = grind arith
-all_at p (d ∷ es) (suc i) e h at = all_at p es i e (second_so (p d) (list_all p es) h) at
+all_at p (d ∷ es) (suc i) e h at = grind (arith, all_at p es i e)

@@ -1,7 +1,7 @@
 -- Renumbering rows and sorting columns does not change the nonzero coefficients.
-use Rattle.std.{proofs.Common.{◌≡◌, refl, sym, ap, ◌∙◌, ℕ, List, [], ◌∷◌, true, false, cond, inl, inr}, specs.Prelude.{Option, Some, None}}
-use Rattle.std.specs.{Prelude.{◌⊎◌, filter, not}, Option.{option_map_or, option_and_then}, Ordering.{eq_by_cmp, nat_cmp}, FinMap.find}
-use Rattle.std.specs.FinMap.{is_sorted, Entries.same_entries}
+use Rattle.std.{proofs.Common.{arith, ◌≡◌, refl, sym, ap, ◌∙◌, ℕ, List, [], ◌∷◌, true, false, cond, inl, inr}, specs.Prelude.{Option, Some}}
+use Rattle.std.specs.{Prelude.{None, ◌⊎◌, filter, not}, Option.{option_map_or, option_and_then}, Ordering.{eq_by_cmp, nat_cmp}}
+use Rattle.std.specs.FinMap.{find, is_sorted, Entries.same_entries}
 use Rattle.mpslp_decimal.specs.Decimal.{Number, is_zero}
 use Rattle.mpslp_types.{specs.Name.bytes_cmp, proofs.BoolLemmas.{T_from, true_from}}
 use Rattle.mpslp_model_core.specs.{Model.{CoefficientKey, key_cmp}, Numbered.{sorted_of, is_kept, column_cells, all_cells, IsInjective}}
@@ -27,10 +27,7 @@ module _ (name : ℕ → Option (List ℕ)) (r : List ℕ) (nameless : (n : ℕ)
 
   pub none_in_all : (c : List ℕ) (cols : List (List ℕ × List (ℕ × Number))) → find key_cmp (at r c) (all_cells name cols) ≡ None
   none_in_all c [] = refl
-  none_in_all c (col ∷ cols) =
-      find-two key_cmp (at r c) (column_cells name col.0 col.1) (all_cells name cols)
-      ∙ ap (λ (o : Option Number). or_else o (find key_cmp (at r c) (all_cells name cols))) (none_in_column c col.0 col.1)
-      ∙ none_in_all c cols
+  none_in_all c (col ∷ cols) = grind (arith, none_in_all c cols, find-two, at, or_else, none_in_column)
 
 -- Each row keeps its name under its final number, and no other row has a name. Each column keeps its coefficients under the
 -- final numbers.

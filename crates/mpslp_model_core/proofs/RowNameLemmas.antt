@@ -1,6 +1,6 @@
 -- The names of all rows in one text: each is the part from its start to the next one.
-use Rattle.std.proofs.Common.{◌≡◌, refl, ap, ◌∙◌, ℕ, zero, suc, ◌+◌, ◌-◌, ◌<◌, ◌≤◌, List, [], ◌∷◌, ◌++◌, length, take, drop, get_or, inl}
-use Rattle.std.proofs.{Common.{inr, add-one, arith}, lemmas.{Bool.cases_lt, List.{append-nil, append_assoc, length-append, length_push}}}
+use Rattle.std.proofs.Common.{◌≡◌, refl, ap, ◌∙◌, ℕ, zero, suc, ◌+◌, ◌-◌, ◌<◌, ◌≤◌, List, [], ◌∷◌, ◌++◌, length, take, drop, get_or}
+use Rattle.std.proofs.{Common.{add-one, arith}, lemmas.{Bool.cases_lt, List.{append-nil, append_assoc, length-append, length_push}}}
 use Rattle.std.proofs.lemmas.{List.{take-append-drop, take_at, drop_at, drop-drop, get_or_append_left, get_or_push}, Option.slice_get-map}
 use Rattle.std.{proofs.lemmas.Option.slice_get-get_or, specs.{Prelude.{Some, slice_get, map}, Option.option_map}}
 use Rattle.mpslp_model_core.specs.{Model.{LinearModel, Row}, Views.row_names, ModelParts.{linear_model, AreModelParts}}
@@ -21,7 +21,7 @@ pub record AreNamed (rows : List (List ℕ × Row)) (count : ℕ) (text starts :
 
 pub named_more : {rows : List (List ℕ × Row)} {count : ℕ} {text starts text_new starts_new : List ℕ} (row : List ℕ × Row) → AreNamed rows count text starts → count < length rows → row ≡ get_or rows count row
     → text_new ≡ text ++ row.0 → starts_new ≡ starts ++ length text_new ∷ [] → AreNamed rows (count + 1) text_new starts_new
-named_more = grind (arith, add-one, length_push, cases_lt, joined_more, inl, get_or_append_left, inr, get_or_push)
+named_more = grind (arith, add-one, length_push, cases_lt, joined_more, get_or_append_left, get_or_push)
 
 joined-append : (rows others : List (List ℕ × Row)) → joined_names (rows ++ others) ≡ joined_names rows ++ joined_names others
 joined-append [] others = refl

@@ -1,7 +1,7 @@
 -- A map in two parts.
-use Rattle.std.{proofs.Common.{arith, rules, ◌≡◌, refl, sym, ap, ◌∙◌, List, [], ◌∷◌, ◌++◌, Bool, true, false, cond}, specs.Prelude.Option}
-use Rattle.std.specs.{Prelude.{Some, None, is_some, ◌||◌}, Ordering.{is_eq, eq_by_cmp}, Cmp.{IsTotalOrder, eq_by_cmp_equiv}}
-use Rattle.std.specs.{declared.cmp.Ordering.{Ordering, TheVariants.Equal}, FinMap.{find, put, Entries.{find-put, find_tied}}, Map.lookup}
+use Rattle.std.{proofs.Common.{arith, rules, ◌≡◌, refl, List, [], ◌∷◌, ◌++◌, Bool, true, false, cond}, specs.Prelude.{Option, Some, None}}
+use Rattle.std.specs.{Prelude.{is_some, ◌||◌}, Ordering.is_eq, Cmp.{IsTotalOrder, eq_by_cmp_equiv}, declared.cmp.Ordering.Ordering}
+use Rattle.std.specs.{declared.cmp.Ordering.TheVariants.Equal, FinMap.{find, put, Entries.{find-put, find_tied}}, Map.lookup}
 use Rattle.mpslp_model_core.{specs.Numbered.sorted_of, proofs.{PutsLemmas.equal_from, SortedLemmas.{find-sorted_of, sorted_of-put}}}
 use Rattle.mpslp_model_core.proofs.CellLemmas.{or_else, find-two, first_none}
 
@@ -35,27 +35,9 @@ module _ {K X : Type 0} (R : K → K → Ordering) (o : IsTotalOrder R) where
   module _ (same : (x y : K) → R x y ≡ Equal → x ≡ y) where
     -- an entry that is put into the first part
     pub put_first : (k : K) (v : X) (xs zs ys : List (K × X)) → zs ≡ put R k v xs → sorted_of R (zs ++ ys) ≡ put R k v (sorted_of R (xs ++ ys))
-    put_first k v xs zs ys is =
-        sorted_of-put R o same k v (zs ++ ys) (xs ++ ys) (λ q.
-        find-two R q zs ys
-        ∙ ap (λ (r : Option X). or_else r (find R q ys)) (ap (find R q) is ∙ find-put R o q k v xs)
-        ∙ elim (eq_by_cmp R q k) as (λ b. or_else (cond b (Some v) (find R q xs)) (find R q ys) ≡ cond b (Some v) (or_else (find R q xs) (find R q ys))) [
-          | true ↦ refl
-          | false ↦ refl
-        ]
-        ∙ ap (cond (eq_by_cmp R q k) (Some v)) (sym (find-two R q xs ys)))
+    put_first = grind (arith, sorted_of-put, find-two, or_else, find-put)
 
     -- an entry that is put into the second part, and is in neither
     pub put_second : (k : K) (v : X) (xs ys zs : List (K × X)) → ((q : K) → lookup (λ x. is_eq (R q x)) zs ≡ cond (is_eq (R k q)) (Some v) (lookup (λ x. is_eq (R q x)) ys))
         → find R k (sorted_of R (xs ++ ys)) ≡ None → sorted_of R (xs ++ zs) ≡ put R k v (sorted_of R (xs ++ ys))
-    put_second k v xs ys zs is absent =
-        sorted_of-put R o same k v (xs ++ zs) (xs ++ ys) (λ q.
-        find-two R q xs zs
-        ∙ ap (or_else (find R q xs)) (sym (lookup_is_find R q zs) ∙ is q ∙ (λ i. cond ((eq_by_cmp_equiv o).symm k q i) (Some v) (lookup_is_find R q ys i)))
-        ∙ elim (eq_by_cmp R q k) as (λ b. eq_by_cmp R q k ≡ b → or_else (find R q xs) (cond b (Some v) (find R q ys)) ≡ cond b (Some v) (or_else (find R q xs) (find R q ys))) [
-          | true ↦ λ tie.
-              let none : find R q xs ≡ None = sym (find_tied R o q k (equal_from (R q k) tie) xs) ∙ absent_first k xs ys absent in
-              ap (λ (r : Option X). or_else r (Some v)) none
-          | false ↦ λ _. refl
-        ] refl
-        ∙ ap (cond (eq_by_cmp R q k) (Some v)) (sym (find-two R q xs ys)))
+    put_second = grind (arith, sorted_of-put, find-two, or_else, lookup_is_find, eq_by_cmp_equiv, find_tied, equal_from, absent_first)

@@ -3,9 +3,8 @@ use Rattle.std.proofs.Common.{◌≡◌, refl, sym, ap, ◌∙◌, ℕ, zero, su
 use Rattle.std.proofs.lemmas.{Bool.lt-ltb, List.{length-map, length-append}, Option.{slice_get-map, slice_get_within}}
 use Rattle.std.{proofs.lemmas.Option.{get_or_from_slice_get, slice_get-get_or}, specs.Prelude.{Option, Some, None, slice_get, position}}
 use Rattle.std.specs.{Prelude.{◌&&◌, is_some, unwrap_or, filter}, Option.{option_map, option_map_or}, List.{position_or_len, list_all}}
-use Rattle.std.specs.{Ordering.nat_cmp, FinMap.{find, is_sorted, Entries.below_all}, Cmp.{first_so, second_so}}
-use Rattle.std.specs.Cmp.Lexicographic.{nat_list_eq_equiv}
-use Rattle.mpslp_types.{specs.Name.{same_bytes, is_one_of, bytes_cmp}, proofs.BoolLemmas.T_from}
+use Rattle.std.specs.{Ordering.nat_cmp, FinMap.{find, is_sorted}, Cmp.{first_so, second_so, Lexicographic.nat_list_eq_equiv}}
+use Rattle.mpslp_types.specs.Name.{same_bytes, is_one_of, bytes_cmp}
 use Rattle.mpslp_decimal.specs.Decimal.{Number, zero_number}
 use Rattle.mpslp_model_core.specs.Views.{num_rows, row_name, row_index, column_names, column_name, coefficient_at, num_elements}
 use Rattle.mpslp_model_core.specs.{Views.{column_elements, numbered_elements}, Model.{CoefficientKey, Column, Row, LinearModel, key_cmp}}
@@ -21,10 +20,10 @@ use Rattle.mpslp_model_core.proofs.NumberLemmas.{all_at}
 use Rattle.std.specs.FinMap as maps
 
 pub rows_seen : {m : ModelParts} {v : LinearModel} → linear_model m ≡ v → AreModelParts m → maps.entries v.rows ≡ m.rows.items
-rows_seen {m} {v} seen parts = ap (λ (w : LinearModel). maps.entries w.rows) (sym seen) ∙ maps.entries-from_sorted bytes_cmp m.rows.items (T_from _ parts.rows)
+rows_seen {m} {v} seen parts = grind (arith, maps.entries-from_sorted bytes_cmp m.rows.items)
 
 pub columns_seen : {m : ModelParts} {v : LinearModel} → linear_model m ≡ v → AreModelParts m → maps.entries v.columns ≡ columns_in m
-columns_seen {m} {v} seen parts = ap (λ (w : LinearModel). maps.entries w.columns) (sym seen) ∙ maps.entries-from_sorted bytes_cmp (columns_in m) (T_from _ parts.columns)
+columns_seen {m} {v} seen parts = grind (arith, maps.entries-from_sorted bytes_cmp (columns_in m))
 
 pub coefficients_seen : (m : ModelParts) {v : LinearModel} → linear_model m ≡ v → maps.entries v.coefficients ≡ sorted_of key_cmp (all_cells (name_of_row_key m) (cells_by_name m))
 coefficients_seen m {v} seen =
@@ -67,16 +66,7 @@ position-map = grind (arith, at, position_or_len-map, length-map)
 number_of_name : {X : Type 0} (es : List (List ℕ × X)) (i : ℕ) (e : List ℕ × X) → is_sorted bytes_cmp es ≡ true → slice_get es i ≡ Some e → position_or_len (λ (d : List ℕ × X). same_bytes e.0 d.0) es ≡ i
 number_of_name [] i e h at = absurd cc
 number_of_name {X} (d ∷ es) zero e h at = grind (arith, nat_list_eq_equiv)
-number_of_name {X} (d ∷ es) (suc i) e h at =
-    grind (
-      arith,
-      number_of_name es i e (second_so (below_all bytes_cmp d.0 es) (is_sorted bytes_cmp es) h) at,
-      apart_names,
-      above_at,
-      first_so,
-      at,
-      second_so,
-    )
+number_of_name {X} (d ∷ es) (suc i) e h at = grind (arith, number_of_name es i e, second_so, at, apart_names, above_at, first_so)
 
 pub number_seen : {m : ModelParts} {v : LinearModel} → linear_model m ≡ v → AreModelParts m → (n : ℕ) (r : List ℕ) → name_of_row_key m (suc n) ≡ Some r → row_index v r ≡ Some n
 number_seen {m} {v} seen parts n r named =
@@ -136,8 +126,7 @@ module _ (m : ModelParts) (parts : AreModelParts m) where
   -- the same for a slice of the columns
   pub cells_here : (v : LinearModel) → linear_model m ≡ v → (j : ℕ) (columns : List (List ℕ × ModelColumn)) (cells : List (ℕ × Number)) → columns ≡ m.columns.items
       → option_map (λ (column : List ℕ × ModelColumn). column.1.cells.items) (slice_get columns j) ≡ Some cells → AreCellsAt v j cells
-  cells_here v seen j columns cells same at =
-      cells_seen v seen j cells (ap (λ (cs : List (List ℕ × ModelColumn)). option_map (λ (column : List ℕ × ModelColumn). column.1.cells.items) (slice_get cs j)) (sym same) ∙ at)
+  cells_here v seen j columns cells same at = grind (arith, cells_seen v seen j cells, at)
 
   -- what is found by the number of a row
   pub found_seen : (v : LinearModel) → linear_model m ≡ v → (j : ℕ) (cells : List (ℕ × Number)) → AreCellsAt v j cells → (n : ℕ) (r : List ℕ) → name_of_row_key m n ≡ Some r
@@ -207,12 +196,7 @@ module _ (m : ModelParts) (parts : AreModelParts m) where
   count_named : (columns : List (List ℕ × ModelColumn)) → list_all (λ c. list_all (λ e. is_some (name_of_row_key m e.0)) c.1) (each_part cells_in columns) ≡ true
       → length (all_cells (name_of_row_key m) (rows_only (each_part cells_in columns))) ≡ count_row_cells columns
   count_named [] h = refl
-  count_named (c ∷ cs) h =
-      let cells = c.1.cells.items in
-      let one = list_all (λ e. is_some (name_of_row_key m e.0)) cells in
-      let more = list_all (λ d. list_all (λ e. is_some (name_of_row_key m e.0)) d.1) (each_part cells_in cs) in
-      length-append (column_cells (name_of_row_key m) c.0 (row_cells cells)) (all_cells (name_of_row_key m) (rows_only (each_part cells_in cs)))
-      ∙ (λ i. length-named (name_of_row_key m) c.0 (row_cells cells) (rows_named (name_of_row_key m) cells (first_so one more h)) i + count_named cs (second_so one more h) i)
+  count_named (c ∷ cs) h = grind (arith, count_named cs, length-append, rows_only, length-named, rows_named, first_so, second_so)
 
   pub elements_counted : (v : LinearModel) → linear_model m ≡ v → count_row_cells m.columns.items ≡ num_elements v
   elements_counted v seen =
