@@ -1,24 +1,13 @@
 -- The coefficients of rows in all columns are the cells of all columns without number 0.
-use Rattle.std.proofs.Common.{◌≡◌, refl, sym, ap, ◌∙◌, ℕ, zero, suc, List, [], ◌∷◌, ◌++◌, length, Bool, true, false, cond, not, filter}
-use Rattle.std.specs.Prelude.{Option, Some, None, is_some, ◌&&◌}
-use Rattle.std.specs.Option.{option_map_or}
-use Rattle.std.specs.List.{list_all}
-use Rattle.std.specs.Ordering.{is_lt, eq_by_cmp, nat_cmp, ordering_then}
-use Rattle.std.specs.Cmp.{first_so, second_so}
-use Rattle.std.specs.Cmp.Lexicographic.{bytes_decides}
-use Rattle.std.specs.declared.cmp.Ordering.{Ordering}
-use Rattle.std.specs.declared.cmp.Ordering.TheVariants.{Less, Equal, Greater}
-use Rattle.std.specs.FinMap.{find, is_sorted}
-use Rattle.std.specs.FinMap.Entries.{below_all, same_entries, is_sorted-where_key, find-where_key}
+use Rattle.std.proofs.Common.{arith, ◌≡◌, refl, sym, ap, ◌∙◌, ℕ, zero, suc, List, [], ◌∷◌, ◌++◌, length, Bool, true, false, cond, not}
+use Rattle.std.{proofs.Common.filter, specs.{Prelude.{Option, Some, None, is_some, ◌&&◌}, List.list_all, Ordering.{is_lt, eq_by_cmp}}}
+use Rattle.std.specs.{Ordering.nat_cmp, Cmp.{first_so, second_so, Lexicographic.bytes_decides}, declared.cmp.Ordering.Ordering}
+use Rattle.std.specs.FinMap.{find, is_sorted, Entries.{below_all, same_entries, is_sorted-where_key, find-where_key}}
 use Rattle.mpslp_decimal.specs.Decimal.{Number}
-use Rattle.mpslp_types.specs.Name.{same_bytes, bytes_cmp}
-use Rattle.mpslp_types.proofs.BoolLemmas.{both_so, T_from}
-use Rattle.mpslp_model_core.specs.Model.{CoefficientKey, key_cmp}
-use Rattle.mpslp_model_core.specs.Columned.{row_cells}
-use Rattle.mpslp_model_core.specs.Numbered.{sorted_of, column_cells, all_cells, IsInjective}
-use Rattle.mpslp_model_core.proofs.KeyLemmas.{same_key, key_total}
-use Rattle.mpslp_model_core.proofs.SortedLemmas.{find-sorted_of, is_sorted-sorted_of}
-use Rattle.mpslp_model_core.proofs.CellLemmas.{at, or_else, find-two, find-other_column, name_same}
+use Rattle.mpslp_types.{specs.Name.{same_bytes, bytes_cmp}, proofs.BoolLemmas.{both_so, T_from}}
+use Rattle.mpslp_model_core.specs.{Model.{CoefficientKey, key_cmp}, Columned.row_cells, Numbered.{sorted_of, column_cells, all_cells}}
+use Rattle.mpslp_model_core.{specs.Numbered.IsInjective, proofs.{KeyLemmas.{same_key, key_total}, SortedLemmas.find-sorted_of}}
+use Rattle.mpslp_model_core.proofs.{SortedLemmas.is_sorted-sorted_of, CellLemmas.{at, or_else, find-two, find-other_column, name_same}}
 use Rattle.mpslp_model_core.proofs.ElementLemmas.{RiseByName, sorted_cells, find-row_cells}
 
 -- each column with its coefficients of rows
@@ -31,63 +20,35 @@ rows_only (col ∷ cols) = (col.0, row_cells col.1) ∷ rows_only cols
 module _ {K X : Type 0} (R : K → K → Ordering) where
   below_all-append : (k : K) (xs ys : List (K × X)) → below_all R k xs ≡ true → below_all R k ys ≡ true → below_all R k (xs ++ ys) ≡ true
   below_all-append k [] ys g h = h
-  below_all-append k (x ∷ xs) ys g h =
-      both_so (is_lt (R k x.0)) (below_all R k (xs ++ ys)) (first_so (is_lt (R k x.0)) (below_all R k xs) g) (below_all-append k xs ys (second_so (is_lt (R k x.0)) (below_all R k xs) g) h)
+  below_all-append k (x ∷ xs) ys g h = grind (arith, below_all-append k xs ys)
 
   is_sorted-append : (xs ys : List (K × X)) → is_sorted R xs ≡ true → is_sorted R ys ≡ true → list_all (λ x. below_all R x.0 ys) xs ≡ true → is_sorted R (xs ++ ys) ≡ true
   is_sorted-append [] ys g h all = h
-  is_sorted-append (x ∷ xs) ys g h all =
-      both_so (below_all R x.0 (xs ++ ys)) (is_sorted R (xs ++ ys))
-      (below_all-append x.0 xs ys (first_so (below_all R x.0 xs) (is_sorted R xs) g) (first_so (below_all R x.0 ys) (list_all (λ e. below_all R e.0 ys) xs) all))
-      (is_sorted-append xs ys (second_so (below_all R x.0 xs) (is_sorted R xs) g) h (second_so (below_all R x.0 ys) (list_all (λ e. below_all R e.0 ys) xs) all))
-
-then_below : (a b : Ordering) → is_lt a ≡ true → is_lt (ordering_then a b) ≡ true
-then_below Less b h = refl
-then_below Equal b h = cc
-then_below Greater b h = cc
+  is_sorted-append (x ∷ xs) ys g h all = grind (arith, is_sorted-append xs ys, second_so, both_so, below_all-append, first_so)
 
 and_true : (t : Bool) → (t && true) ≡ t
-and_true true = refl
-and_true false = refl
+and_true = grind arith
 
 both_none : {X : Type 0} (t : Bool) → ◌≡◌ {A = Option X} (cond t None None) None
-both_none true = refl
-both_none false = refl
+both_none = grind arith
 
 joined : {X : Type 0} (t : Bool) (a b : Option X) → or_else (cond t a None) (cond t b None) ≡ cond t (or_else a b) None
-joined true a b = refl
-joined false a b = refl
+joined = grind arith
 
 module _ (name : ℕ → Option (List ℕ)) where
   -- cells of a later column are above
   below_column : (r c d : List ℕ) (es : List (ℕ × Number)) → is_lt (bytes_cmp c d) ≡ true → below_all key_cmp (at r c) (column_cells name d es) ≡ true
   below_column r c d [] h = refl
-  below_column r c d (e ∷ es) h =
-      let rest = below_column r c d es h in
-      let cells = column_cells name d es in
-      elim (name e.0) as (λ o. below_all key_cmp (at r c) (option_map_or (λ row. (at row d, e.1) ∷ cells) o cells) ≡ true) [
-        | None ↦ rest
-        | Some s ↦ both_so (is_lt (key_cmp (at r c) (at s d))) (below_all key_cmp (at r c) cells) (then_below (bytes_cmp c d) (bytes_cmp r s) h) rest
-      ]
+  below_column r c d (e ∷ es) h = grind (arith, below_column r c d es h)
 
   below_columns : (r c : List ℕ) (cols : List (List ℕ × List (ℕ × Number))) → below_all bytes_cmp c cols ≡ true → below_all key_cmp (at r c) (all_cells name (rows_only cols)) ≡ true
   below_columns r c [] h = refl
-  below_columns r c (col ∷ cols) h =
-      below_all-append key_cmp (at r c) (column_cells name col.0 (row_cells col.1)) (all_cells name (rows_only cols))
-      (below_column r c col.0 (row_cells col.1) (first_so (is_lt (bytes_cmp c col.0)) (below_all bytes_cmp c cols) h))
-      (below_columns r c cols (second_so (is_lt (bytes_cmp c col.0)) (below_all bytes_cmp c cols) h))
+  below_columns r c (col ∷ cols) h = grind (arith, below_columns r c cols, second_so, below_all-append, at, below_column, first_so)
 
   each_below : (c : List ℕ) (es : List (ℕ × Number)) (cols : List (List ℕ × List (ℕ × Number))) → below_all bytes_cmp c cols ≡ true
       → list_all (λ x. below_all key_cmp x.0 (all_cells name (rows_only cols))) (column_cells name c es) ≡ true
   each_below c [] cols h = refl
-  each_below c (e ∷ es) cols h =
-      let rest = each_below c es cols h in
-      let cells = column_cells name c es in
-      let above = all_cells name (rows_only cols) in
-      elim (name e.0) as (λ o. list_all (λ x. below_all key_cmp x.0 above) (option_map_or (λ row. (at row c, e.1) ∷ cells) o cells) ≡ true) [
-        | None ↦ rest
-        | Some s ↦ both_so (below_all key_cmp (at s c) above) (list_all (λ x. below_all key_cmp x.0 above) cells) (below_columns s c cols h) rest
-      ]
+  each_below c (e ∷ es) cols h = grind (arith, each_below c es cols h, at, both_so, below_columns)
 
   module _ (apart : IsInjective name) (rise : RiseByName name) where
     sorted_all : (cols : List (List ℕ × List (ℕ × Number))) → is_sorted bytes_cmp cols ≡ true → list_all (λ c. is_sorted nat_cmp c.1) cols ≡ true → is_sorted key_cmp (all_cells name (rows_only cols)) ≡ true
@@ -120,13 +81,8 @@ module _ (name : ℕ → Option (List ℕ)) where
               ] refl
 
       find-all_rows : (q : CoefficientKey) (cols : List (List ℕ × List (ℕ × Number))) → find key_cmp q (all_cells name (rows_only cols)) ≡ cond (not (same_bytes objective q.row)) (find key_cmp q (all_cells name cols)) None
-      find-all_rows q [] = sym (both_none (not (same_bytes objective q.row)))
-      find-all_rows q (col ∷ cols) =
-          let row = not (same_bytes objective q.row) in
-          find-two key_cmp q (column_cells name col.0 (row_cells col.1)) (all_cells name (rows_only cols))
-          ∙ (λ i. or_else (find-of_rows q col.0 col.1 i) (find-all_rows q cols i))
-          ∙ joined row (find key_cmp q (column_cells name col.0 col.1)) (find key_cmp q (all_cells name cols))
-          ∙ ap (λ (o : Option Number). cond row o None) (sym (find-two key_cmp q (column_cells name col.0 col.1) (all_cells name cols)))
+      find-all_rows q [] = grind arith
+      find-all_rows q (col ∷ cols) = grind (arith, find-all_rows q cols, find-two, or_else, find-of_rows, joined)
 
       -- the nonzeros are the cells of rows, column after column
       pub elements_are_rows : (cols : List (List ℕ × List (ℕ × Number))) → is_sorted bytes_cmp cols ≡ true → list_all (λ c. is_sorted nat_cmp c.1) cols ≡ true
@@ -147,17 +103,9 @@ module _ (name : ℕ → Option (List ℕ)) where
   -- a coefficient is found for each number that has a name
   pub length-named : (c : List ℕ) (es : List (ℕ × Number)) → list_all (λ e. is_some (name e.0)) es ≡ true → length (column_cells name c es) ≡ length es
   length-named c [] h = refl
-  length-named c (e ∷ es) h =
-      let rest = length-named c es (second_so (is_some (name e.0)) (list_all (λ d. is_some (name d.0)) es) h) in
-      let cells = column_cells name c es in
-      elim (name e.0) as (λ o. is_some o ≡ true → length (option_map_or (λ row. (at row c, e.1) ∷ cells) o cells) ≡ suc (length es)) [
-        | None ↦ λ no. absurd cc
-        | Some s ↦ λ _. ap (λ (n : ℕ). suc n) rest
-      ] (first_so (is_some (name e.0)) (list_all (λ d. is_some (name d.0)) es) h)
+  length-named c (e ∷ es) h = grind (arith, length-named c es)
 
   pub rows_named : (es : List (ℕ × Number)) → list_all (λ e. is_some (name e.0)) es ≡ true → list_all (λ e. is_some (name e.0)) (row_cells es) ≡ true
   rows_named [] h = refl
-  rows_named ((zero, x) ∷ es) h = rows_named es (second_so (is_some (name zero)) (list_all (λ d. is_some (name d.0)) es) h)
-  rows_named ((suc n, x) ∷ es) h =
-      both_so (is_some (name (suc n))) (list_all (λ d. is_some (name d.0)) (row_cells es)) (first_so (is_some (name (suc n))) (list_all (λ d. is_some (name d.0)) es) h)
-      (rows_named es (second_so (is_some (name (suc n))) (list_all (λ d. is_some (name d.0)) es) h))
+  rows_named ((zero, x) ∷ es) h = grind (arith, rows_named es)
+  rows_named ((suc n, x) ∷ es) h = grind (arith, rows_named es)

@@ -1,25 +1,15 @@
 -- The nonzeros of a column of a model are its cells in the order of row numbers, without that of the objective.
-use Rattle.std.proofs.Common.{◌≡◌, refl, sym, ap, ◌∙◌, ℕ, zero, suc, List, [], ◌∷◌, ◌++◌, Bool, true, false, cond, not, filter}
-use Rattle.std.specs.Prelude.{Option, Some, None, ◌&&◌}
-use Rattle.std.specs.Option.{option_map_or}
-use Rattle.std.specs.Ordering.{is_eq, is_lt, eq_by_cmp, nat_cmp, ordering_then}
-use Rattle.std.specs.Cmp.{first_so, second_so, tied_itself}
-use Rattle.std.specs.Cmp.Lexicographic.{bytes_decides, nat_list_eq_equiv}
-use Rattle.std.specs.declared.cmp.Ordering.{Ordering}
-use Rattle.std.specs.declared.cmp.Ordering.TheVariants.{Less, Equal, Greater}
-use Rattle.std.specs.FinMap.{find, is_sorted}
-use Rattle.std.specs.FinMap.Entries.{below_all, same_entries, is_sorted-where_key, find-where_key}
+use Rattle.std.proofs.Common.{arith, ◌≡◌, refl, sym, ap, ◌∙◌, ℕ, zero, suc, List, [], ◌∷◌, Bool, true, false, cond, not, filter}
+use Rattle.std.specs.{Prelude.{Option, Some, None, ◌&&◌}, Ordering.{is_eq, is_lt, eq_by_cmp, nat_cmp, ordering_then}, Cmp.first_so}
+use Rattle.std.specs.{Cmp.{second_so, Lexicographic.{bytes_decides, nat_list_eq_equiv}}, declared.cmp.Ordering.Ordering}
+use Rattle.std.specs.{declared.cmp.Ordering.TheVariants.Less, FinMap.{find, is_sorted, Entries.{below_all, same_entries}}}
+use Rattle.std.specs.FinMap.Entries.{is_sorted-where_key, find-where_key}
 use Rattle.mpslp_decimal.specs.Decimal.{Number}
-use Rattle.mpslp_types.specs.Name.{same_bytes, bytes_cmp}
-use Rattle.mpslp_model_core.specs.Model.{CoefficientKey, key_cmp}
-use Rattle.mpslp_types.proofs.BoolLemmas.{both_so, T_from}
-use Rattle.mpslp_model_core.proofs.PutsLemmas.{equal_from}
-use Rattle.mpslp_model_core.proofs.KeyLemmas.{same_key}
-use Rattle.mpslp_model_core.proofs.KeyLemmas.{bytes_total, key_total, tied_names}
-use Rattle.mpslp_model_core.specs.Numbered.{sorted_of, column_cells, all_cells, IsInjective, IsOnce}
-use Rattle.mpslp_model_core.specs.Columned.{row_cells}
-use Rattle.mpslp_model_core.proofs.SortedLemmas.{find-sorted_of, is_sorted-sorted_of}
-use Rattle.mpslp_model_core.proofs.CellLemmas.{at, or_else, find-two, find-other_column}
+use Rattle.mpslp_types.{specs.Name.{same_bytes, bytes_cmp}, proofs.BoolLemmas.{both_so, T_from}}
+use Rattle.mpslp_model_core.specs.{Model.{CoefficientKey, key_cmp}, Numbered.{sorted_of, column_cells, all_cells, IsInjective, IsOnce}}
+use Rattle.mpslp_model_core.{specs.Columned.row_cells, proofs.{PutsLemmas.equal_from, KeyLemmas.{same_key, bytes_total, key_total}}}
+use Rattle.mpslp_model_core.proofs.{KeyLemmas.tied_names, SortedLemmas.{find-sorted_of, is_sorted-sorted_of}, CellLemmas.{at, or_else}}
+use Rattle.mpslp_model_core.proofs.CellLemmas.{find-two, find-other_column}
 
 -- whether a place is that of a nonzero of a column
 abbrev pub is_element_of : List ℕ → List ℕ → CoefficientKey → Bool
@@ -30,43 +20,30 @@ abbrev pub RiseByName : (ℕ → Option (List ℕ)) → Type 0
 RiseByName name = (n m : ℕ) (r s : List ℕ) → name (suc n) ≡ Some r → name (suc m) ≡ Some s → is_lt (nat_cmp (suc n) (suc m)) ≡ true → bytes_cmp r s ≡ Less
 
 then_less : (a b : Ordering) → is_eq a ≡ true → b ≡ Less → is_lt (ordering_then a b) ≡ true
-then_less Less b h e = cc
-then_less Equal b h e = ap is_lt e
-then_less Greater b h e = cc
+then_less = grind arith
 
 module _ (name : ℕ → Option (List ℕ)) (apart : IsInjective name) (rise : RiseByName name) (c : List ℕ) where
   below_cells : (n : ℕ) (r : List ℕ) (es : List (ℕ × Number)) → name (suc n) ≡ Some r → below_all nat_cmp (suc n) es ≡ true → below_all key_cmp (at r c) (column_cells name c (row_cells es)) ≡ true
   below_cells n r [] p h = refl
-  below_cells n r ((zero, x) ∷ es) p h = below_cells n r es p (second_so (is_lt (nat_cmp (suc n) zero)) (below_all nat_cmp (suc n) es) h)
-  below_cells n r ((suc m, x) ∷ es) p h =
-      let rest = below_cells n r es p (second_so (is_lt (nat_cmp (suc n) (suc m))) (below_all nat_cmp (suc n) es) h) in
-      let cells = column_cells name c (row_cells es) in
-      elim (name (suc m)) as (λ o. name (suc m) ≡ o → below_all key_cmp (at r c) (option_map_or (λ row. (at row c, x) ∷ cells) o cells) ≡ true) [
-        | None ↦ λ _. rest
-        | Some s ↦ λ q.
-            both_so (is_lt (key_cmp (at r c) (at s c))) (below_all key_cmp (at r c) cells)
-            (then_less (bytes_cmp c c) (bytes_cmp r s) (ap is_eq (tied_itself bytes_total c)) (rise n m r s p q (first_so (is_lt (nat_cmp (suc n) (suc m))) (below_all nat_cmp (suc n) es) h)))
-            rest
-      ] refl
+  below_cells n r ((zero, x) ∷ es) p h = grind (arith, below_cells n r es p)
+  below_cells n r ((suc m, x) ∷ es) p h = grind (arith, below_cells n r es p, second_so, at, both_so, then_less, bytes_total, first_so)
 
   pub sorted_cells : (es : List (ℕ × Number)) → is_sorted nat_cmp es ≡ true → is_sorted key_cmp (column_cells name c (row_cells es)) ≡ true
   sorted_cells [] h = refl
-  sorted_cells ((zero, x) ∷ es) h = sorted_cells es (second_so (below_all nat_cmp zero es) (is_sorted nat_cmp es) h)
-  sorted_cells ((suc m, x) ∷ es) h =
-      let rest = sorted_cells es (second_so (below_all nat_cmp (suc m) es) (is_sorted nat_cmp es) h) in
-      let cells = column_cells name c (row_cells es) in
-      elim (name (suc m)) as (λ o. name (suc m) ≡ o → is_sorted key_cmp (option_map_or (λ row. (at row c, x) ∷ cells) o cells) ≡ true) [
-        | None ↦ λ _. rest
-        | Some s ↦ λ q. both_so (below_all key_cmp (at s c) cells) (is_sorted key_cmp cells) (below_cells m s es q (first_so (below_all nat_cmp (suc m) es) (is_sorted nat_cmp es) h)) rest
-      ] refl
+  sorted_cells ((zero, x) ∷ es) h = grind (arith, sorted_cells es)
+  sorted_cells ((suc m, x) ∷ es) h = grind (arith, sorted_cells es, second_so, at, both_so, below_cells, first_so)
 
   module _ (objective : List ℕ) (named : name zero ≡ Some objective) where
     -- the place of the objective is not that of a nonzero
     no_element : (q : CoefficientKey) → eq_by_cmp key_cmp q (at objective c) ≡ true → is_element_of objective c q ≡ false
     no_element q tie =
-        let same : q ≡ at objective c = same_key q (at objective c) (equal_from (key_cmp q (at objective c)) tie) in
-        let own : same_bytes objective objective ≡ true = nat_list_eq_equiv.refl objective in
-        ap (is_element_of objective c) same ∙ ap (λ (b : Bool). not b && same_bytes c c) own
+        grind (
+          arith,
+          same_key q (at objective c) (equal_from (key_cmp q (at objective c)) tie),
+          at objective c,
+          equal_from (key_cmp q (at objective c)) tie,
+          nat_list_eq_equiv.refl objective,
+        )
 
     -- the place of a row is
     an_element : (q : CoefficientKey) (m : ℕ) (s : List ℕ) → name (suc m) ≡ Some s → eq_by_cmp key_cmp q (at s c) ≡ true → is_element_of objective c q ≡ true
@@ -84,28 +61,17 @@ module _ (name : ℕ → Option (List ℕ)) (apart : IsInjective name) (rise : R
         ap (is_element_of objective c) same ∙ (λ i. not (other i) && own i)
 
     pub find-row_cells : (q : CoefficientKey) (es : List (ℕ × Number)) → find key_cmp q (column_cells name c (row_cells es)) ≡ cond (is_element_of objective c q) (find key_cmp q (column_cells name c es)) None
-    find-row_cells q [] = elim (is_element_of objective c q) as (λ b. ◌≡◌ {A = Option Number} None (cond b None None)) [ true ↦ refl | false ↦ refl ]
-    find-row_cells q ((zero, x) ∷ es) =
-        let cells = column_cells name c es in
-        find-row_cells q es
-        ∙ elim (eq_by_cmp key_cmp q (at objective c)) as (λ b. eq_by_cmp key_cmp q (at objective c) ≡ b → cond (is_element_of objective c q) (find key_cmp q cells) None ≡ cond (is_element_of objective c q) (cond b (Some x) (find key_cmp q cells)) None) [
-          | true ↦ λ tie.
-              let out = no_element q tie in
-              ap (λ (b : Bool). cond b (find key_cmp q cells) None) out ∙ ap (λ (b : Bool). cond b (Some x) None) (sym out)
-          | false ↦ λ _. refl
-        ] refl
-        ∙ ap (λ (o : Option (List ℕ)). cond (is_element_of objective c q) (find key_cmp q (option_map_or (λ row. (at row c, x) ∷ cells) o cells)) None) (sym named)
-    find-row_cells q ((suc m, x) ∷ es) =
-        let cells = column_cells name c es in
-        let rows = column_cells name c (row_cells es) in
-        elim (name (suc m)) as (λ o. name (suc m) ≡ o → find key_cmp q (option_map_or (λ row. (at row c, x) ∷ rows) o rows) ≡ cond (is_element_of objective c q) (find key_cmp q (option_map_or (λ row. (at row c, x) ∷ cells) o cells)) None) [
-          | None ↦ λ _. find-row_cells q es
-          | Some s ↦ λ p.
-              elim (eq_by_cmp key_cmp q (at s c)) as (λ b. eq_by_cmp key_cmp q (at s c) ≡ b → cond b (Some x) (find key_cmp q rows) ≡ cond (is_element_of objective c q) (cond b (Some x) (find key_cmp q cells)) None) [
-                | true ↦ λ tie. ap (λ (b : Bool). cond b (Some x) None) (sym (an_element q m s p tie))
-                | false ↦ λ _. find-row_cells q es
-              ] refl
-        ] refl
+    find-row_cells q [] = grind arith
+    find-row_cells q ((zero, x) ∷ es) = grind (arith, find-row_cells q es, no_element q)
+    find-row_cells q ((suc m, x) ∷ es) = grind (arith, find-row_cells q es, at, an_element)
+
+    or_nothing : (o : Option Number) → or_else o None ≡ o
+    or_nothing = grind arith
+
+    -- a column that is not found has no cells
+    none_later : (q : CoefficientKey) (cols : List (List ℕ × List (ℕ × Number))) → find bytes_cmp q.column cols ≡ None → find key_cmp q (all_cells name cols) ≡ None
+    none_later q [] h = refl
+    none_later q (col ∷ cols) h = grind (arith, none_later q cols, find-two, or_else, find-other_column)
 
     -- among all cells, those of the column are found
     find-in_column : (q : CoefficientKey) (es : List (ℕ × Number)) (cols : List (List ℕ × List (ℕ × Number))) → same_bytes c q.column ≡ true → IsOnce cols → find bytes_cmp c cols ≡ Some es
@@ -127,21 +93,6 @@ module _ (name : ℕ → Option (List ℕ)) (apart : IsInjective name) (rise : R
               (find-other_column name apart q col.0 col.1 (ap (λ (n : List ℕ). eq_by_cmp bytes_cmp n col.0) same ∙ differ))
               ∙ find-in_column q es cols own once.1 later
         ] refl is
-      where
-        or_nothing : (o : Option Number) → or_else o None ≡ o
-        or_nothing None = refl
-        or_nothing (Some x) = refl
-
-        none_later : (q : CoefficientKey) (cols : List (List ℕ × List (ℕ × Number))) → find bytes_cmp q.column cols ≡ None → find key_cmp q (all_cells name cols) ≡ None
-        none_later q [] h = refl
-        none_later q (col ∷ cols) h =
-            elim (eq_by_cmp bytes_cmp q.column col.0) as (λ b. eq_by_cmp bytes_cmp q.column col.0 ≡ b → cond b (Some col.1) (find bytes_cmp q.column cols) ≡ None → find key_cmp q (column_cells name col.0 col.1 ++ all_cells name cols) ≡ None) [
-              | true ↦ λ _ is. cc
-              | false ↦ λ differ is.
-                  find-two key_cmp q (column_cells name col.0 col.1) (all_cells name cols)
-                  ∙ ap (λ (o : Option Number). or_else o (find key_cmp q (all_cells name cols))) (find-other_column name apart q col.0 col.1 differ)
-                  ∙ none_later q cols is
-            ] refl h
 
     -- the nonzeros of the column are its cells of rows, in the order of their numbers
     pub elements_are_cells : (es : List (ℕ × Number)) (cols : List (List ℕ × List (ℕ × Number))) → IsOnce cols → find bytes_cmp c cols ≡ Some es → is_sorted nat_cmp es ≡ true

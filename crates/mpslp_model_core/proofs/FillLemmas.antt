@@ -1,149 +1,94 @@
 -- How the lists by rows are filled, coefficient by coefficient.
-use Rattle.std.proofs.Common.{◌≡◌, refl, sym, ap, subst, ◌∙◌, ℕ, zero, suc, ◌+◌, ◌-◌, ◌<◌, ◌≤◌, List, [], ◌∷◌, ◌++◌, length, map, take, drop, Bool, true, false, cond, get_or, sum, ◌⊎◌, inl, inr, add-one, add-zero, add-suc, zero-add, le_trans, arith}
-use Rattle.std.specs.Prelude.{Option, Some, None, is_some, slice_get}
-use Rattle.std.specs.List.{All, list_all}
-use Rattle.std.specs.Option.{option_map, option_map_or}
-use Rattle.std.specs.Ordering.{eq_by_cmp, nat_cmp}
-use Rattle.std.specs.FinMap.{find, is_sorted}
-use Rattle.std.specs.Cmp.{nat_cmp_total}
-use Rattle.std.proofs.lemmas.Bool.{cases_order, cases_lt, cases_Bool, both_ways}
-use Rattle.std.proofs.lemmas.List.{append-nil, append_assoc, length-append, length-drop, length-take-le, take-append-drop, take_all, take_more, get_or-map, get_or_append_left, get_or_push, get_or-take, get_or-drop, length-map}
-use Rattle.std.proofs.lemmas.List.Sums.{fold_push}
-use Rattle.std.proofs.lemmas.Option.{slice_get-get_or}
-use Rattle.std.proofs.lemmas.Grind.{same_number_lists}
+use Rattle.std.proofs.Common.{rules, ◌≡◌, refl, sym, ap, subst, ◌∙◌, ℕ, zero, suc, ◌+◌, ◌-◌, ◌<◌, ◌≤◌, List, [], ◌∷◌, ◌++◌, length, map}
+use Rattle.std.proofs.{Common.{take, drop, Bool, true, false, cond, get_or, sum, add-one, add-zero, arith}, lemmas.Bool.cases_order}
+use Rattle.std.proofs.lemmas.{Bool.{cases_lt, cases_Bool}, List.{append-nil, append_assoc, length-append, length-drop, length-take-le}}
+use Rattle.std.proofs.lemmas.List.{take-append-drop, take_all, take_more, get_or-map, get_or_append_left, get_or_push, get_or-take}
+use Rattle.std.proofs.lemmas.{List.{get_or-drop, length-map, Sums.fold_push}, Option.slice_get-get_or, Grind.same_number_lists}
+use Rattle.std.specs.{Prelude.{Option, Some, None, is_some, slice_get}, List.{All, list_all}, Option.option_map, Ordering.eq_by_cmp}
+use Rattle.std.specs.{Ordering.nat_cmp, FinMap.{find, is_sorted}, Cmp.nat_cmp_total}
 use Rattle.mpslp_decimal.specs.Decimal.{Number}
-use Rattle.mpslp_model_core.specs.Numbered.{IsOnceBy}
-use Rattle.mpslp_model_core.specs.ByRow.{list_at, HasList, column_if, has_number, cells_of, columns_with, AreWithin, HasCounted, AreCounts, start_of, IsPlaced, AreByRow}
-use Rattle.mpslp_model_core.specs.declared.by_row.RowElement.{RowElement}
-use Rattle.mpslp_model_core.specs.declared.by_row.RowLists.{RowLists}
-use Rattle.mpslp_model_core.specs.declared.model.ModelColumn.{ModelColumn}
-use Rattle.mpslp_model_core.proofs.CellLemmas.{number_same, number_tied, or_else, find-two}
-use Rattle.mpslp_model_core.proofs.CellListLemmas.{index_within}
-use Rattle.mpslp_model_core.proofs.OnceLemmas.{passed, once-sorted}
-use Rattle.mpslp_model_core.proofs.NumberLemmas.{all_at}
-use Rattle.mpslp_model_core.proofs.ByRowLemmas.{columns_more}
+use Rattle.mpslp_model_core.specs.{Numbered.IsOnceBy, ByRow.{list_at, HasList, column_if, has_number, cells_of, columns_with, AreWithin}}
+use Rattle.mpslp_model_core.specs.{ByRow.{HasCounted, AreCounts, start_of, IsPlaced, AreByRow}, declared.by_row.RowElement.RowElement}
+use Rattle.mpslp_model_core.{specs.declared.{by_row.RowLists.RowLists, model.ModelColumn.ModelColumn}, proofs.CellLemmas.number_same}
+use Rattle.mpslp_model_core.proofs.{CellLemmas.{number_tied, or_else, find-two}, CellListLemmas.index_within, OnceLemmas.once-sorted}
+use Rattle.mpslp_model_core.proofs.{NumberLemmas.all_at, ByRowLemmas.columns_more}
 
 -- ---- the coefficients of one column
 
 missed_at : (n : ℕ) (cells : List (ℕ × Number)) (m : ℕ) (d : ℕ × Number) → m < length cells → find nat_cmp n cells ≡ None → eq_by_cmp nat_cmp n (get_or cells m d).0 ≡ false
 missed_at n [] m d below none = absurd (omega arith)
-missed_at n (c ∷ cells) zero d below none = (passed (eq_by_cmp nat_cmp n c.0) c.1 (find nat_cmp n cells) none).0
-missed_at n (c ∷ cells) (suc m) d below none = missed_at n cells m d (omega arith) (passed (eq_by_cmp nat_cmp n c.0) c.1 (find nat_cmp n cells) none).1
+missed_at n (c ∷ cells) zero d below none = grind arith
+missed_at n (c ∷ cells) (suc m) d below none = grind (arith, missed_at n cells m d)
 
 -- one coefficient more: no number occurs twice
 taken_more : (n column : ℕ) (cells : List (ℕ × Number)) (m : ℕ) (d : ℕ × Number) → m < length cells → IsOnceBy nat_cmp cells
     → column_if (has_number n (take (suc m) cells)) column ≡ column_if (has_number n (take m cells)) column ++ column_if (eq_by_cmp nat_cmp n (get_or cells m d).0) column
-taken_more n column [] m d below once = absurd (omega arith)
-taken_more n column (c ∷ cells) zero d below once =
-    elim (eq_by_cmp nat_cmp n c.0) as (λ b. column_if (is_some (cond b (Some c.1) None)) column ≡ column_if b column) [
-      | true ↦ refl
-      | false ↦ refl
-    ]
-taken_more n column (c ∷ cells) (suc m) d below once =
-    by (eq_by_cmp nat_cmp n c.0) refl (taken_more n column cells m d (omega arith) once.1)
-  where
-    later : Bool
-    later = eq_by_cmp nat_cmp n (get_or cells m d).0
-
-    by : (tied : Bool) → eq_by_cmp nat_cmp n c.0 ≡ tied
-        → column_if (has_number n (take (suc m) cells)) column ≡ column_if (has_number n (take m cells)) column ++ column_if later column
-        → column_if (is_some (cond tied (Some c.1) (find nat_cmp n (take (suc m) cells)))) column ≡ column_if (is_some (cond tied (Some c.1) (find nat_cmp n (take m cells)))) column ++ column_if later column
-    by true tie rest =
-        let none : find nat_cmp n cells ≡ None = ap (λ (k : ℕ). find nat_cmp k cells) (number_same n c.0 tie) ∙ once.0 in
-        ap (λ (b : Bool). column ∷ column_if b column) (sym (missed_at n cells m d (omega arith) none))
-    by false tie rest = rest
+taken_more n column [] m d below once = grind arith
+taken_more n column (c ∷ cells) zero d below once = grind arith
+taken_more n column (c ∷ cells) (suc m) d below once = grind (arith, taken_more n column cells m d, number_same, missed_at)
 
 -- what the first columns and the first coefficients of the next one add to the list of a row
 abbrev pub noted : List (List ℕ × ModelColumn) → ℕ → ℕ → ℕ → List ℕ
 noted columns k m i = columns_with columns (suc i) k ++ column_if (has_number (suc i) (take m (cells_of columns k))) k
 
 pub noted_none : (columns : List (List ℕ × ModelColumn)) (k i : ℕ) → noted columns k 0 i ≡ columns_with columns (suc i) k
-noted_none columns k i = append-nil (columns_with columns (suc i) k)
+noted_none = grind (arith, append-nil)
 
 pub noted_more : (columns : List (List ℕ × ModelColumn)) (k m : ℕ) (d : ℕ × Number) → m < length (cells_of columns k) → IsOnceBy nat_cmp (cells_of columns k)
     → (i : ℕ) → noted columns k (m + 1) i ≡ noted columns k m i ++ column_if (eq_by_cmp nat_cmp (suc i) (get_or (cells_of columns k) m d).0) k
-noted_more columns k m d below once i =
-    let cells = cells_of columns k in
-    ap (λ (n : ℕ). noted columns k n i) (add-one m)
-    ∙ ap (λ (l : List ℕ). columns_with columns (suc i) k ++ l) (taken_more (suc i) k cells m d below once)
-    ∙ sym (append_assoc (columns_with columns (suc i) k) (column_if (has_number (suc i) (take m cells)) k) (column_if (eq_by_cmp nat_cmp (suc i) (get_or cells m d).0) k))
+noted_more columns k m d below once i = grind (arith, add-one m, taken_more, append_assoc)
 
 pub noted_all : (columns : List (List ℕ × ModelColumn)) (k i : ℕ) → noted columns k (length (cells_of columns k)) i ≡ columns_with columns (suc i) (k + 1)
-noted_all columns k i =
-    let cells = cells_of columns k in
-    ap (λ (es : List (ℕ × Number)). columns_with columns (suc i) k ++ column_if (has_number (suc i) es) k) (take_all (length cells) cells (omega arith))
-    ∙ sym (columns_more columns (suc i) k)
+noted_all = grind (arith, take_all, columns_more)
 
 -- ---- a coefficient of a column, as a loop reads it
 
 -- the cells of a column that was read at an index
 pub cells_read : (columns : List (List ℕ × ModelColumn)) (k : ℕ) (column : List ℕ × ModelColumn) → k < length columns → column ≡ get_or columns k column → column.1.cells.items ≡ cells_of columns k
-cells_read columns k column below is =
-    sym (ap (λ (o : Option (List ℕ × ModelColumn)). option_map_or (λ (c : List ℕ × ModelColumn). c.1.cells.items) o []) (slice_get-get_or columns k column below ∙ ap Some (sym is)))
+cells_read = grind (arith, slice_get-get_or)
 
 module _ (columns : List (List ℕ × ModelColumn)) (k : ℕ) (column : List ℕ × ModelColumn) (cells : List (ℕ × Number)) (m : ℕ) (cell : ℕ × Number)
     (below : k < length columns) (read : column ≡ get_or columns k column) (items : cells ≡ column.1.cells.items) (under : m < length cells) (is : cell ≡ get_or cells m cell) where
   there : cells ≡ cells_of columns k
-  there = items ∙ cells_read columns k column below read
+  there = grind (arith, cells_read)
 
   pub cell_placed : option_map (λ (c : ℕ × Number). c.0) (slice_get (cells_of columns k) m) ≡ Some cell.0
-  cell_placed =
-      ap (λ (es : List (ℕ × Number)). option_map (λ (c : ℕ × Number). c.0) (slice_get es m)) (sym there)
-      ∙ ap (option_map (λ (c : ℕ × Number). c.0)) (slice_get-get_or cells m cell under ∙ ap Some (sym is))
+  cell_placed = grind (arith, there, slice_get-get_or)
 
   own_order : list_all (λ (c : List ℕ × ModelColumn). is_sorted nat_cmp c.1.cells.items) columns ≡ true → is_sorted nat_cmp cells ≡ true
-  own_order sorted =
-      ap (is_sorted nat_cmp) items
-      ∙ all_at (λ (c : List ℕ × ModelColumn). is_sorted nat_cmp c.1.cells.items) columns k column sorted (slice_get-get_or columns k column below ∙ ap Some (sym read))
+  own_order = grind (arith, all_at, slice_get-get_or)
 
   -- so the index has 32 bits if the number has
   pub cell_index : list_all (λ (c : List ℕ × ModelColumn). is_sorted nat_cmp c.1.cells.items) columns ≡ true → m ≤ cell.0
-  cell_index sorted = subst (λ (e : ℕ × Number). m ≤ e.0) (sym is) (index_within cells m cell (own_order sorted) under)
+  cell_index = grind (arith, index_within, own_order)
 
   pub cell_noted : list_all (λ (c : List ℕ × ModelColumn). is_sorted nat_cmp c.1.cells.items) columns ≡ true
       → (i : ℕ) → noted columns k (m + 1) i ≡ noted columns k m i ++ column_if (eq_by_cmp nat_cmp (suc i) cell.0) k
-  cell_noted sorted i =
-      let ordered : is_sorted nat_cmp (cells_of columns k) ≡ true = ap (is_sorted nat_cmp) (sym there) ∙ own_order sorted in
-      let number : (get_or (cells_of columns k) m cell).0 ≡ cell.0 = ap (λ (es : List (ℕ × Number)). (get_or es m cell).0) (sym there) ∙ ap (λ (e : ℕ × Number). e.0) (sym is) in
-      noted_more columns k m cell (subst (λ (es : List (ℕ × Number)). m < length es) there under) (once-sorted nat_cmp nat_cmp_total (cells_of columns k) ordered) i
-      ∙ ap (λ (n : ℕ). noted columns k m i ++ column_if (eq_by_cmp nat_cmp (suc i) n) k) number
+  cell_noted = grind (arith, there, own_order, noted_more, once-sorted, nat_cmp_total)
 
   pub cell_within : (rows : ℕ) → All (λ (c : List ℕ × ModelColumn). AreWithin rows c.1.cells.items) columns → cell.0 ≤ rows
-  cell_within rows within =
-      let whole : cells ≡ (get_or columns k column).1.cells.items = items ∙ ap (λ (c : List ℕ × ModelColumn). c.1.cells.items) read in
-      let inside : m < length (get_or columns k column).1.cells.items = subst (λ (es : List (ℕ × Number)). m < length es) whole under in
-      subst (λ (n : ℕ). n ≤ rows) (ap (λ (es : List (ℕ × Number)). (get_or es m cell).0) (sym whole) ∙ ap (λ (e : ℕ × Number). e.0) (sym is))
-      (within k column below m cell inside)
+  cell_within = grind arith
 
 -- a column whose coefficients are all noted
 pub column_noted : (columns : List (List ℕ × ModelColumn)) (k : ℕ) (column : List ℕ × ModelColumn) (cells : List (ℕ × Number)) (m : ℕ) → k < length columns → column ≡ get_or columns k column
     → cells ≡ column.1.cells.items → length cells ≡ m → (i : ℕ) → noted columns k m i ≡ columns_with columns (suc i) (k + 1)
-column_noted columns k column cells m below read items all i =
-    ap (λ (n : ℕ). noted columns k n i) (sym all ∙ ap length (items ∙ cells_read columns k column below read)) ∙ noted_all columns k i
+column_noted = grind (arith, cells_read, noted_all)
 
 -- ---- how long the lists are
 
 rising : (f : ℕ → ℕ) → ((j : ℕ) → f j ≤ f (suc j)) → (j r : ℕ) → f j ≤ f (j + r)
-rising f step j zero = let same : f j ≤ f j = omega arith in subst (λ (n : ℕ). f j ≤ f n) (sym (add-zero j)) same
-rising f step j (suc r) =
-    let before = rising f step j r in
-    let last = step (j + r) in
-    subst (λ (n : ℕ). f j ≤ f n) (sym (add-suc j r)) (le_trans before last)
+rising f step j zero = grind arith
+rising f step j (suc r) = grind (arith, rising f step j r)
 
 column_one : (has : Bool) (column : ℕ) → length (column_if has column) ≤ 1
-column_one true column = omega arith
-column_one false column = omega arith
+column_one = grind arith
 
 with_more : (columns : List (List ℕ × ModelColumn)) (n k : ℕ) → length (columns_with columns n (suc k)) ≡ length (columns_with columns n k) + length (column_if (has_number n (cells_of columns k)) k)
-with_more columns n k = ap length (ap (columns_with columns n) (sym (add-one k)) ∙ columns_more columns n k) ∙ length-append (columns_with columns n k) (column_if (has_number n (cells_of columns k)) k)
+with_more columns n k = grind (arith, add-one k, columns_more columns n k, length-append)
 
 with_few : (columns : List (List ℕ × ModelColumn)) (n k : ℕ) → length (columns_with columns n k) ≤ k
 with_few columns n zero = omega arith
-with_few columns n (suc k) =
-    let before = with_few columns n k in
-    let more = with_more columns n k in
-    let last = column_one (has_number n (cells_of columns k)) k in
-    omega arith
+with_few columns n (suc k) = grind (arith, with_few columns n k, with_more, column_one)
 
 with_rise : (columns : List (List ℕ × ModelColumn)) (n j k : ℕ) → j ≤ k → length (columns_with columns n j) ≤ length (columns_with columns n k)
 with_rise columns n j k below =
@@ -152,31 +97,17 @@ with_rise columns n j k below =
     (rising (λ (l : ℕ). length (columns_with columns n l)) (λ l. let more = with_more columns n l in omega arith) j (k - j))
 
 one_of_both : (a b : Option Number) (column : ℕ) → length (column_if (is_some a) column) ≤ length (column_if (is_some (or_else a b)) column)
-one_of_both None b column = omega arith
-one_of_both (Some x) b column = omega arith
+one_of_both = grind arith
 
 noted_within : (columns : List (List ℕ × ModelColumn)) (k m i : ℕ) → length (noted columns k m i) ≤ length (columns_with columns (suc i) (suc k))
 noted_within columns k m i =
-    let n = suc i in
-    let cells = cells_of columns k in
-    let taken = find nat_cmp n (take m cells) in
-    let both : or_else taken (find nat_cmp n (drop m cells)) ≡ find nat_cmp n cells = sym (find-two nat_cmp n (take m cells) (drop m cells)) ∙ ap (find nat_cmp n) (take-append-drop m cells) in
-    let part = subst (λ (o : Option Number). length (column_if (is_some taken) k) ≤ length (column_if (is_some o) k)) both (one_of_both taken (find nat_cmp n (drop m cells)) k) in
-    let split = length-append (columns_with columns n k) (column_if (is_some taken) k) in
-    let more = with_more columns n k in
-    omega arith
+    grind (arith, find-two, take-append-drop m (cells_of columns k), one_of_both, length-append, with_more columns (suc i) k)
 
 pub noted_few : (columns : List (List ℕ × ModelColumn)) (k m i : ℕ) → k < length columns → length (noted columns k m i) ≤ length columns
-noted_few columns k m i below =
-    let part = noted_within columns k m i in
-    let few = with_few columns (suc i) (suc k) in
-    omega arith
+noted_few columns k m i below = search (rules, noted_within, with_few)
 
 pub noted_fits : (columns : List (List ℕ × ModelColumn)) (k m i : ℕ) → k < length columns → length (noted columns k m i) ≤ length (columns_with columns (suc i) (length columns))
-noted_fits columns k m i below =
-    let part = noted_within columns k m i in
-    let rest = with_rise columns (suc i) (suc k) (length columns) below in
-    omega arith
+noted_fits columns k m i below = grind (arith, noted_within columns k m i, with_rise columns (suc i) (suc k) (length columns) below)
 
 -- ---- where the lists start
 
@@ -189,24 +120,12 @@ starts_rise columns i j below =
 places_apart : (columns : List (List ℕ × ModelColumn)) (i r p q : ℕ)
     → p < length (columns_with columns (suc i) (length columns)) → q < length (columns_with columns (suc r) (length columns))
     → start_of columns i + p ≡ start_of columns r + q → i ≡ r
-places_apart columns i r p q under over same = by (cases_order i r)
-  where
-    by : (i ≡ r) ⊎ ((i < r) ⊎ (r < i)) → i ≡ r
-    by (inl e) = e
-    by (inr (inl before)) = let far : start_of columns (suc i) ≤ start_of columns r = starts_rise columns (suc i) r before in absurd (omega arith)
-    by (inr (inr after)) = let far : start_of columns (suc r) ≤ start_of columns i = starts_rise columns (suc r) i after in absurd (omega arith)
+places_apart columns i r p q under over same = grind (arith, cases_order i r, starts_rise columns (suc i) r, starts_rise columns (suc r) i)
 
 pub sums_are_starts : (columns : List (List ℕ × ModelColumn)) (rows : ℕ) (counts : List ℕ) → AreCounts columns rows counts → (i : ℕ) → i ≤ rows → sum (take (suc i) counts) ≡ start_of columns i
-sums_are_starts columns rows counts are zero below =
-    let some : 0 < length counts = let len = are.len in omega arith in
-    ap sum (take_more counts 0 0 some) ∙ zero-add (get_or counts 0 0) ∙ are.objective
+sums_are_starts columns rows counts are zero below = grind arith
 sums_are_starts columns rows counts are (suc i) below =
-    let some : suc i < length counts = let len = are.len in omega arith in
-    let x = get_or counts (suc i) 0 in
-    ap (λ (n : ℕ). sum (take n counts)) (sym (add-one (suc i)))
-    ∙ ap sum (take_more counts (suc i) 0 some)
-    ∙ fold_push (λ (a x : ℕ). a + x) 0 (take (suc i) counts) x
-    ∙ (λ t. sums_are_starts columns rows counts are i (omega arith) t + are.own i (omega arith) t)
+    grind (arith, sums_are_starts columns rows counts are i, add-one (suc i), take_more counts (suc i) 0, fold_push)
 
 -- ---- column by column
 
@@ -217,24 +136,18 @@ pub record AreCounted (rows : ℕ) (lists : ℕ → List ℕ) (counts : List ℕ
   pub own : (i : ℕ) → i < rows → get_or counts (suc i) 0 ≡ length (lists i)
 
 pub counted_same : {rows : ℕ} {own next : ℕ → List ℕ} {counts : List ℕ} → ((i : ℕ) → own i ≡ next i) → AreCounted rows own counts → AreCounted rows next counts
-counted_same {rows} {own} {next} {counts} same are = subst (λ (lists : ℕ → List ℕ). AreCounted rows lists counts) (λ t i. same i t) are
+counted_same = grind arith
 
 pub counted_few : {rows : ℕ} {own : ℕ → List ℕ} {counts : List ℕ} (most : ℕ) → AreCounted rows own counts → ((i : ℕ) → length (own i) ≤ most) → (n : ℕ) → n ≤ rows → get_or counts n 0 ≤ most
-counted_few {rows} {own} {counts} most are few zero within = let none = are.objective in omega arith
-counted_few {rows} {own} {counts} most are few (suc i) within =
-    let count = are.own i within in
-    let bound = few i in
-    omega arith
+counted_few {rows} {own} {counts} most are few zero within = grind arith
+counted_few {rows} {own} {counts} most are few (suc i) within = grind arith
 
 column_length : (has : Bool) (column : ℕ) → length (column_if has column) ≡ cond has 1 0
-column_length true column = refl
-column_length false column = refl
+column_length = grind arith
 
 one_longer : (own next : ℕ → List ℕ) (number column : ℕ) → ((i : ℕ) → next i ≡ own i ++ column_if (eq_by_cmp nat_cmp (suc i) number) column)
     → (i : ℕ) → length (next i) ≡ length (own i) + cond (eq_by_cmp nat_cmp (suc i) number) 1 0
-one_longer own next number column more i =
-    let tied = eq_by_cmp nat_cmp (suc i) number in
-    ap length (more i) ∙ length-append (own i) (column_if tied column) ∙ ap (λ (l : ℕ). length (own i) + l) (column_length tied column)
+one_longer = grind (arith, length-append, column_length)
 
 pub counted_more : {rows : ℕ} {own next : ℕ → List ℕ} {old new : List ℕ} (number column : ℕ) → AreCounted rows own old
     → ((i : ℕ) → next i ≡ own i ++ column_if (eq_by_cmp nat_cmp (suc i) number) column)
@@ -250,7 +163,7 @@ abbrev pub IsListed : List (List ℕ × ModelColumn) → ℕ → ℕ → RowElem
 IsListed columns n column element = (element.column ≡ column) × IsPlaced columns n element
 
 pub listed_same : (columns : List (List ℕ × ModelColumn)) (n : ℕ) {j k : ℕ} {e f : RowElement} → j ≡ k → e ≡ f → IsListed columns n j e → IsListed columns n k f
-listed_same columns n same moved listed = (ap (λ (e : RowElement). e.column) (sym moved) ∙ listed.0 ∙ same, subst (IsPlaced columns n) moved listed.1)
+listed_same = grind arith
 
 -- the lists so far, each from its start to its end
 pub record ArePut (columns : List (List ℕ × ModelColumn)) (rows : ℕ) (own : ℕ → List ℕ) (row_ends : List ℕ) (list : List RowElement) : Type 0 where
@@ -261,14 +174,14 @@ pub record ArePut (columns : List (List ℕ × ModelColumn)) (rows : ℕ) (own :
   pub put : (i p : ℕ) (d : RowElement) → i < rows → p < length (own i) → IsListed columns (suc i) (get_or (own i) p 0) (get_or list (start_of columns i + p) d)
 
 pub put_same : {columns : List (List ℕ × ModelColumn)} {rows : ℕ} {own next : ℕ → List ℕ} {ends : List ℕ} {list : List RowElement} → ((i : ℕ) → own i ≡ next i) → ArePut columns rows own ends list → ArePut columns rows next ends list
-put_same {columns} {rows} {own} {next} {ends} {list} same are = subst (λ (lists : ℕ → List ℕ). ArePut columns rows lists ends list) (λ t i. same i t) are
+put_same = grind arith
 
 -- there is room for a coefficient that is not noted yet
 pub put_fits : {columns : List (List ℕ × ModelColumn)} {rows : ℕ} {own next : ℕ → List ℕ} {row_ends : List ℕ} {list : List RowElement} (number column : ℕ) → ArePut columns rows own row_ends list → number ≤ rows
     → ((i : ℕ) → next i ≡ own i ++ column_if (eq_by_cmp nat_cmp (suc i) number) column)
     → ((i : ℕ) → length (next i) ≤ length (columns_with columns (suc i) (length columns)))
     → 0 < number → get_or row_ends number 0 < length list
-put_fits zero column are below more fits some = absurd (omega arith)
+put_fits zero column are below more fits some = grind arith
 put_fits {columns} {rows} {own} {next} {row_ends} {list} (suc i) column are below more fits some =
     let longer : length (next i) ≡ length (own i) + 1 = one_longer own next (suc i) column more i ∙ ap (λ (b : Bool). length (own i) + cond b 1 0) (number_tied (suc i) (suc i) refl) in
     let end = are.ends i below in
@@ -280,13 +193,14 @@ put_fits {columns} {rows} {own} {next} {row_ends} {list} (suc i) column are belo
 -- before the first column
 pub put_none : (columns : List (List ℕ × ModelColumn)) (rows : ℕ) (counts starts : List ℕ) (list : List RowElement) → AreCounts columns rows counts → length starts ≡ length counts
     → ((i : ℕ) → i < length counts → get_or starts i 0 ≡ sum (take i counts)) → length list ≡ sum counts → ArePut columns rows (λ i. columns_with columns (suc i) 0) starts list
-put_none columns rows counts starts list are len sums room = record {
-  len = len ∙ are.len;
-  room = room ∙ ap sum (sym (take_all (suc rows) counts (let some = are.len in omega arith))) ∙ sums_are_starts columns rows counts are rows (omega arith);
-  objective = sums 0 (let some = are.len in omega arith);
-  ends = λ i below. sums (suc i) (let some = are.len in omega arith) ∙ sums_are_starts columns rows counts are i (omega arith) ∙ sym (add-zero (start_of columns i));
-  put = λ i p d below under. absurd (omega arith);
-}
+put_none columns rows counts starts list are len sums room =
+    grind (
+      arith,
+      take_all (suc rows) counts,
+      sums_are_starts columns rows counts are rows,
+      sums_are_starts columns rows counts are,
+      add-zero,
+    )
 
 module _ (columns : List (List ℕ × ModelColumn)) (rows : ℕ) (own next : ℕ → List ℕ) (old_ends : List ℕ) (old_list : List RowElement) (ends : List ℕ) (list : List RowElement) (number column : ℕ)
     (are : ArePut columns rows own old_ends old_list)
@@ -301,78 +215,31 @@ module _ (columns : List (List ℕ × ModelColumn)) (rows : ℕ) (own next : ℕ
   -- the place that is written is in the list of another row
   elsewhere : (i p : ℕ) → p < length (own i) → eq_by_cmp nat_cmp (suc i) number ≡ false → 0 < number → start_of columns i + p ≡ get_or old_ends number 0 → ⊥
   elsewhere i p under other some same =
-      let r = number - 1 in
-      let is : number ≡ suc r = omega arith in
-      let below : r < rows = omega arith in
-      let tied : eq_by_cmp nat_cmp (suc r) number ≡ true = number_tied (suc r) number (sym is) in
-      let longer : length (next r) ≡ length (own r) + 1 = next_length r ∙ ap (λ (b : Bool). length (own r) + cond b 1 0) tied in
-      let within : length (own r) < length (columns_with columns (suc r) (length columns)) = let fit = fits r in omega arith in
-      let alike : length (next i) ≡ length (own i) + 0 = next_length i ∙ ap (λ (b : Bool). length (own i) + cond b 1 0) other in
-      let under_all : p < length (columns_with columns (suc i) (length columns)) = let fit = fits i in omega arith in
-      let one = places_apart columns i r p (length (own r)) under_all within (same ∙ ap (λ (n : ℕ). get_or old_ends n 0) is ∙ are.ends r below) in
-      let tie : eq_by_cmp nat_cmp (suc i) number ≡ true = number_tied (suc i) number (ap (λ (n : ℕ). suc n) one ∙ sym is) in
-      both_ways (eq_by_cmp nat_cmp (suc i) number) other tie
+      grind (
+        arith,
+        number_tied (suc (number - 1)) number,
+        next_length (number - 1),
+        next_length i,
+        places_apart columns i (number - 1) p (length (own (number - 1))),
+        number_tied (suc i) number,
+      )
 
   put_own : (i p : ℕ) (d : RowElement) → i < rows → p < length (next i) → eq_by_cmp nat_cmp (suc i) number ≡ true → IsListed columns (suc i) (get_or (next i) p 0) (get_or list (start_of columns i + p) d)
-  put_own i p d below under tie = by (cases_lt p (length (own i)))
-    where
-      is : suc i ≡ number
-      is = number_same (suc i) number tie
-
-      now : next i ≡ own i ++ column ∷ []
-      now = more i ∙ ap (λ (b : Bool). own i ++ column_if b column) tie
-
-      longer : length (next i) ≡ length (own i) + 1
-      longer = next_length i ∙ ap (λ (b : Bool). length (own i) + cond b 1 0) tie
-
-      end : get_or old_ends number 0 ≡ start_of columns i + length (own i)
-      end = ap (λ (n : ℕ). get_or old_ends n 0) (sym is) ∙ are.ends i below
-
-      by : (p < length (own i)) ⊎ (length (own i) ≤ p) → IsListed columns (suc i) (get_or (next i) p 0) (get_or list (start_of columns i + p) d)
-      by (inl before) =
-          let last = end in
-          listed_same columns (suc i)
-          (sym (get_or_append_left (own i) (column ∷ []) 0 p before) ∙ ap (λ (l : List ℕ). get_or l p 0) (sym now))
-          (sym (kept (start_of columns i + p) d (λ some same. omega arith)))
-          (are.put i p d below before)
-      by (inr after) =
-          let whole : length (own i) ≡ p = let len = longer in omega arith in
-          listed_same columns (suc i)
-          (sym (get_or_push (own i) column 0 p whole) ∙ ap (λ (l : List ℕ). get_or l p 0) (sym now))
-          (ap (λ (q : ℕ). get_or list q d) (end ∙ ap (λ (q : ℕ). start_of columns i + q) whole))
-          (subst (λ (n : ℕ). IsListed columns n column (get_or list (get_or old_ends number 0) d)) (sym is) (placed (let same = is in omega arith) d))
+  put_own = grind (arith, cases_lt, number_same, next_length, listed_same, get_or_append_left, get_or_push)
 
   put_other : (i p : ℕ) (d : RowElement) → i < rows → p < length (next i) → eq_by_cmp nat_cmp (suc i) number ≡ false → IsListed columns (suc i) (get_or (next i) p 0) (get_or list (start_of columns i + p) d)
-  put_other i p d below under other =
-      let now : next i ≡ own i = more i ∙ ap (λ (b : Bool). own i ++ column_if b column) other ∙ append-nil (own i) in
-      let inside : p < length (own i) = subst (λ (l : List ℕ). p < length l) now under in
-      listed_same columns (suc i) (ap (λ (l : List ℕ). get_or l p 0) (sym now)) (sym (kept (start_of columns i + p) d (elsewhere i p inside other))) (are.put i p d below inside)
+  put_other i p d below under other = grind (arith, append-nil (own i), listed_same columns (suc i), elsewhere i p)
 
   put_at : (i p : ℕ) (d : RowElement) → i < rows → p < length (next i) → IsListed columns (suc i) (get_or (next i) p 0) (get_or list (start_of columns i + p) d)
-  put_at i p d below under = by (cases_Bool (eq_by_cmp nat_cmp (suc i) number))
-    where
-      by : (eq_by_cmp nat_cmp (suc i) number ≡ true) ⊎ (eq_by_cmp nat_cmp (suc i) number ≡ false) → IsListed columns (suc i) (get_or (next i) p 0) (get_or list (start_of columns i + p) d)
-      by (inl tie) = put_own i p d below under tie
-      by (inr other) = put_other i p d below under other
+  put_at = grind (arith, cases_Bool, put_own, put_other)
 
   pub put_more : length ends ≡ length old_ends → length list ≡ length old_list → get_or ends 0 0 ≡ get_or old_ends 0 0 → HasCounted number old_ends ends → ArePut columns rows next ends list
-  put_more ends_len list_len objective counted = record {
-    len = ends_len ∙ are.len;
-    room = list_len ∙ are.room;
-    objective = objective ∙ are.objective;
-    ends = λ i below.
-        let now = counted i in
-        let old = are.ends i below in
-        let longer = next_length i in
-        omega arith;
-    put = put_at;
-  }
+  put_more = grind (arith, next_length, put_at)
 
 -- with all columns the lists are done
 module _ (columns : List (List ℕ × ModelColumn)) (rows : ℕ) (lists : RowLists) (are : ArePut columns rows (λ i. columns_with columns (suc i) (length columns)) lists.starts.items lists.elements.items) where
   all_starts : (i : ℕ) → i ≤ rows → get_or lists.starts.items i 0 ≡ start_of columns i
-  all_starts zero below = are.objective
-  all_starts (suc i) below = are.ends i below
+  all_starts = grind arith
 
   module _ (i : ℕ) (below : i < rows) where
     abbrev own_columns : List ℕ
@@ -383,27 +250,13 @@ module _ (columns : List (List ℕ × ModelColumn)) (rows : ℕ) (lists : RowLis
     filled = take (length own_columns) (drop (start_of columns i) lists.elements.items)
 
     list_filled : list_at lists i ≡ filled
-    list_filled =
-        let start = start_of columns i in
-        let count = length own_columns in
-        let first : get_or lists.starts.items i 0 ≡ start = all_starts i (omega arith) in
-        let end : get_or lists.starts.items (suc i) 0 ≡ start + count = all_starts (suc i) below in
-        let taken : start + count - start ≡ count = omega arith in
-        (λ t. take (end t - first t) (drop (first t) lists.elements.items)) ∙ ap (λ (n : ℕ). take n (drop start lists.elements.items)) taken
+    list_filled = grind (arith, all_starts)
 
     filled_length : length filled ≡ length own_columns
-    filled_length =
-        let far : start_of columns (suc i) ≤ start_of columns rows = starts_rise columns (suc i) rows below in
-        let left = length-drop (start_of columns i) lists.elements.items in
-        let room = are.room in
-        length-take-le (length own_columns) (drop (start_of columns i) lists.elements.items) (omega arith)
+    filled_length = grind (arith, starts_rise columns (suc i) rows below, length-drop, length-take-le)
 
     filled_at : (p : ℕ) (d : RowElement) → p < length filled → IsListed columns (suc i) (get_or own_columns p 0) (get_or filled p d)
-    filled_at p d under =
-        let inside : p < length own_columns = subst (λ (n : ℕ). p < n) filled_length under in
-        listed_same columns (suc i) refl
-        (sym (get_or-take (length own_columns) (drop (start_of columns i) lists.elements.items) p d inside ∙ get_or-drop (start_of columns i) lists.elements.items p d))
-        (are.put i p d below inside)
+    filled_at = grind (arith, filled_length, listed_same, get_or-take, get_or-drop)
 
     own_filled : map (λ (e : RowElement). e.column) filled ≡ own_columns
     own_filled =
@@ -416,25 +269,9 @@ module _ (columns : List (List ℕ × ModelColumn)) (rows : ℕ) (lists : RowLis
         get_or-map column filled p none 0 inside ∙ (filled_at p none inside).0)
 
   pub lists_from_put : AreByRow columns rows lists
-  lists_from_put = record {
-    len = are.len;
-    starts = all_starts;
-    room = are.room;
-    own = λ i below. ap (map (λ (e : RowElement). e.column)) (list_filled i below) ∙ own_filled i below;
-    placed = λ i below. subst (All (IsPlaced columns (suc i))) (sym (list_filled i below)) (λ p d under. (filled_at i below p d under).1);
-  }
+  lists_from_put = grind (arith, all_starts, list_filled, own_filled, filled_at)
 
 -- ---- the list of a row
 
 pub has_list : {columns : List (List ℕ × ModelColumn)} {rows : ℕ} {lists : RowLists} → AreByRow columns rows lists → (i : ℕ) → i < rows → HasList lists i
-has_list {columns} {rows} {lists} are i below =
-    let start = are.starts i (omega arith) in
-    let end = are.starts (suc i) below in
-    let len = are.len in
-    let room = are.room in
-    let far : start_of columns (suc i) ≤ start_of columns rows = starts_rise columns (suc i) rows below in
-    record {
-      row = omega arith;
-      order = omega arith;
-      room = omega arith;
-    }
+has_list {columns} {rows} {lists} are i below = grind (arith, starts_rise columns (suc i) rows below)

@@ -1,19 +1,14 @@
 -- Coefficients with the final numbers of their rows.
-use Rattle.std.proofs.Common.{◌≡◌, refl, sym, ap, subst, ◌∙◌, ℕ, zero, suc, ◌<◌, List, [], ◌∷◌, true, false, cond, map, not, arith, IsPermutation}
-use Rattle.std.specs.Prelude.{Option, Some, None, filter}
-use Rattle.std.specs.Cmp.{nat_cmp_total, both_ways}
-use Rattle.std.specs.Ordering.{nat_cmp, is_lt, eq_by_cmp}
-use Rattle.std.specs.List.{All}
-use Rattle.std.specs.FinMap.{find, is_sorted, nat_cmp-IsAntisymmetric}
-use Rattle.std.proofs.lemmas.List.Sorted.{IsPermutation-sym, IsPermutation-trans, IsPermutation-map, All-permutation}
+use Rattle.std.proofs.Common.{◌≡◌, refl, sym, ap, subst, ◌∙◌, ℕ, zero, suc, ◌<◌, List, [], ◌∷◌, true, cond, map, not, arith}
+use Rattle.std.proofs.{Common.IsPermutation, lemmas.List.Sorted.{IsPermutation-sym, IsPermutation-trans, IsPermutation-map}}
+use Rattle.std.{proofs.lemmas.List.Sorted.All-permutation, specs.{Prelude.{Option, Some, None, filter}, Cmp.nat_cmp_total}}
+use Rattle.std.specs.{Ordering.{nat_cmp, is_lt}, List.All, FinMap.{find, is_sorted, nat_cmp-IsAntisymmetric}, Option.option_and_then}
 use Rattle.mpslp_decimal.specs.Decimal.{Number, is_zero}
-use Rattle.mpslp_types.proofs.BoolLemmas.{T_from, true_from}
-use Rattle.std.specs.Option.{option_and_then}
-use Rattle.mpslp_types.proofs.EachLemmas.{Each, Each-filter, Each-weaker}
-use Rattle.mpslp_model_core.specs.Numbered.{sorted_of, is_kept, IsOnceBy}
-use Rattle.mpslp_model_core.proofs.CellLemmas.{number_same, number_tied}
-use Rattle.mpslp_model_core.proofs.SortedLemmas.{sorted_of-alike, sorted_of-sorted, find-sorted_of, is_sorted-sorted_of}
-use Rattle.mpslp_model_core.proofs.OnceLemmas.{NeverFalls, find-filter, once-sorted, is_sorted-filter, filter-permutation, once-filter, once-permutation, find-permutation, sorted_of-permutation, permuted-is_map}
+use Rattle.mpslp_types.proofs.{BoolLemmas.{T_from, true_from}, EachLemmas.{Each, Each-filter, Each-weaker}}
+use Rattle.mpslp_model_core.{specs.Numbered.{sorted_of, is_kept, IsOnceBy}, proofs.SortedLemmas.{sorted_of-alike, sorted_of-sorted}}
+use Rattle.mpslp_model_core.proofs.{SortedLemmas.{find-sorted_of, is_sorted-sorted_of}, OnceLemmas.{NeverFalls, find-filter, once-sorted}}
+use Rattle.mpslp_model_core.proofs.OnceLemmas.{is_sorted-filter, filter-permutation, once-filter, once-permutation, find-permutation}
+use Rattle.mpslp_model_core.proofs.OnceLemmas.{sorted_of-permutation, permuted-is_map}
 
 -- a property at each index is one of each item
 pub each-from_all : {X : Type 0} (P : X → Type 0) (xs : List X) → All P xs → Each P xs
@@ -48,23 +43,15 @@ module _ (bound : ℕ) (rank : ℕ → ℕ) (apart : KeepsApart bound rank) wher
   -- what is found at a final number is the value of the earlier number
   pub find-renamed : (n : ℕ) (es : List (ℕ × Number)) → n < bound → Each (λ e. e.0 < bound) es → find nat_cmp (rank n) (renamed rank es) ≡ find nat_cmp n es
   find-renamed n [] h within = refl
-  find-renamed n (e ∷ es) h within =
-      let same = both_ways (eq_by_cmp nat_cmp (rank n) (rank e.0)) (eq_by_cmp nat_cmp n e.0)
-      (λ tie. number_tied n e.0 (apart n e.0 h within.0 (number_same (rank n) (rank e.0) tie)))
-      (λ tie. number_tied (rank n) (rank e.0) (ap rank (number_same n e.0 tie))) in
-      λ i. cond (same i) (Some e.1) (find-renamed n es h within.1 i)
+  find-renamed n (e ∷ es) h within = grind (arith, find-renamed n es h within.1)
 
   pub once-renamed : (es : List (ℕ × Number)) → Each (λ e. e.0 < bound) es → IsOnceBy nat_cmp es → IsOnceBy nat_cmp (renamed rank es)
   once-renamed [] within once = tt
-  once-renamed (e ∷ es) within once = (find-renamed e.0 es within.0 within.1 ∙ once.0, once-renamed es within.1 once.1)
+  once-renamed (e ∷ es) within once = grind (arith, once-renamed es within.1 once.1, find-renamed)
 
   renamed-kept : (es : List (ℕ × Number)) → filter is_kept (renamed rank es) ≡ renamed rank (filter is_kept es)
   renamed-kept [] = refl
-  renamed-kept (e ∷ es) =
-      elim (is_kept e) as (λ b. cond b ((rank e.0, e.1) ∷ filter is_kept (renamed rank es)) (filter is_kept (renamed rank es)) ≡ renamed rank (cond b (e ∷ filter is_kept es) (filter is_kept es))) [
-        | true ↦ ap (λ (more : List (ℕ × Number)). (rank e.0, e.1) ∷ more) (renamed-kept es)
-        | false ↦ renamed-kept es
-      ]
+  renamed-kept (e ∷ es) = grind (arith, renamed-kept es)
 
   -- The coefficients in any order give the renumbered ones of the map.
   pub moved-from_any_order : (es ys : List (ℕ × Number)) → IsOnceBy nat_cmp es → Each (λ e. e.0 < bound) es → IsPermutation (renamed rank (filter is_kept es)) ys

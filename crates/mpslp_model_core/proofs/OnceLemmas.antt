@@ -1,29 +1,18 @@
 -- Entries with distinct keys: what is found does not depend on their order.
-use Rattle.std.proofs.Common.{◌≡◌, refl, sym, ap, subst, ◌∙◌, ℕ, zero, suc, ◌<◌, ◌≤◌, List, [], ◌∷◌, ◌++◌, length, get_or, Bool, true, false, cond, arith, IsPermutation}
-use Rattle.std.specs.Prelude.{Option, Some, None, is_some, filter, map}
-use Rattle.std.specs.Map.{lookup}
-use Rattle.std.specs.Option.{option_and_then}
-use Rattle.std.specs.Ordering.{is_eq, is_lt, eq_by_cmp, ordering_reverse}
-use Rattle.std.specs.Cmp.{IsTotalOrder, eq_by_cmp_equiv, first_so, second_so, tied_itself}
-use Rattle.std.specs.declared.cmp.Ordering.{Ordering}
-use Rattle.std.specs.declared.cmp.Ordering.TheVariants.{Less, Equal, Greater}
-use Rattle.std.specs.FinMap.{find, put, is_sorted}
-use Rattle.std.specs.FinMap.Entries.{below_all, by_order, find_tied}
-use Rattle.std.specs.List.{AllByRecursion}
-use Rattle.std.specs.List.Sorted.{IsSortedBy, IsStrictlySortedBy}
-use Rattle.std.proofs.lemmas.List.Sorted.{IsPermutation-refl, IsPermutation-cons, IsPermutation-trans, IsPermutation-swap, IsPermutation-append_left, sorted_far, ranks_by}
-use Rattle.mpslp_types.proofs.BoolLemmas.{both_so, T_from}
-use Rattle.mpslp_types.proofs.EachLemmas.{Each}
-use Rattle.mpslp_model_core.specs.Numbered.{sorted_of, IsOnceBy}
-use Rattle.mpslp_model_core.proofs.PutsLemmas.{equal_from}
-use Rattle.mpslp_model_core.proofs.SortedLemmas.{find-sorted_of, sorted_of-alike, sorted_of-sorted}
-use Rattle.mpslp_model_core.proofs.CellLemmas.{swapped, or_else, find-two, first_none, clear}
-use Rattle.mpslp_model_core.proofs.RunLemmas.{lookup_is_find, absent_first}
-use Rattle.mpslp_model_core.proofs.PermutationLemmas.{along_permutation}
+use Rattle.std.proofs.Common.{◌≡◌, refl, sym, ap, subst, ◌∙◌, ℕ, zero, suc, ◌<◌, ◌≤◌, List, [], ◌∷◌, ◌++◌, length, get_or, Bool, true}
+use Rattle.std.proofs.{Common.{false, cond, arith, IsPermutation}, lemmas.List.Sorted.{IsPermutation-refl, IsPermutation-cons}}
+use Rattle.std.proofs.lemmas.List.Sorted.{IsPermutation-trans, IsPermutation-swap, IsPermutation-append_left, sorted_far, ranks_by}
+use Rattle.std.specs.{Prelude.{Option, Some, None, is_some, filter, map}, Map.lookup, Option.option_and_then, Ordering.{is_eq, is_lt}}
+use Rattle.std.specs.{Ordering.eq_by_cmp, Cmp.{IsTotalOrder, first_so, second_so, tied_itself}, declared.cmp.Ordering.Ordering}
+use Rattle.std.specs.{declared.cmp.Ordering.TheVariants.{Less, Equal, Greater}, FinMap.{find, put, is_sorted, Entries.below_all}}
+use Rattle.std.specs.{FinMap.Entries.{by_order, find_tied}, List.{AllByRecursion, Sorted.{IsSortedBy, IsStrictlySortedBy}}}
+use Rattle.mpslp_types.proofs.{BoolLemmas.both_so, EachLemmas.Each}
+use Rattle.mpslp_model_core.{specs.Numbered.{sorted_of, IsOnceBy}, proofs.{PutsLemmas.equal_from, SortedLemmas.find-sorted_of}}
+use Rattle.mpslp_model_core.proofs.{SortedLemmas.{sorted_of-alike, sorted_of-sorted}, CellLemmas.{or_else, find-two, first_none, clear}}
+use Rattle.mpslp_model_core.proofs.{RunLemmas.{lookup_is_find, absent_first}, PermutationLemmas.along_permutation}
 
 pub passed : {X : Type 0} (b : Bool) (v : X) (o : Option X) → cond b (Some v) o ≡ None → (b ≡ false) × (o ≡ None)
-passed true v o h = cc
-passed false v o h = (refl, h)
+passed = grind arith
 
 pub two_heads : {X : Type 0} (x y : X) (xs : List X) → IsPermutation (x ∷ y ∷ xs) (y ∷ x ∷ xs)
 two_heads x y xs = IsPermutation-swap (x ∷ y ∷ xs) (y ∷ x ∷ xs) 0 1 (omega arith) (omega arith) refl
@@ -57,12 +46,12 @@ filter-permutation {X} p =
 
 rising_once : {K X : Type 0} (R : K → K → Ordering) (k : K) (es : List (K × X)) → AllByRecursion (λ q. R k q ≡ Less) (map (λ e. e.0) es) → find R k es ≡ None
 rising_once R k [] h = refl
-rising_once R k (e ∷ es) h = ap (λ (r : Ordering). cond (is_eq r) (Some e.1) (find R k es)) h.0 ∙ rising_once R k es h.1
+rising_once R k (e ∷ es) h = grind (arith, rising_once R k es h.1)
 
 pub once-from_rising : {K X : Type 0} (R : K → K → Ordering) (es : List (K × X)) → IsStrictlySortedBy R (map (λ e. e.0) es) → IsOnceBy R es
 unfolding IsStrictlySortedBy
 once-from_rising R [] h = tt
-once-from_rising R (e ∷ es) h = (rising_once R e.0 es h.0, once-from_rising R es h.1)
+once-from_rising R (e ∷ es) h = grind (arith, once-from_rising R es h.1, rising_once)
 
 -- ---- lists that do not descend
 
@@ -83,14 +72,6 @@ never_falls lt (x ∷ xs) h = (never_below lt x xs (λ j d l. h zero (suc j) d (
 pub never_falls-from_sort : {K X : Type 0} {R : K → K → Ordering} (o : IsTotalOrder R) (key : X → K) (xs : List X) → IsSortedBy (λ x y. is_lt (R (key x) (key y))) xs → NeverFalls (λ x y. is_lt (R (key x) (key y))) xs
 never_falls-from_sort {R = R} o key xs h = never_falls (λ x y. is_lt (R (key x) (key y))) xs (sorted_far (λ x y. is_lt (R (key x) (key y))) (ranks_by o key) xs h)
 
-below-from : {K : Type 0} {R : K → K → Ordering} (o : IsTotalOrder R) (k q : K) → eq_by_cmp R k q ≡ false → is_lt (R q k) ≡ false → is_lt (R k q) ≡ true
-below-from {R = R} o k q differ not_below = by (R k q) (R q k) (o.antisymm q k) differ not_below
-  where
-    by : (a b : Ordering) → b ≡ ordering_reverse a → is_eq a ≡ false → is_lt b ≡ false → is_lt a ≡ true
-    by Less b h e n = refl
-    by Equal b h e n = cc
-    by Greater b h e n = cc
-
 module _ {K X : Type 0} (R : K → K → Ordering) (o : IsTotalOrder R) where
   -- ---- what is found
 
@@ -99,21 +80,10 @@ module _ {K X : Type 0} (R : K → K → Ordering) (o : IsTotalOrder R) where
     found : IsOnceBy R xs → (q : K) → find R q xs ≡ find R q ys
 
   alike-skip : (x : K × X) (xs ys : List (K × X)) → AreAlike xs ys → AreAlike (x ∷ xs) (x ∷ ys)
-  alike-skip x xs ys a = record {
-    once = λ h. (sym (a.found h.1 x.0) ∙ h.0, a.once h.1);
-    found = λ h q. ap (cond (eq_by_cmp R q x.0) (Some x.1)) (a.found h.1 q);
-  }
+  alike-skip = grind arith
 
   alike-turn : (x y : K × X) (xs : List (K × X)) → AreAlike (x ∷ y ∷ xs) (y ∷ x ∷ xs)
-  alike-turn x y xs = record {
-    once = λ h.
-        let first = passed (eq_by_cmp R x.0 y.0) y.1 (find R x.0 xs) h.0 in
-        (ap (λ (b : Bool). cond b (Some x.1) (find R y.0 xs)) ((eq_by_cmp_equiv o).symm y.0 x.0 ∙ first.0) ∙ h.1.0, (first.1, h.1.1));
-    found = λ h q.
-        let first = passed (eq_by_cmp R x.0 y.0) y.1 (find R x.0 xs) h.0 in
-        swapped (eq_by_cmp R q x.0) (eq_by_cmp R q y.0) (Some x.1) (Some y.1) (find R q xs)
-        (λ a b. let tie : eq_by_cmp R x.0 y.0 ≡ true = ap is_eq (sym (o.congr q x.0 y.0 (equal_from (R q x.0) a))) ∙ b in let none : eq_by_cmp R x.0 y.0 ≡ false = first.0 in cc);
-  }
+  alike-turn = grind arith
 
   alike : (xs ys : List (K × X)) → IsPermutation xs ys → AreAlike xs ys
   alike = along_permutation AreAlike (λ xs. record { once = λ h. h; found = λ h q. refl }) alike-skip alike-turn
@@ -146,50 +116,38 @@ module _ {K X : Type 0} (R : K → K → Ordering) (o : IsTotalOrder R) where
 
   all_above : (k : K) (es : List (K × X)) → find R k es ≡ None → Each (λ e. is_lt (R e.0 k) ≡ false) es → below_all R k es ≡ true
   all_above k [] none h = refl
-  all_above k (e ∷ es) none h =
-      let first = passed (eq_by_cmp R k e.0) e.1 (find R k es) none in
-      both_so (is_lt (R k e.0)) (below_all R k es) (below-from o k e.0 first.0 h.0) (all_above k es first.1 h.1)
+  all_above k (e ∷ es) none h = grind (arith, all_above k es)
 
   -- entries with distinct keys that do not descend are sorted
   pub is_sorted-once : (es : List (K × X)) → IsOnceBy R es → NeverFalls (λ e d. is_lt (R e.0 d.0)) es → is_sorted R es ≡ true
   is_sorted-once [] once h = refl
-  is_sorted-once (e ∷ es) once h = both_so (below_all R e.0 es) (is_sorted R es) (all_above e.0 es once.0 h.0) (is_sorted-once es once.1 h.1)
+  is_sorted-once (e ∷ es) once h = grind (arith, is_sorted-once es once.1 h.1, both_so, all_above)
 
   -- entries sorted by key are the map of these entries in any order
   pub permuted-is_map : ((x y : K) → R x y ≡ Equal → x ≡ y) → (es fs : List (K × X)) → IsOnceBy R es → IsPermutation es fs → NeverFalls (λ e d. is_lt (R e.0 d.0)) fs → fs ≡ sorted_of R es
   permuted-is_map same es fs once p h =
-      sym (sorted_of-sorted R o same fs (T_from (is_sorted R fs) (is_sorted-once fs (once-permutation es fs p once) h)))
-      ∙ sorted_of-alike R o same fs es (λ q. sym (find-permutation es fs p once q))
+      grind (
+        arith,
+        sorted_of-sorted,
+        is_sorted-once,
+        once-permutation es fs p once,
+        sorted_of-alike R o same fs es,
+        find-permutation es fs p once,
+      )
 
   -- strictly ascending keys are distinct
   none_below : (k : K) (es : List (K × X)) → below_all R k es ≡ true → find R k es ≡ None
   none_below k [] h = refl
-  none_below k (e ∷ es) h =
-      ap (λ (b : Bool). cond b (Some e.1) (find R k es)) (lt_not_eq (R k e.0) (first_so (is_lt (R k e.0)) (below_all R k es) h))
-      ∙ none_below k es (second_so (is_lt (R k e.0)) (below_all R k es) h)
-    where
-      lt_not_eq : (r : Ordering) → is_lt r ≡ true → is_eq r ≡ false
-      lt_not_eq Less h = refl
-      lt_not_eq Equal h = cc
-      lt_not_eq Greater h = cc
+  none_below k (e ∷ es) h = grind (arith, none_below k es)
 
   pub once-sorted : (es : List (K × X)) → is_sorted R es ≡ true → IsOnceBy R es
   once-sorted [] h = tt
-  once-sorted (e ∷ es) h = (none_below e.0 es (first_so (below_all R e.0 es) (is_sorted R es) h), once-sorted es (second_so (below_all R e.0 es) (is_sorted R es) h))
+  once-sorted (e ∷ es) h = grind (arith, once-sorted es, none_below, first_so, second_so)
 
   -- two lists without a common key
   pub once-append : (xs ys : List (K × X)) → IsOnceBy R xs → IsOnceBy R ys → ((q : K) → is_some (find R q ys) ≡ true → find R q xs ≡ None) → IsOnceBy R (xs ++ ys)
   once-append [] ys a b h = b
-  once-append (x ∷ xs) ys a b h = (
-    find-two R x.0 xs ys ∙ ap (λ (r : Option X). or_else r (find R x.0 ys)) a.0 ∙ absent (find R x.0 ys) refl,
-    once-append xs ys a.1 b (λ q there. (passed (eq_by_cmp R q x.0) x.1 (find R q xs) (h q there)).1),
-  )
-    where
-      absent : (r : Option X) → find R x.0 ys ≡ r → find R x.0 ys ≡ None
-      absent None is = is
-      absent (Some y) is =
-          let first = passed (eq_by_cmp R x.0 x.0) x.1 (find R x.0 xs) (h x.0 (ap is_some is)) in
-          let tie : eq_by_cmp R x.0 x.0 ≡ true = ap is_eq (tied_itself o x.0) in absurd (cc)
+  once-append (x ∷ xs) ys a b h = grind (arith, once-append xs ys a.1 b, find-two, or_else, passed, tied_itself)
 
   pub once-filter : (p : K × X → Bool) (es : List (K × X)) → IsOnceBy R es → IsOnceBy R (filter p es)
   once-filter p [] h = tt
@@ -212,56 +170,24 @@ module _ {K X : Type 0} (R : K → K → Ordering) (o : IsTotalOrder R) where
 
   below-filter : (p : K × X → Bool) (k : K) (es : List (K × X)) → below_all R k es ≡ true → below_all R k (filter p es) ≡ true
   below-filter p k [] h = refl
-  below-filter p k (e ∷ es) h =
-      let here = first_so (is_lt (R k e.0)) (below_all R k es) h in
-      let rest = below-filter p k es (second_so (is_lt (R k e.0)) (below_all R k es) h) in
-      elim (p e) as (λ b. below_all R k (cond b (e ∷ filter p es) (filter p es)) ≡ true) [
-        | true ↦ both_so (is_lt (R k e.0)) (below_all R k (filter p es)) here rest
-        | false ↦ rest
-      ]
+  below-filter p k (e ∷ es) h = grind (arith, below-filter p k es)
 
   pub is_sorted-filter : (p : K × X → Bool) (es : List (K × X)) → is_sorted R es ≡ true → is_sorted R (filter p es) ≡ true
   is_sorted-filter p [] h = refl
-  is_sorted-filter p (e ∷ es) h =
-      let rest = is_sorted-filter p es (second_so (below_all R e.0 es) (is_sorted R es) h) in
-      elim (p e) as (λ b. is_sorted R (cond b (e ∷ filter p es) (filter p es)) ≡ true) [
-        | true ↦ both_so (below_all R e.0 (filter p es)) (is_sorted R (filter p es)) (below-filter p e.0 es (first_so (below_all R e.0 es) (is_sorted R es) h)) rest
-        | false ↦ rest
-      ]
+  is_sorted-filter p (e ∷ es) h = grind (arith, is_sorted-filter p es, second_so, both_so, below-filter, first_so)
 
   -- the value that is found is the same, if it passes
   pub find-filter : (p : X → Bool) (q : K) (es : List (K × X)) → IsOnceBy R es → find R q (filter (λ e. p e.1) es) ≡ option_and_then (λ x. cond (p x) (Some x) None) (find R q es)
   find-filter p q [] h = refl
-  find-filter p q (e ∷ es) h =
-      let rest = find-filter p q es h.1 in
-      elim (eq_by_cmp R q e.0) as (λ b. eq_by_cmp R q e.0 ≡ b → find R q (cond (p e.1) (e ∷ filter (λ e. p e.1) es) (filter (λ e. p e.1) es)) ≡ option_and_then (λ x. cond (p x) (Some x) None) (cond b (Some e.1) (find R q es))) [
-        | true ↦ λ tie.
-            let none : find R q es ≡ None = sym (find_tied R o q e.0 (equal_from (R q e.0) tie) es) ∙ h.0 in
-            elim (p e.1) as (λ c. find R q (cond c (e ∷ filter (λ e. p e.1) es) (filter (λ e. p e.1) es)) ≡ cond c (Some e.1) None) [
-              | true ↦ ap (λ (b : Bool). cond b (Some e.1) (find R q (filter (λ e. p e.1) es))) tie
-              | false ↦ rest ∙ ap (option_and_then (λ x. cond (p x) (Some x) None)) none
-            ]
-        | false ↦ λ differ.
-            elim (p e.1) as (λ c. find R q (cond c (e ∷ filter (λ e. p e.1) es) (filter (λ e. p e.1) es)) ≡ option_and_then (λ x. cond (p x) (Some x) None) (find R q es)) [
-              | true ↦ ap (λ (b : Bool). cond b (Some e.1) (find R q (filter (λ e. p e.1) es))) differ ∙ rest
-              | false ↦ rest
-            ]
-      ] refl
+  find-filter p q (e ∷ es) h = grind (arith, find-filter p q es h.1)
 
   pub once-left : (xs ys : List (K × X)) → IsOnceBy R (xs ++ ys) → IsOnceBy R xs
   once-left [] ys h = tt
-  once-left (x ∷ xs) ys h = (first_none (find R x.0 xs) (find R x.0 ys) (sym (find-two R x.0 xs ys) ∙ h.0), once-left xs ys h.1)
+  once-left (x ∷ xs) ys h = grind (arith, once-left xs ys h.1, first_none, find-two)
 
   pub once-apart : (xs ys : List (K × X)) → IsOnceBy R (xs ++ ys) → (q : K) → is_some (find R q ys) ≡ true → find R q xs ≡ None
   once-apart [] ys h q there = refl
-  once-apart (x ∷ xs) ys h q there =
-      elim (eq_by_cmp R q x.0) as (λ b. eq_by_cmp R q x.0 ≡ b → cond b (Some x.1) (find R q xs) ≡ None) [
-        | true ↦ λ tie.
-            let none : find R x.0 ys ≡ None = clear (find R x.0 xs) (find R x.0 ys) (sym (find-two R x.0 xs ys) ∙ h.0) in
-            let same : find R x.0 ys ≡ find R q ys = find_tied R o q x.0 (equal_from (R q x.0) tie) ys in
-            absurd (let t : is_some (find R q ys) ≡ false = ap is_some (sym same ∙ none) in cc)
-        | false ↦ λ _. once-apart xs ys h.1 q there
-      ] refl
+  once-apart (x ∷ xs) ys h q there = grind (arith, once-apart xs ys h.1 q there, clear, find-two, find_tied, equal_from)
 
   -- ---- two parts, to either of which an entry may be added
 
@@ -274,10 +200,4 @@ module _ {K X : Type 0} (R : K → K → Ordering) (o : IsTotalOrder R) where
 
   pub once-put_second : (k : K) (v : X) (xs ys zs : List (K × X)) → IsOnceBy R zs → ((q : K) → lookup (λ x. is_eq (R q x)) zs ≡ cond (is_eq (R k q)) (Some v) (lookup (λ x. is_eq (R q x)) ys))
       → find R k (sorted_of R (xs ++ ys)) ≡ None → IsOnceBy R (xs ++ ys) → IsOnceBy R (xs ++ zs)
-  once-put_second k v xs ys zs once is absent h =
-      once-append xs zs (once-left xs ys h) once
-      (λ q there.
-      elim (eq_by_cmp R k q) as (λ b. eq_by_cmp R k q ≡ b → is_some (cond b (Some v) (lookup (λ x. is_eq (R q x)) ys)) ≡ true → find R q xs ≡ None) [
-        | true ↦ λ tie _. find_tied R o k q (equal_from (R k q) tie) xs ∙ absent_first R o k xs ys absent
-        | false ↦ λ _ more. once-apart xs ys h q (ap is_some (sym (lookup_is_find R q ys)) ∙ more)
-      ] refl (ap is_some (sym (is q) ∙ lookup_is_find R q zs) ∙ there))
+  once-put_second = grind (arith, once-append, once-left, find_tied, equal_from, absent_first, once-apart, lookup_is_find)

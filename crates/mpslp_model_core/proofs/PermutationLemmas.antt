@@ -17,9 +17,9 @@ module _ {X : Type 0} (R : List X → List X → Type 0) (same : (xs : List X) �
   exchanged : (xs : List X) (i j : ℕ) (d : X) → i < length xs → j < length xs → R xs (set (set xs i (get_or xs j d)) j (get_or xs i d))
   exchanged [] i j d p q = absurd (omega arith)
   exchanged (x ∷ xs) zero zero d p q = same (x ∷ xs)
-  exchanged (x ∷ xs) zero (suc j) d p q = to_head xs j x d (omega arith)
-  exchanged (x ∷ xs) (suc i) zero d p q = to_head xs i x d (omega arith)
-  exchanged (x ∷ xs) (suc i) (suc j) d p q = skip x _ _ (exchanged xs i j d (omega arith) (omega arith))
+  exchanged (x ∷ xs) zero (suc j) d p q = grind (arith, to_head)
+  exchanged (x ∷ xs) (suc i) zero d p q = grind (arith, to_head)
+  exchanged (x ∷ xs) (suc i) (suc j) d p q = grind (arith, exchanged xs i j d)
 
   swapped : (xs : List X) (i j : ℕ) → i < length xs → j < length xs → R xs (swap xs i j)
   swapped [] i j p q = same []

@@ -1,34 +1,23 @@
 -- Entries put one after another, in any order and any number of times.
-use Rattle.std.proofs.Common.{◌≡◌, refl, sym, ap, ◌∙◌, List, [], ◌∷◌, ◌++◌, Bool, true, false, cond}
-use Rattle.std.specs.Prelude.{Option, Some, None, is_some, ◌&&◌}
-use Rattle.std.specs.Ordering.{is_eq, is_lt, eq_by_cmp}
-use Rattle.std.specs.Cmp.{IsTotalOrder, tied_itself, first_so, second_so}
-use Rattle.std.specs.declared.cmp.Ordering.{Ordering}
-use Rattle.std.specs.declared.cmp.Ordering.TheVariants.{Less, Equal, Greater}
-use Rattle.std.specs.FinMap.{find, put, is_sorted}
-use Rattle.std.specs.FinMap.Entries.{find-put, same_entries, is_sorted-put, below_all}
-use Rattle.std.proofs.Math.Dec.{T}
-use Rattle.mpslp_types.proofs.BoolLemmas.{true_from, T_from}
-use Rattle.mpslp_types.proofs.EachLemmas.{Each}
+use Rattle.std.{proofs.{Common.{arith, ◌≡◌, refl, ap, List, [], ◌∷◌, ◌++◌, Bool, true, false, cond}, Math.Dec.T}, specs.Prelude.Option}
+use Rattle.std.specs.{Prelude.{Some, is_some, ◌&&◌}, Ordering.{is_eq, is_lt, eq_by_cmp}, Cmp.{IsTotalOrder, first_so, second_so}}
+use Rattle.std.specs.{declared.cmp.Ordering.{Ordering, TheVariants.Equal}, FinMap.{find, put, is_sorted, Entries.find-put}}
+use Rattle.std.specs.FinMap.Entries.{same_entries, is_sorted-put, below_all}
+use Rattle.mpslp_types.proofs.{BoolLemmas.{true_from, T_from}, EachLemmas.Each}
 
 -- equality, by its test
 pub equal_from : (r : Ordering) → is_eq r ≡ true → r ≡ Equal
-equal_from Less h = cc
-equal_from Equal h = refl
-equal_from Greater h = cc
+equal_from = grind arith
 
 none_is : false ≡ true → ⊥
 none_is e = cc
 
 module _ {K : Type 0} (R : K → K → Ordering) (o : IsTotalOrder R) (same : (x y : K) → R x y ≡ Equal → x ≡ y) where
   tied : (k : K) → eq_by_cmp R k k ≡ true
-  tied k = ap is_eq (tied_itself o k)
+  tied = grind arith
 
   apart : (k q : K) (r : Ordering) → R k q ≡ r → is_lt r ≡ true → eq_by_cmp R q k ≡ true → ⊥
-  apart k q r e below tie =
-      let s : q ≡ k = same q k (equal_from (R q k) tie) in
-      let z : R k q ≡ Equal = ap (R k) s ∙ tied_itself o k in
-      let w : is_lt Equal ≡ true = ap is_lt (sym z ∙ e) ∙ below in cc
+  apart = grind arith
 
 module _ {K X : Type 0} (R : K → K → Ordering) where
   -- entries put one after another
@@ -48,91 +37,67 @@ module _ {K X : Type 0} (R : K → K → Ordering) where
     -- sorted entries stay sorted
     pub is_sorted-puts : (es base : List (K × X)) → T (is_sorted R base) → T (is_sorted R (puts es base))
     is_sorted-puts [] base h = h
-    is_sorted-puts (e ∷ es) base h = is_sorted-puts es (put R e.0 e.1 base) (is_sorted-put R o e.0 e.1 base h)
+    is_sorted-puts (e ∷ es) base h = grind (arith, is_sorted-puts es (put R e.0 e.1 base), is_sorted-put)
 
     part_put : (target : List (K × X)) (k : K) (v : X) (base : List (K × X)) → find R k target ≡ Some v → IsPartOf base target → IsPartOf (put R k v base) target
-    part_put target k v base own part q x found = by (eq_by_cmp R q k) refl (sym (find-put R o q k v base) ∙ found)
-      where
-        by : (b : Bool) → eq_by_cmp R q k ≡ b → cond b (Some v) (find R q base) ≡ Some x → find R q target ≡ Some x
-        by true tie is = ap (λ (y : K). find R y target) (same q k (equal_from (R q k) tie)) ∙ own ∙ is
-        by false tie is = part q x is
+    part_put = grind (arith, find-put, equal_from)
 
     part_puts : (target es base : List (K × X)) → Each (λ e. find R e.0 target ≡ Some e.1) es → IsPartOf base target → IsPartOf (puts es base) target
     part_puts target [] base h part = part
-    part_puts target (e ∷ es) base h part = part_puts target es (put R e.0 e.1 base) h.1 (part_put target e.0 e.1 base h.0 part)
+    part_puts target (e ∷ es) base h part = grind (arith, part_puts target es (put R e.0 e.1 base) h.1, part_put)
 
     kept_put : (q k : K) (v : X) (base : List (K × X)) → is_some (find R q base) ≡ true → is_some (find R q (put R k v base)) ≡ true
-    kept_put q k v base h = ap is_some (find-put R o q k v base) ∙ by (eq_by_cmp R q k)
-      where
-        by : (b : Bool) → is_some (cond b (Some v) (find R q base)) ≡ true
-        by true = refl
-        by false = h
+    kept_put = grind (arith, find-put)
 
     kept_puts : (q : K) (es base : List (K × X)) → is_some (find R q base) ≡ true → is_some (find R q (puts es base)) ≡ true
     kept_puts q [] base h = h
     kept_puts q (e ∷ es) base h = kept_puts q es (put R e.0 e.1 base) (kept_put q e.0 e.1 base h)
 
     here_put : (q k : K) (v : X) (base : List (K × X)) → eq_by_cmp R q k ≡ true → is_some (find R q (put R k v base)) ≡ true
-    here_put q k v base h = ap is_some (find-put R o q k v base) ∙ ap (λ (b : Bool). is_some (cond b (Some v) (find R q base))) h
+    here_put = grind (arith, find-put)
 
     -- what is among the entries is found after they are put
     some_puts : (q : K) (es base : List (K × X)) → is_some (find R q es) ≡ true → is_some (find R q (puts es base)) ≡ true
     some_puts q [] base h = cc
-    some_puts q (e ∷ es) base h = by (eq_by_cmp R q e.0) refl (λ is. some_puts q es (put R e.0 e.1 base) is) h
-      where
-        by : (b : Bool) → eq_by_cmp R q e.0 ≡ b → (is_some (find R q es) ≡ true → is_some (find R q (puts es (put R e.0 e.1 base))) ≡ true) → is_some (cond b (Some e.1) (find R q es)) ≡ true → is_some (find R q (puts es (put R e.0 e.1 base))) ≡ true
-        by true tie more is = kept_puts q es (put R e.0 e.1 base) (here_put q e.0 e.1 base tie)
-        by false tie more is = more is
+    some_puts q (e ∷ es) base h = grind (arith, some_puts q es (put R e.0 e.1 base), kept_puts, here_put)
 
     -- each key of a list that is found in another
     some_in : (q : K) (target es : List (K × X)) → Each (λ e. is_some (find R e.0 es) ≡ true) target → is_some (find R q target) ≡ true → is_some (find R q es) ≡ true
     some_in q [] es h found = cc
-    some_in q (e ∷ target) es h found = by (eq_by_cmp R q e.0) refl (λ is. some_in q target es h.1 is) found
-      where
-        by : (b : Bool) → eq_by_cmp R q e.0 ≡ b → (is_some (find R q target) ≡ true → is_some (find R q es) ≡ true) → is_some (cond b (Some e.1) (find R q target)) ≡ true → is_some (find R q es) ≡ true
-        by true tie more is = ap (λ (y : K). is_some (find R y es)) (same q e.0 (equal_from (R q e.0) tie)) ∙ h.0
-        by false tie more is = more is
+    some_in q (e ∷ target) es h found = grind (arith, some_in q target es h.1)
 
     alike : (a b : Option X) → ((x : X) → a ≡ Some x → b ≡ Some x) → (is_some b ≡ true → is_some a ≡ true) → a ≡ b
-    alike (Some x) b f g = sym (f x refl)
-    alike None (Some y) f g = absurd (none_is (g refl))
-    alike None None f g = refl
+    alike = grind arith
 
     -- Entries that all are those of the target, and have all of its keys, make the target.
     pub puts-give : (target es : List (K × X)) → T (is_sorted R target) → Each (λ e. find R e.0 target ≡ Some e.1) es
         → Each (λ e. is_some (find R e.0 es) ≡ true) target → puts es [] ≡ target
     puts-give target es sorted own all =
-        same_entries R o same (puts es []) target (is_sorted-puts es [] tt) sorted
-        (λ q. alike (find R q (puts es [])) (find R q target)
-        (λ x found. part_puts target es [] own (λ p y none. absurd (no_some y none)) q x found)
-        (λ there. some_puts q es [] (some_in q target es all there)))
-      where
-        no_some : (y : X) → None ≡ Some y → ⊥
-        no_some y e = cc
+        grind (
+          arith,
+          same_entries R o same (puts es []) target,
+          is_sorted-puts es [],
+          part_puts target es [] own,
+          alike,
+          some_puts,
+          some_in,
+        )
 
     -- the key of an entry in a list is found there
     pub find-front : (k : K) (v : X) (es : List (K × X)) → is_some (find R k ((k, v) ∷ es)) ≡ true
-    find-front k v es = ap (λ (b : Bool). is_some (cond b (Some v) (find R k es))) (tied R o same k)
+    find-front = grind arith
 
     -- a key that is found among some entries is found among more
     pub some_cons : (q k : K) (v : X) (es : List (K × X)) → is_some (find R q es) ≡ true → is_some (find R q ((k, v) ∷ es)) ≡ true
-    some_cons q k v es h = by (eq_by_cmp R q k)
-      where
-        by : (b : Bool) → is_some (cond b (Some v) (find R q es)) ≡ true
-        by true = refl
-        by false = h
+    some_cons = grind arith
 
     pub some_append_left : (q : K) (xs ys : List (K × X)) → is_some (find R q xs) ≡ true → is_some (find R q (xs ++ ys)) ≡ true
     some_append_left q [] ys h = cc
-    some_append_left q (x ∷ xs) ys h = by (eq_by_cmp R q x.0) (λ is. some_append_left q xs ys is) h
-      where
-        by : (b : Bool) → (is_some (find R q xs) ≡ true → is_some (find R q (xs ++ ys)) ≡ true) → is_some (cond b (Some x.1) (find R q xs)) ≡ true → is_some (cond b (Some x.1) (find R q (xs ++ ys))) ≡ true
-        by true more is = refl
-        by false more is = more is
+    some_append_left q (x ∷ xs) ys h = grind (arith, some_append_left q xs ys)
 
     pub some_append_right : (q : K) (xs ys : List (K × X)) → is_some (find R q ys) ≡ true → is_some (find R q (xs ++ ys)) ≡ true
     some_append_right q [] ys h = h
-    some_append_right q (x ∷ xs) ys h = some_cons q x.0 x.1 (xs ++ ys) (some_append_right q xs ys h)
+    some_append_right q (x ∷ xs) ys h = grind (arith, some_append_right q xs ys h)
 
     -- a sorted list finds each entry of its own
     pub finds_own : (es : List (K × X)) → T (is_sorted R es) → Each (λ e. find R e.0 es ≡ Some e.1) es

@@ -1,23 +1,14 @@
 -- Renumbering rows and sorting columns does not change the nonzero coefficients.
-use Rattle.std.proofs.Common.{◌≡◌, refl, sym, ap, ◌∙◌, ℕ, List, [], ◌∷◌, true, false, cond}
-use Rattle.std.proofs.Common.{inl, inr}
-use Rattle.std.specs.Prelude.{Option, Some, None, ◌⊎◌, filter, not}
-use Rattle.std.specs.Option.{option_map_or, option_and_then}
-use Rattle.std.specs.Ordering.{eq_by_cmp, nat_cmp}
-use Rattle.std.specs.FinMap.{find, is_sorted}
-use Rattle.std.specs.FinMap.Entries.{same_entries}
+use Rattle.std.{proofs.Common.{arith, ◌≡◌, refl, sym, ap, ◌∙◌, ℕ, List, [], ◌∷◌, true, false, cond, inl, inr}, specs.Prelude.{Option, Some}}
+use Rattle.std.specs.{Prelude.{None, ◌⊎◌, filter, not}, Option.{option_map_or, option_and_then}, Ordering.{eq_by_cmp, nat_cmp}}
+use Rattle.std.specs.FinMap.{find, is_sorted, Entries.same_entries}
 use Rattle.mpslp_decimal.specs.Decimal.{Number, is_zero}
-use Rattle.mpslp_types.specs.Name.{bytes_cmp}
-use Rattle.mpslp_model_core.specs.Model.{CoefficientKey, key_cmp}
-use Rattle.mpslp_model_core.proofs.KeyLemmas.{same_key}
-use Rattle.mpslp_model_core.proofs.PutsLemmas.{equal_from}
-use Rattle.mpslp_model_core.proofs.KeyLemmas.{key_total}
-use Rattle.mpslp_model_core.specs.Numbered.{sorted_of, is_kept, column_cells, all_cells, IsInjective, IsOnce}
-use Rattle.mpslp_types.proofs.BoolLemmas.{T_from, true_from}
-use Rattle.mpslp_model_core.proofs.SortedLemmas.{find-sorted_of, is_sorted-sorted_of}
-use Rattle.mpslp_model_core.proofs.OnceLemmas.{find-filter, once-sorted, is_sorted-filter}
-use Rattle.mpslp_model_core.proofs.MovingLemmas.{unless_zero}
-use Rattle.mpslp_model_core.proofs.CellLemmas.{at, or_else, find-two, find-all_cells}
+use Rattle.mpslp_types.{specs.Name.bytes_cmp, proofs.BoolLemmas.{T_from, true_from}}
+use Rattle.mpslp_model_core.specs.{Model.{CoefficientKey, key_cmp}, Numbered.{sorted_of, is_kept, column_cells, all_cells, IsInjective}}
+use Rattle.mpslp_model_core.{specs.Numbered.IsOnce, proofs.{KeyLemmas.{same_key, key_total}, PutsLemmas.equal_from}}
+use Rattle.mpslp_model_core.proofs.{SortedLemmas.{find-sorted_of, is_sorted-sorted_of}, OnceLemmas.{find-filter, once-sorted}}
+use Rattle.mpslp_model_core.proofs.{OnceLemmas.is_sorted-filter, MovingLemmas.unless_zero, CellLemmas.{at, or_else, find-two}}
+use Rattle.mpslp_model_core.proofs.CellLemmas.{find-all_cells}
 
 -- a row without a number has no coefficient
 module _ (name : ℕ → Option (List ℕ)) (r : List ℕ) (nameless : (n : ℕ) → name n ≡ Some r → ⊥) where
@@ -36,10 +27,7 @@ module _ (name : ℕ → Option (List ℕ)) (r : List ℕ) (nameless : (n : ℕ)
 
   pub none_in_all : (c : List ℕ) (cols : List (List ℕ × List (ℕ × Number))) → find key_cmp (at r c) (all_cells name cols) ≡ None
   none_in_all c [] = refl
-  none_in_all c (col ∷ cols) =
-      find-two key_cmp (at r c) (column_cells name col.0 col.1) (all_cells name cols)
-      ∙ ap (λ (o : Option Number). or_else o (find key_cmp (at r c) (all_cells name cols))) (none_in_column c col.0 col.1)
-      ∙ none_in_all c cols
+  none_in_all c (col ∷ cols) = grind (arith, none_in_all c cols, find-two, at, or_else, none_in_column)
 
 -- Each row keeps its name under its final number, and no other row has a name. Each column keeps its coefficients under the
 -- final numbers.

@@ -1,28 +1,16 @@
 -- Models are the same if and only if their parts are.
-use Rattle.std.proofs.Common.{◌≡◌, refl, sym, ap, ◌∙◌, ℕ, List, [], ◌∷◌, map, true, false, cond}
-use Rattle.std.specs.Prelude.{Option, Some, None, is_some}
-use Rattle.std.specs.Option.{option_and_then}
-use Rattle.std.specs.List.{list_all}
-use Rattle.std.specs.Ordering.{is_eq, eq_by_cmp, nat_cmp}
-use Rattle.std.specs.Cmp.{first_so, second_so, tied_itself, nat_cmp_total}
-use Rattle.std.specs.declared.cmp.Ordering.{Ordering}
-use Rattle.std.specs.FinMap as maps
-use Rattle.std.specs.FinMap.{find, is_sorted, nat_cmp-IsAntisymmetric}
-use Rattle.std.specs.FinMap.Entries.{same_entries}
+use Rattle.std.{proofs.Common.{arith, ◌≡◌, refl, sym, ap, ◌∙◌, ℕ, List, [], ◌∷◌, map, true, false, cond}, specs.Prelude.{Option, Some}}
+use Rattle.std.specs.{Prelude.{None, is_some}, Option.option_and_then, List.list_all, Ordering.{eq_by_cmp, nat_cmp}, Cmp.first_so}
+use Rattle.std.specs.{Cmp.{second_so, nat_cmp_total}, FinMap.{find, is_sorted, nat_cmp-IsAntisymmetric, Entries.same_entries}}
 use Rattle.mpslp_decimal.specs.Decimal.{Number}
-use Rattle.mpslp_types.specs.Name.{bytes_cmp}
-use Rattle.mpslp_types.proofs.BoolLemmas.{T_from}
-use Rattle.mpslp_model_core.specs.Model.{Column, LinearModel, key_cmp}
-use Rattle.mpslp_model_core.specs.Columned.{column_entries}
-use Rattle.mpslp_model_core.specs.ModelParts.{linear_model, AreModelParts, bounds_in, cells_in, columns_in, cells_by_name, name_of_row_key}
-use Rattle.mpslp_model_core.specs.Numbered.{sorted_of, each_part, name_of, all_cells, all_named, IsOnce}
-use Rattle.mpslp_model_core.specs.Same.{IsSameObjective}
-use Rattle.mpslp_model_core.specs.declared.model.ModelColumn.{ModelColumn}
-use Rattle.mpslp_model_core.specs.declared.model.ModelParts.{ModelParts}
-use Rattle.mpslp_model_core.proofs.KeyLemmas.{bytes_total, key_total}
-use Rattle.mpslp_model_core.proofs.SortedLemmas.{find-sorted_of}
-use Rattle.mpslp_model_core.proofs.CellLemmas.{at, find-all_cells, number_same, name_same}
+use Rattle.mpslp_types.{specs.Name.bytes_cmp, proofs.BoolLemmas.T_from}
+use Rattle.mpslp_model_core.specs.{Model.{Column, LinearModel, key_cmp}, Columned.column_entries, ModelParts.linear_model}
+use Rattle.mpslp_model_core.specs.ModelParts.{AreModelParts, bounds_in, cells_in, columns_in, cells_by_name, name_of_row_key}
+use Rattle.mpslp_model_core.specs.{Numbered.{sorted_of, each_part, name_of, all_cells, all_named, IsOnce}, Same.IsSameObjective}
+use Rattle.mpslp_model_core.{specs.declared.model.{ModelColumn.ModelColumn, ModelParts.ModelParts}, proofs.KeyLemmas.bytes_total}
+use Rattle.mpslp_model_core.proofs.{KeyLemmas.key_total, SortedLemmas.find-sorted_of, CellLemmas.{at, find-all_cells, name_same}}
 use Rattle.mpslp_model_core.proofs.ViewLemmas.{rows_seen, columns_seen, coefficients_seen, apart_in, once_in}
+use Rattle.std.specs.FinMap as maps
 
 -- each part of two models is the same
 pub record AreSameParts (v w : LinearModel) (m n : ModelParts) : Type 0 where
@@ -40,11 +28,11 @@ bounds_of columns = each_part bounds_in columns
 
 bounds_stated : (columns : List (List ℕ × ModelColumn)) → map (λ (t : List ℕ × (Column × List (ℕ × Number))). (t.0, t.1.0)) (column_entries columns) ≡ bounds_of columns
 bounds_stated [] = refl
-bounds_stated (c ∷ cs) = ap (λ (rest : List (List ℕ × Column)). (c.0, bounds_in c.1) ∷ rest) (bounds_stated cs)
+bounds_stated (c ∷ cs) = grind (arith, bounds_stated cs)
 
 cells_stated : (columns : List (List ℕ × ModelColumn)) → map (λ (t : List ℕ × (Column × List (ℕ × Number))). (t.0, t.1.1)) (column_entries columns) ≡ cells_of columns
 cells_stated [] = refl
-cells_stated (c ∷ cs) = ap (λ (rest : List (List ℕ × List (ℕ × Number))). (c.0, cells_in c.1) ∷ rest) (cells_stated cs)
+cells_stated (c ∷ cs) = grind (arith, cells_stated cs)
 
 pub same-parts : {m n : ModelParts} {v w : LinearModel} → linear_model m ≡ v → linear_model n ≡ w → AreSameParts v w m n → v ≡ w
 same-parts {m} {n} {v} {w} see seen p =
@@ -70,14 +58,7 @@ same-parts {m} {n} {v} {w} see seen p =
 -- nothing is found at a number without a row
 unnamed_cells : (name : ℕ → Option (List ℕ)) (n : ℕ) (es : List (ℕ × Number)) → name n ≡ None → list_all (λ e. is_some (name e.0)) es ≡ true → find nat_cmp n es ≡ None
 unnamed_cells name n [] none h = refl
-unnamed_cells name n (e ∷ es) none h =
-    let later = unnamed_cells name n es none (second_so (is_some (name e.0)) (list_all (λ d. is_some (name d.0)) es) h) in
-    elim (eq_by_cmp nat_cmp n e.0) as (λ b. eq_by_cmp nat_cmp n e.0 ≡ b → cond b (Some e.1) (find nat_cmp n es) ≡ None) [
-      | true ↦ λ tie.
-          let wrong : true ≡ false = sym (first_so (is_some (name e.0)) (list_all (λ d. is_some (name d.0)) es) h) ∙ ap (λ (k : ℕ). is_some (name k)) (sym (number_same n e.0 tie)) ∙ ap is_some none in
-          absurd cc
-      | false ↦ λ _. later
-    ] refl
+unnamed_cells name n (e ∷ es) none h = grind (arith, unnamed_cells name n es none)
 
 unnamed : (name : ℕ → Option (List ℕ)) (n : ℕ) (c : List ℕ) (cols : List (List ℕ × List (ℕ × Number))) → name n ≡ None → all_named name cols ≡ true → option_and_then (find nat_cmp n) (find bytes_cmp c cols) ≡ None
 unnamed name n c [] none h = refl
@@ -92,8 +73,7 @@ FindSame xs ys = (c : List ℕ) (n : ℕ) → option_and_then (find nat_cmp n) (
 
 -- the first column is found by its name
 first_found : (c : List ℕ) (name : List ℕ) (cells : List (ℕ × Number)) (cols : List (List ℕ × List (ℕ × Number))) → c ≡ name → find bytes_cmp c ((name, cells) ∷ cols) ≡ Some cells
-first_found c name cells cols same =
-    ap (λ (k : List ℕ). find bytes_cmp c ((k, cells) ∷ cols)) (sym same) ∙ ap (λ (r : Ordering). cond (is_eq r) (Some cells) (find bytes_cmp c cols)) (tied_itself bytes_total c)
+first_found = grind (arith, bytes_total)
 
 same_after : (name other : List ℕ) (a b : List (ℕ × Number)) (xs ys : List (List ℕ × List (ℕ × Number))) → name ≡ other → IsOnce ((name, a) ∷ xs) → IsOnce ((other, b) ∷ ys) → FindSame ((name, a) ∷ xs) ((other, b) ∷ ys) → FindSame xs ys
 same_after name other a b xs ys same once once_too alike c n =

@@ -1,7 +1,5 @@
-use Rattle.std.proofs.Common.{sym, ap, ◌∙◌, ℕ, [], ◌∷◌, suc, ◌+◌, length, arith}
-use Rattle.std.proofs.lemmas.List.{length-append}
-use Rattle.mpslp_model_core.specs.ByRow.{columns_with}
-use Rattle.mpslp_model_core.proofs.ByRowLemmas.{cells_rise, columns_and, columns_without}
+use Rattle.std.proofs.{Common.{sym, ap, ◌∙◌, ℕ, [], ◌∷◌, suc, ◌+◌, length, arith}, lemmas.List.length-append}
+use Rattle.mpslp_model_core.{specs.ByRow.columns_with, proofs.ByRowLemmas.{cells_rise, columns_and, columns_without}}
 use Rattle.mpslp_model_core.proofs.by_row.count_columns_with.Goals.{then-has_value_at, else-has_value_at}
 use Rattle.mpslp_model_core.proofs.by_row.count_columns_with.Goals as goal
 

@@ -1,5 +1,6 @@
 use Rattle.std.proofs.Common.{sym, length, arith}
-use Rattle.mpslp_model_core.proofs.FillLemmas.{noted_none, noted_few, cell_noted, cell_within, column_noted, counted_same, counted_few, counted_more}
+use Rattle.mpslp_model_core.proofs.FillLemmas.{noted_none, noted_few, cell_noted, cell_within, column_noted, counted_same, counted_few}
+use Rattle.mpslp_model_core.proofs.FillLemmas.{counted_more}
 use Rattle.mpslp_model_core.proofs.by_row.counts_by_row.Goals as goal
 
 pub count_cell-requires-clause-room : goal.count_cell-requires-clause-room

@@ -1,6 +1,7 @@
 use Rattle.std.proofs.Common.{◌≡◌, refl, sym, ap, suc, ◌+◌, length, arith}
-use Rattle.mpslp_model_core.specs.ByRow.{columns_with}
-use Rattle.mpslp_model_core.proofs.FillLemmas.{noted, noted_none, noted_fits, cell_noted, cell_within, cell_placed, cell_index, listed_same, column_noted, put_same, put_none, put_fits, put_more, lists_from_put}
+use Rattle.mpslp_model_core.{specs.ByRow.columns_with, proofs.FillLemmas.{noted, noted_none, noted_fits, cell_noted, cell_within}}
+use Rattle.mpslp_model_core.proofs.FillLemmas.{cell_placed, cell_index, listed_same, column_noted, put_same, put_none, put_fits, put_more}
+use Rattle.mpslp_model_core.proofs.FillLemmas.{lists_from_put}
 use Rattle.mpslp_model_core.proofs.by_row.elements_by_row.Goals as goal
 
 pub loop-number-init : goal.loop-number-init

@@ -1,7 +1,5 @@
 use Rattle.std.proofs.Common.{◌≡◌, sym, ap, ◌∙◌, ℕ, List, ◌+◌, ◌<◌, length, take, get_or, set, sum, ◌⊎◌, inl, inr, arith}
-use Rattle.std.proofs.lemmas.Bool.{cases_eq}
-use Rattle.std.proofs.lemmas.List.{length-set, take_more, get_or_read, get_or-set_same, get_or-set_other}
-use Rattle.std.proofs.lemmas.List.Sums.{fold_push}
+use Rattle.std.proofs.lemmas.{Bool.cases_eq, List.{length-set, take_more, get_or_read, get_or-set_same, get_or-set_other, Sums.fold_push}}
 use Rattle.mpslp_model_core.proofs.by_row.starts_of.Goals as goal
 
 written : (counts old : List ℕ) (i k total : ℕ) → i < length counts → total ≡ sum (take i old) → (k < i → get_or counts k 0 ≡ sum (take k old)) → k < i + 1 → (k ≡ i) ⊎ (k ≡ i → ⊥)

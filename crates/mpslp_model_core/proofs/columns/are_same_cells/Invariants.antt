@@ -1,5 +1,4 @@
-use Rattle.std.proofs.Common.{◌≡◌, length, nat_eq}
-use Rattle.std.specs.Cmp.Lexicographic.{pointwise}
+use Rattle.std.{proofs.Common.{◌≡◌, length, nat_eq}, specs.Cmp.Lexicographic.pointwise}
 use Rattle.mpslp_model_core.specs.Same.{same_cell}
 use Rattle.mpslp_model_core.proofs.columns.are_same_cells.Given as goal
 

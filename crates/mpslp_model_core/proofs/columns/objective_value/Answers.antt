@@ -1,5 +1,4 @@
-use Rattle.std.proofs.Common.{sym, ap, ◌∙◌}
-use Rattle.std.specs.Prelude.{Option, unwrap_or}
+use Rattle.std.{proofs.Common.{sym, ap, ◌∙◌}, specs.Prelude.{Option, unwrap_or}}
 use Rattle.mpslp_decimal.specs.Decimal.{Number, zero_number}
 use Rattle.mpslp_model_core.proofs.CellListLemmas.{none_first}
 use Rattle.mpslp_model_core.proofs.columns.objective_value.Goals as goal

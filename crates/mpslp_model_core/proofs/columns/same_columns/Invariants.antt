@@ -1,7 +1,5 @@
-use Rattle.std.proofs.Common.{◌≡◌, length, nat_eq}
-use Rattle.std.specs.Cmp.Lexicographic.{pointwise}
-use Rattle.mpslp_model_core.specs.Same.{same_named_column}
-use Rattle.mpslp_model_core.specs.Columned.{column_entries}
+use Rattle.std.{proofs.Common.{◌≡◌, length, nat_eq}, specs.Cmp.Lexicographic.pointwise}
+use Rattle.mpslp_model_core.specs.{Same.same_named_column, Columned.column_entries}
 use Rattle.mpslp_model_core.proofs.columns.same_columns.Given as goal
 
 -- the result is that of the remaining items

@@ -1,6 +1,5 @@
 use Rattle.std.proofs.Common.{sym, ◌∙◌}
-use Rattle.mpslp_model_core.specs.RowForms.{row_definition}
-use Rattle.mpslp_model_core.proofs.PlainRowLemmas.{plain_faulty}
+use Rattle.mpslp_model_core.{specs.RowForms.row_definition, proofs.PlainRowLemmas.plain_faulty}
 use Rattle.mpslp_model_core.proofs.limits.is_faulty_row.Goals as goal
 
 pub returns-then-is_plain : goal.returns-then-is_plain

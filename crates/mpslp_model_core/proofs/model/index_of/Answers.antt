@@ -1,6 +1,4 @@
-use Rattle.std.proofs.Common.{sym, ◌∙◌}
-use Rattle.std.specs.Prelude.{position}
-use Rattle.std.specs.Cmp.Lexicographic.{texts_ties}
+use Rattle.std.{proofs.Common.{sym, ◌∙◌}, specs.{Prelude.position, Cmp.Lexicographic.texts_ties}}
 use Rattle.mpslp_model_core.proofs.model.index_of.Goals as goal
 
 pub returns : goal.returns

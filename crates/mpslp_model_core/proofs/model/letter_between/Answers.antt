@@ -1,7 +1,4 @@
-use Rattle.std.proofs.Common.{sym, ap, ◌∙◌, ℕ}
-use Rattle.std.specs.Prelude.{if◌then◌else◌}
-use Rattle.std.specs.Ordering.{is_eq}
-use Rattle.std.specs.declared.cmp.Ordering.{Ordering}
+use Rattle.std.{proofs.Common.{sym, ap, ◌∙◌, ℕ}, specs.{Prelude.{if◌then◌else◌}, Ordering.is_eq, declared.cmp.Ordering.Ordering}}
 use Rattle.mpslp_decimal.proofs.OrderOfValues.{order-decimal}
 use Rattle.mpslp_model_core.specs.Views.{letter_E, letter_R}
 use Rattle.mpslp_model_core.proofs.model.letter_between.Goals as goal

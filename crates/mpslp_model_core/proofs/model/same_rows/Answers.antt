@@ -1,5 +1,4 @@
-use Rattle.mpslp_model_core.specs.Same.{same_row}
-use Rattle.mpslp_model_core.specs.SameLaws.{decides-lists, decides-named, decides-row, answered}
+use Rattle.mpslp_model_core.specs.{Same.same_row, SameLaws.{decides-lists, decides-named, decides-row, answered}}
 use Rattle.mpslp_model_core.proofs.model.same_rows.Goals as goal
 
 pub returns : goal.returns

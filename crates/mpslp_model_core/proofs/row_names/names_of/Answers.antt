@@ -1,5 +1,4 @@
-use Rattle.std.proofs.Common.{◌≡◌, refl, ap, ◌∙◌, ℕ, List, [], ◌∷◌, ◌++◌, length, arith}
-use Rattle.std.proofs.lemmas.Slice.{pushed}
+use Rattle.std.proofs.{Common.{◌≡◌, refl, ap, ◌∙◌, ℕ, List, [], ◌∷◌, ◌++◌, length, arith}, lemmas.Slice.pushed}
 use Rattle.mpslp_model_core.proofs.RowNameLemmas.{named_more}
 use Rattle.mpslp_model_core.proofs.row_names.names_of.Goals as goal
 

@@ -1,7 +1,5 @@
-use Rattle.std.proofs.Common.{rules}
-use Rattle.std.specs.Bool.{one_answer}
-use Rattle.mpslp_model_core.specs.Same.{same_number}
-use Rattle.mpslp_model_core.specs.SameLaws.{decides-number}
+use Rattle.std.{proofs.Common.rules, specs.Bool.one_answer}
+use Rattle.mpslp_model_core.specs.{Same.same_number, SameLaws.decides-number}
 use Rattle.mpslp_model_core.proofs.sides.is_same_number.Goals as goal
 
 pub returns : goal.returns

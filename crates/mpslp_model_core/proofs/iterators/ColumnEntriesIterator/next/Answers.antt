@@ -1,5 +1,4 @@
-use Rattle.std.proofs.Common.{subst, ℕ, suc, List, ◌∷◌, arith}
-use Rattle.std.specs.List.{All}
+use Rattle.std.{proofs.Common.{subst, ℕ, suc, List, arith}, specs.List.All}
 use Rattle.mpslp_decimal.specs.Decimal.{Number}
 use Rattle.mpslp_model_core.specs.Iterators.{IsOfRow}
 use Rattle.mpslp_model_core.proofs.iterators.ColumnEntriesIterator.next.Goals as goal

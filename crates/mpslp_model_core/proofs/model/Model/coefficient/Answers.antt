@@ -1,6 +1,5 @@
 use Rattle.std.proofs.Common.{sym, ap, subst, ◌∙◌, ℕ, suc, ◌<◌, length}
-use Rattle.mpslp_model_core.specs.Views.{row_name}
-use Rattle.mpslp_model_core.proofs.ViewLemmas.{count_columns, cells_here, value_seen, row_numbered}
+use Rattle.mpslp_model_core.{specs.Views.row_name, proofs.ViewLemmas.{count_columns, cells_here, value_seen, row_numbered}}
 use Rattle.mpslp_model_core.proofs.model.Model.coefficient.Goals as goal
 
 pub cells_at-requires : goal.cells_at-requires

@@ -1,10 +1,7 @@
-use Rattle.std.proofs.Common.{sym, ap, subst, ◌∙◌, ℕ, ◌<◌, List, length, map}
-use Rattle.std.specs.Prelude.{Some}
-use Rattle.std.specs.List.{All}
+use Rattle.std.{proofs.Common.{sym, ap, subst, ◌∙◌, ℕ, ◌<◌, List, length, map}, specs.{Prelude.Some, List.All}}
 use Rattle.mpslp_decimal.specs.Decimal.{Number}
-use Rattle.mpslp_model_core.specs.Iterators.{IsOfRow, entry_of_cell}
-use Rattle.mpslp_model_core.proofs.IteratorLemmas.{all_of_rows}
-use Rattle.mpslp_model_core.proofs.ViewLemmas.{count_columns, cells_here, entries_seen}
+use Rattle.mpslp_model_core.{specs.Iterators.{IsOfRow, entry_of_cell}, proofs.{IteratorLemmas.all_of_rows, ViewLemmas.count_columns}}
+use Rattle.mpslp_model_core.proofs.ViewLemmas.{cells_here, entries_seen}
 use Rattle.mpslp_model_core.proofs.model.Model.column_entries.Goals as goal
 
 pub cells_at-requires : goal.cells_at-requires

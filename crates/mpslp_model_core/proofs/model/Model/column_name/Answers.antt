@@ -1,6 +1,5 @@
 use Rattle.std.proofs.Common.{sym, ap, subst, ◌∙◌, ℕ, ◌<◌, List, length}
-use Rattle.mpslp_model_core.specs.Model.{Column}
-use Rattle.mpslp_model_core.proofs.ViewLemmas.{count_columns, column_seen, at_index}
+use Rattle.mpslp_model_core.{specs.Model.Column, proofs.ViewLemmas.{count_columns, column_seen, at_index}}
 use Rattle.mpslp_model_core.proofs.model.Model.column_name.Goals as goal
 
 pub entry_at-requires : goal.entry_at-requires

@@ -1,7 +1,5 @@
 use Rattle.std.proofs.Common.{sym, ap, ◌∙◌}
-use Rattle.mpslp_model_core.specs.ModelParts.{bounds_in}
-use Rattle.mpslp_model_core.specs.Numbered.{each_part}
-use Rattle.mpslp_model_core.proofs.ViewLemmas.{columns_seen}
+use Rattle.mpslp_model_core.{specs.{ModelParts.bounds_in, Numbered.each_part}, proofs.ViewLemmas.columns_seen}
 use Rattle.mpslp_model_core.proofs.model.Model.columns.Goals as goal
 
 pub returns : goal.returns

@@ -1,8 +1,6 @@
-use Rattle.std.proofs.Common.{sym, ap, subst, ◌∙◌, ℕ, ◌<◌, length, List}
-use Rattle.std.specs.Prelude.{Some, slice_get}
+use Rattle.std.{proofs.Common.{sym, ap, subst, ◌∙◌, ℕ, ◌<◌, length, List}, specs.Prelude.{Some, slice_get}}
 use Rattle.mpslp_decimal.specs.Decimal.{Number}
-use Rattle.mpslp_model_core.proofs.CellListLemmas.{above_zero}
-use Rattle.mpslp_model_core.proofs.ViewLemmas.{count_columns, cells_here, length_seen, entry_numbered}
+use Rattle.mpslp_model_core.proofs.{CellListLemmas.above_zero, ViewLemmas.{count_columns, cells_here, length_seen, entry_numbered}}
 use Rattle.mpslp_model_core.proofs.model.Model.entry.Goals as goal
 
 pub cells_at-requires : goal.cells_at-requires

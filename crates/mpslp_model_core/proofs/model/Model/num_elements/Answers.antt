@@ -1,10 +1,6 @@
-use Rattle.std.proofs.Common.{subst, sym, ap, ◌≡◌, ◌∙◌, List, ℕ, true}
-use Rattle.std.specs.List.{list_all}
-use Rattle.std.specs.Ordering.{nat_cmp}
-use Rattle.std.specs.FinMap.{is_sorted}
-use Rattle.mpslp_model_core.specs.Columned.{count_row_cells}
-use Rattle.mpslp_model_core.specs.declared.model.ModelColumn.{ModelColumn}
-use Rattle.mpslp_model_core.proofs.ViewLemmas.{all_sorted, elements_counted}
+use Rattle.std.{proofs.Common.{subst, sym, ap, ◌≡◌, ◌∙◌, List, ℕ, true}, specs.{List.list_all, Ordering.nat_cmp, FinMap.is_sorted}}
+use Rattle.mpslp_model_core.{specs.{Columned.count_row_cells, declared.model.ModelColumn.ModelColumn}, proofs.ViewLemmas.all_sorted}
+use Rattle.mpslp_model_core.proofs.ViewLemmas.{elements_counted}
 use Rattle.mpslp_model_core.proofs.model.Model.num_elements.Goals as goal
 
 pub count_elements-requires : goal.count_elements-requires

@@ -1,7 +1,5 @@
-use Rattle.std.proofs.Common.{sym, ap, subst, ◌∙◌, ℕ, ◌<◌, length}
-use Rattle.std.specs.Prelude.{Some}
-use Rattle.mpslp_model_core.specs.Model.{LinearModel}
-use Rattle.mpslp_model_core.proofs.ViewLemmas.{count_columns, cells_here, value_seen}
+use Rattle.std.{proofs.Common.{sym, ap, subst, ◌∙◌, ℕ, ◌<◌, length}, specs.Prelude.Some}
+use Rattle.mpslp_model_core.{specs.Model.LinearModel, proofs.ViewLemmas.{count_columns, cells_here, value_seen}}
 use Rattle.mpslp_model_core.proofs.model.Model.objective_coefficient.Goals as goal
 
 pub cells_at-requires : goal.cells_at-requires

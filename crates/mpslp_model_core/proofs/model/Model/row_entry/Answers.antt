@@ -1,12 +1,8 @@
-use Rattle.std.proofs.Common.{◌≡◌, sym, ap, subst, ◌∙◌, ℕ, ◌<◌, List, length}
-use Rattle.std.specs.Prelude.{IsTrue, Some, slice_get}
-use Rattle.std.specs.List.{list_all}
-use Rattle.std.specs.Ordering.{nat_cmp}
-use Rattle.std.specs.FinMap.{is_sorted}
-use Rattle.mpslp_model_core.specs.declared.model.ModelColumn.{ModelColumn}
-use Rattle.mpslp_model_core.proofs.ViewLemmas.{all_sorted, count_columns}
-use Rattle.mpslp_model_core.proofs.ByRowLemmas.{row_below, listed_in, columns_seen, column_below, row_seen_length, element_column, element_below, element_placed, element_value}
-use Rattle.mpslp_model_core.proofs.FillLemmas.{has_list}
+use Rattle.std.{proofs.Common.{◌≡◌, sym, ap, subst, ◌∙◌, ℕ, ◌<◌, List, length}, specs.{Prelude.{IsTrue, Some, slice_get}, List.list_all}}
+use Rattle.std.specs.{Ordering.nat_cmp, FinMap.is_sorted}
+use Rattle.mpslp_model_core.{specs.declared.model.ModelColumn.ModelColumn, proofs.ViewLemmas.{all_sorted, count_columns}}
+use Rattle.mpslp_model_core.proofs.ByRowLemmas.{row_below, listed_in, columns_seen, column_below, row_seen_length, element_column}
+use Rattle.mpslp_model_core.proofs.{ByRowLemmas.{element_below, element_placed, element_value}, FillLemmas.has_list}
 use Rattle.mpslp_model_core.proofs.model.Model.row_entry.Goals as goal
 
 pub element_at-element-requires-clause-row : goal.element_at-element-requires-clause-row

@@ -1,8 +1,6 @@
-use Rattle.std.proofs.Common.{sym, ap, ◌∙◌, ℕ, List}
-use Rattle.mpslp_model_core.specs.Model.{Row}
-use Rattle.std.specs.Prelude.{position}
+use Rattle.std.{proofs.Common.{sym, ap, ◌∙◌, ℕ, List}, specs.Prelude.position}
+use Rattle.mpslp_model_core.{specs.Model.Row, proofs.ViewLemmas.{rows_seen, position-map}}
 use Rattle.mpslp_types.specs.Name.{same_bytes}
-use Rattle.mpslp_model_core.proofs.ViewLemmas.{rows_seen, position-map}
 use Rattle.mpslp_model_core.proofs.model.Model.row_index.Goals as goal
 
 pub returns : goal.returns

@@ -1,12 +1,7 @@
-use Rattle.std.proofs.Common.{sym, ap, subst, ◌∙◌, ℕ, List, length}
-use Rattle.std.specs.Prelude.{IsTrue}
-use Rattle.std.specs.List.{list_all}
-use Rattle.std.specs.Ordering.{nat_cmp}
+use Rattle.std.{proofs.Common.{sym, ap, subst, ◌∙◌, ℕ, List, length}, specs.{Prelude.IsTrue, List.list_all, Ordering.nat_cmp}}
 use Rattle.std.specs.FinMap.{is_sorted}
-use Rattle.mpslp_model_core.specs.declared.model.ModelColumn.{ModelColumn}
-use Rattle.mpslp_model_core.proofs.ViewLemmas.{all_sorted}
-use Rattle.mpslp_model_core.proofs.ByRowLemmas.{row_below, listed_in, columns_seen, row_seen_length}
-use Rattle.mpslp_model_core.proofs.FillLemmas.{has_list}
+use Rattle.mpslp_model_core.{specs.declared.model.ModelColumn.ModelColumn, proofs.{ViewLemmas.all_sorted, ByRowLemmas.row_below}}
+use Rattle.mpslp_model_core.proofs.{ByRowLemmas.{listed_in, columns_seen, row_seen_length}, FillLemmas.has_list}
 use Rattle.mpslp_model_core.proofs.model.Model.row_len.Goals as goal
 
 pub row_list-requires : goal.row_list-requires

@@ -1,7 +1,5 @@
-use Rattle.std.proofs.Common.{sym, ap, subst, ◌∙◌, ℕ, ◌<◌, List, length}
-use Rattle.std.specs.Prelude.{Some}
-use Rattle.mpslp_model_core.specs.Model.{Row}
-use Rattle.mpslp_model_core.proofs.ViewLemmas.{rows_seen, count_seen, entry_seen}
+use Rattle.std.{proofs.Common.{sym, ap, subst, ◌∙◌, ℕ, ◌<◌, List, length}, specs.Prelude.Some}
+use Rattle.mpslp_model_core.{specs.Model.Row, proofs.ViewLemmas.{rows_seen, count_seen, entry_seen}}
 use Rattle.mpslp_model_core.proofs.model.Model.row_limits.Goals as goal
 
 pub entry_at-requires : goal.entry_at-requires

@@ -1,7 +1,5 @@
-use Rattle.std.proofs.Common.{sym, ap, subst, ◌∙◌, ℕ, ◌<◌, arith}
-use Rattle.std.specs.Prelude.{Some}
-use Rattle.mpslp_model_core.proofs.ViewLemmas.{rows_seen, count_seen}
-use Rattle.mpslp_model_core.proofs.RowNameLemmas.{name_seen, name_ordered, name_inside}
+use Rattle.std.{proofs.Common.{sym, ap, subst, ◌∙◌, ℕ, ◌<◌, arith}, specs.Prelude.Some}
+use Rattle.mpslp_model_core.proofs.{ViewLemmas.{rows_seen, count_seen}, RowNameLemmas.{name_seen, name_ordered, name_inside}}
 use Rattle.mpslp_model_core.proofs.model.Model.row_name_bytes.Goals as goal
 
 pub name_at-requires-clause-row : goal.name_at-requires-clause-row

@@ -1,8 +1,5 @@
-use Rattle.std.proofs.Common.{◌≡◌, sym, ◌∙◌, true}
-use Rattle.std.specs.Cmp.Lexicographic.{pointwise}
-use Rattle.mpslp_model_core.specs.Same.{same_named_column}
-use Rattle.mpslp_model_core.specs.Columned.{column_entries}
-use Rattle.mpslp_model_core.specs.SameLaws.{decides-lists, decides-named-column}
+use Rattle.std.{proofs.Common.{◌≡◌, sym, ◌∙◌, true}, specs.Cmp.Lexicographic.pointwise}
+use Rattle.mpslp_model_core.specs.{Same.same_named_column, Columned.column_entries, SameLaws.{decides-lists, decides-named-column}}
 use Rattle.mpslp_model_core.proofs.SameModels.{parts-same, same-parts}
 use Rattle.mpslp_model_core.proofs.model.Model.same.Goals as goal
 

@@ -1,12 +1,6 @@
-use Rattle.std.proofs.Common.{sym, ap, subst, ◌∙◌, ℕ, ◌≤◌, List, get_or, length}
-use Rattle.std.specs.Prelude.{IsTrue, slice_get}
-use Rattle.std.specs.List.{list_all}
-use Rattle.std.specs.Ordering.{nat_cmp}
-use Rattle.std.specs.FinMap.{is_sorted}
-use Rattle.std.proofs.lemmas.Option.{slice_get-get_or}
-use Rattle.mpslp_model_core.specs.declared.model.ModelColumn.{ModelColumn}
-use Rattle.mpslp_model_core.proofs.ViewLemmas.{all_sorted}
-use Rattle.mpslp_model_core.proofs.ByRowLemmas.{numbers_within}
+use Rattle.std.{proofs.{Common.{sym, ap, subst, ◌∙◌, ℕ, ◌≤◌, List, get_or, length}, lemmas.Option.slice_get-get_or}, specs.Prelude.IsTrue}
+use Rattle.std.specs.{Prelude.slice_get, List.list_all, Ordering.nat_cmp, FinMap.is_sorted}
+use Rattle.mpslp_model_core.{specs.declared.model.ModelColumn.ModelColumn, proofs.{ViewLemmas.all_sorted, ByRowLemmas.numbers_within}}
 use Rattle.mpslp_model_core.proofs.model.Model.with_row_lists.Goals as goal
 
 pub elements_by_row-requires-clause-sorted : goal.elements_by_row-requires-clause-sorted
