@@ -3,12 +3,12 @@ use Rattle.std.proofs.Common.{rules, ◌≡◌, refl, sym, ap, ◌∙◌, subst,
 use Rattle.std.{proofs.{Common.{arith, zero-add}, lemmas.List.{take_all, Sums.sum_by-cons}}, specs.Prelude.{sum_by, ◌&&◌, ◌||◌}}
 use Rattle.std.specs.{List.list_all, Ordering.is_lt, Cmp.{first_so, second_so, Lexicographic.bytes_decides}, FinMap.is_sorted}
 use Rattle.std.specs.FinMap.Entries.{below_all}
-use Rattle.std.specs.FinMap as maps
 use Rattle.mpslp_decimal.specs.Decimal.{Number}
 use Rattle.mpslp_types.{specs.Name.{same_bytes, bytes_cmp, is_one_of}, proofs.BoolLemmas.true_from}
 use Rattle.mpslp_model_core.specs.{Model.{LinearModel, CoefficientKey, IsSound, is_sound_coefficient}, Views.{column_names, num_columns}}
 use Rattle.mpslp_model_core.{specs.Views.{num_elements, is_element}, proofs.KeyLemmas.bytes_total}
 use Rattle.mpslp_c.specs.Arrays.{column_len, elements_before}
+use Rattle.std.specs.FinMap as maps
 
 -- ---- sums
 
@@ -32,7 +32,8 @@ is_name c n = cond (same_bytes n c) 1 0
 none_above : {X : Type 0} (c : List ℕ) (es : List (List ℕ × X)) → below_all bytes_cmp c es ≡ true → sum_by (is_name c) (map (λ e. e.0) es) ≡ 0
 unfolding is_name
 none_above c [] h = refl
-none_above {X} c (e ∷ es) h = grind (arith, not_same, sum_by-cons, none_above c es (second_so (is_lt (bytes_cmp c e.0)) (below_all bytes_cmp c es) h))
+none_above {X} c (e ∷ es) h =
+    grind (arith, not_same, sum_by-cons, none_above c es (second_so (is_lt (bytes_cmp c e.0)) (below_all bytes_cmp c es) h))
 
 one_of_rest : (c n : List ℕ) (names : List (List ℕ)) → same_bytes n c ≡ false → is_one_of (n ∷ names) c ≡ true → is_one_of names c ≡ true
 one_of_rest c n names other among =

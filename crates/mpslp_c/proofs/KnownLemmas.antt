@@ -1,6 +1,6 @@
 -- Each name is declared before it is used: the objective and the rows come first, and each column before its elements.
-use Rattle.std.proofs.Common.{arith, ◌≡◌, refl, sym, ap, ◌∙◌, ℕ, zero, suc, List, [], ◌∷◌, ◌++◌, Bool, true, false, Option, Result, Ok, Err}
-use Rattle.std.{proofs.{Common.append_assoc, lemmas.Grind.flat_map-append}, specs.{Prelude.{◌&&◌, slice_get, length}, List.list_all}}
+use Rattle.std.proofs.Common.{arith, ◌≡◌, refl, sym, ap, ◌∙◌, ℕ, zero, suc, List, [], ◌∷◌, ◌++◌, Bool, true, false, Option, Result, Ok}
+use Rattle.std.{proofs.{Common.{Err, append_assoc}, lemmas.Grind.flat_map-append}, specs.{Prelude.{◌&&◌, slice_get, length}, List.list_all}}
 use Rattle.std.specs.{List.flat_map, Cmp.{first_so, second_so, Lexicographic.bytes_decides}}
 use Rattle.mpslp_decimal.specs.Decimal.{Number}
 use Rattle.mpslp_model_core.specs.Model.{LinearModel}
@@ -13,10 +13,10 @@ use Rattle.mpslp_c.specs.{Stored.{items, is_good, is_good_item, declared_by, Def
 use Rattle.mpslp_c.specs.declared.arrays.{MpslpColumn.MpslpColumn, MpslpElement.MpslpElement, MpslpModel.MpslpModel}
 use Rattle.mpslp_c.proofs.StepLemmas.{given_bytes}
 use Rattle.mpslp_builder.specs.Declaration.{Declaration, declare_sense, declare_objective, declare_constant, declare_row, declare_column}
-use Rattle.mpslp_builder.specs.Declaration.{declare_coefficient, declare_lower, declare_upper, declare_integer, declare_semi, Declarations}
-use Rattle.mpslp_builder.specs.Declaration.{Draft, empty_draft, with_declaration, with_declarations, draft_of, has_row, has_column}
-use Rattle.mpslp_builder.{specs.{Declaration.has_name, Consistency.is_known}, proofs.{RefusalLemmas.are_known_in_turn, SlotLemmas.has-put}}
-use Rattle.mpslp_builder.proofs.{LaterDrafts.itself_named, MadeDrafts.with_declarations-append}
+use Rattle.mpslp_builder.specs.Declaration.{declare_coefficient, declare_lower, declare_upper, declare_integer, declare_semi}
+use Rattle.mpslp_builder.specs.Declaration.{Declarations, Draft, empty_draft, with_declaration, with_declarations, draft_of, has_row}
+use Rattle.mpslp_builder.{specs.{Declaration.{has_column, has_name}, Consistency.is_known}, proofs.RefusalLemmas.are_known_in_turn}
+use Rattle.mpslp_builder.proofs.{SlotLemmas.has-put, LaterDrafts.itself_named, MadeDrafts.with_declarations-append}
 
 pub all-append : {X : Type 0} (p : X → Bool) (xs ys : List X) → list_all p xs ≡ true → list_all p ys ≡ true → list_all p (xs ++ ys) ≡ true
 all-append p [] ys h k = k
@@ -95,11 +95,41 @@ same_column column name before same there = ap (has_column before) ((bytes_decid
 column_known : (name : List ℕ) (ds : Declarations) (before after : Draft) → list_all (is_of_column name) ds ≡ true → has_column before name ≡ true → HasRows before after
     → list_all (is_known after) ds ≡ true → are_known_in_turn before ds ≡ true
 column_known name [] before after own there rows known = refl
-column_known name (declare_coefficient key value ∷ more) before after own there rows known = grind (arith, both_so, same_column, column_known name more (with_declaration before (declare_coefficient key value)) after (second_so (same_bytes key.column name) (list_all (is_of_column name) more) own) there rows (second_so (is_known after (declare_coefficient key value)) (list_all (is_known after) more) known))
-column_known name (declare_lower column limit ∷ more) before after own there rows known = grind (arith, both_so, same_column, column_known name more (with_declaration before (declare_lower column limit)) after (second_so (same_bytes column name) (list_all (is_of_column name) more) own) there rows (second_so (is_known after (declare_lower column limit)) (list_all (is_known after) more) known))
-column_known name (declare_upper column limit ∷ more) before after own there rows known = grind (arith, both_so, same_column, column_known name more (with_declaration before (declare_upper column limit)) after (second_so (same_bytes column name) (list_all (is_of_column name) more) own) there rows (second_so (is_known after (declare_upper column limit)) (list_all (is_known after) more) known))
-column_known name (declare_integer column ∷ more) before after own there rows known = grind (arith, both_so, same_column, column_known name more (with_declaration before (declare_integer column)) after (second_so (same_bytes column name) (list_all (is_of_column name) more) own) there rows (second_so (is_known after (declare_integer column)) (list_all (is_known after) more) known))
-column_known name (declare_semi column ∷ more) before after own there rows known = grind (arith, both_so, same_column, column_known name more (with_declaration before (declare_semi column)) after (second_so (same_bytes column name) (list_all (is_of_column name) more) own) there rows (second_so (is_known after (declare_semi column)) (list_all (is_known after) more) known))
+column_known name (declare_coefficient key value ∷ more) before after own there rows known =
+    grind (
+      arith,
+      both_so,
+      same_column,
+      column_known name more (with_declaration before (declare_coefficient key value)) after (second_so (same_bytes key.column name) (list_all (is_of_column name) more) own) there rows (second_so (is_known after (declare_coefficient key value)) (list_all (is_known after) more) known),
+    )
+column_known name (declare_lower column limit ∷ more) before after own there rows known =
+    grind (
+      arith,
+      both_so,
+      same_column,
+      column_known name more (with_declaration before (declare_lower column limit)) after (second_so (same_bytes column name) (list_all (is_of_column name) more) own) there rows (second_so (is_known after (declare_lower column limit)) (list_all (is_known after) more) known),
+    )
+column_known name (declare_upper column limit ∷ more) before after own there rows known =
+    grind (
+      arith,
+      both_so,
+      same_column,
+      column_known name more (with_declaration before (declare_upper column limit)) after (second_so (same_bytes column name) (list_all (is_of_column name) more) own) there rows (second_so (is_known after (declare_upper column limit)) (list_all (is_known after) more) known),
+    )
+column_known name (declare_integer column ∷ more) before after own there rows known =
+    grind (
+      arith,
+      both_so,
+      same_column,
+      column_known name more (with_declaration before (declare_integer column)) after (second_so (same_bytes column name) (list_all (is_of_column name) more) own) there rows (second_so (is_known after (declare_integer column)) (list_all (is_known after) more) known),
+    )
+column_known name (declare_semi column ∷ more) before after own there rows known =
+    grind (
+      arith,
+      both_so,
+      same_column,
+      column_known name more (with_declaration before (declare_semi column)) after (second_so (same_bytes column name) (list_all (is_of_column name) more) own) there rows (second_so (is_known after (declare_semi column)) (list_all (is_known after) more) known),
+    )
 column_known name (d ∷ more) before after own there rows known = let no : ⊥ = cc in absurd no
 
 -- ---- what adds no row

@@ -7,7 +7,6 @@ pub mod NumberLemmas
 pub mod StepLemmas
 pub mod StoredLemmas
 pub mod StoredTexts
-pub mod StatedDeclarations
 pub mod StatedDraft
 pub mod StatedItems
 pub mod StatedMeaning

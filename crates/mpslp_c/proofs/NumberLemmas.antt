@@ -6,9 +6,10 @@ use Rattle.std.specs.{List.after_first, Fmt.{decimal, signed_decimal}}
 use Rattle.mpslp_decimal.specs.{Decimal.{Number, normal, has_few_digits, has_small_exponent}, Literal.{is_digit, is_minus, without_sign}}
 use Rattle.mpslp_decimal.specs.Literal.{is_point, is_exponent_mark, digits_sum, are_digits, to_signed, signed_value, unsigned_part}
 use Rattle.mpslp_decimal.specs.Literal.{fraction_digits, mantissa_digits, exponent_part, is_literal, literal_value, number_of}
-use Rattle.mpslp_decimal.specs.declared.literal.NumberFault.{NumberFault, TheVariants.{BadNumber, LongNumber, TooManyDigits, ExponentRange}}
-use Rattle.mpslp_decimal.proofs.CutLemmas.{Each, Each-weaker, before-at, after-at, after-none, before-none, AreDigits, digit-no_mark}
-use Rattle.mpslp_decimal.proofs.{CutLemmas.{digit-no_point, digit-no_sign, digit-no_minus, decimal-spells}, NumberTextLemmas.are-digits}
+use Rattle.mpslp_decimal.specs.declared.literal.NumberFault.{NumberFault, TheVariants.{BadNumber, LongNumber, TooManyDigits}}
+use Rattle.mpslp_decimal.{specs.declared.literal.NumberFault.TheVariants.ExponentRange, proofs.CutLemmas.{Each, Each-weaker, before-at}}
+use Rattle.mpslp_decimal.proofs.CutLemmas.{after-at, after-none, before-none, AreDigits, digit-no_mark, digit-no_point, digit-no_sign}
+use Rattle.mpslp_decimal.proofs.{CutLemmas.{digit-no_minus, decimal-spells}, NumberTextLemmas.are-digits}
 use Rattle.mpslp_types.{specs.declared.faults.FaultKind.FaultKind, proofs.BoolLemmas.{both_so, or_right}}
 use Rattle.mpslp_lines.specs.FaultTests.{kind_of_number_fault}
 use Rattle.mpslp_c.specs.Stored.{decimal_given, literal_text}

@@ -1,34 +1,63 @@
--- The draft that the arrays of a well-formed model make: each of its maps is that of the model.
+-- What the arrays of a model declare, item by item: a list that depends only on the model. The maps of its draft are those of the model.
 use Rattle.std.proofs.Common.{◌≡◌, refl, sym, ap, ◌∙◌, ℕ, List, [], ◌∷◌, ◌++◌, map, Bool, true, false, not, cond}
 use Rattle.std.{proofs.lemmas.{Grind.flat_map-append, List.{append-nil, Concat.flat_map_single}}, specs.Prelude.{◌&&◌, ◌||◌, Option, Some}}
 use Rattle.std.specs.{Prelude.{None, is_some, is_none, unwrap_or, filter, if◌then◌else◌}, List.{list_all, flat_map}, Cmp.first_so}
 use Rattle.std.specs.{Cmp.second_so, FinMap.{find, is_sorted}}
-use Rattle.std.specs.FinMap as maps
 use Rattle.mpslp_decimal.specs.Decimal.{Number, is_decimal, is_zero, zero_number, negated}
-use Rattle.mpslp_types.specs.{Name.{same_bytes, bytes_cmp, is_one_of}, Limit.zero_limit, declared.kinds.Kind.{Kind, TheVariants.Continuous}}
-use Rattle.mpslp_types.specs.declared.kinds.{Kind.TheVariants.{Integer, Semi}, Limit.{Limit, TheVariants.PlusInf}, Sense.Sense}
-use Rattle.mpslp_types.{specs.declared.kinds.Sense.TheVariants.Minimize, proofs.{BoolLemmas.{T_from, true_from, both_so}, EachLemmas.Each}}
-use Rattle.mpslp_types.proofs.EachLemmas.{Each-both, Each-map, Each-all, Each-weaker, Each-append, Each-filter, Each-flat_map}
+use Rattle.mpslp_types.specs.{Name.{same_bytes, bytes_cmp, is_one_of}, Limit.zero_limit, declared.kinds.Kind.Kind}
+use Rattle.mpslp_types.specs.declared.kinds.{Kind.TheVariants.{Continuous, Integer, Semi}, Limit.{Limit, TheVariants.PlusInf}}
+use Rattle.mpslp_types.{specs.declared.kinds.Sense.{Sense, TheVariants.Minimize}, proofs.BoolLemmas.{T_from, true_from, both_so}}
+use Rattle.mpslp_types.proofs.EachLemmas.{Each, Each-both, Each-map, Each-all, Each-weaker, Each-append, Each-filter, Each-flat_map}
 use Rattle.mpslp_types.proofs.EachLemmas.{Each-from_list_all, list_all-from_Each}
-use Rattle.mpslp_model_core.specs.Model.{LinearModel, Row, Column, CoefficientKey, key_cmp, IsSound, is_sound_column, is_sound_coefficient}
-use Rattle.mpslp_model_core.{specs.{Limits.has_infinite_rhs, Views.{is_element, column_elements}}, proofs.KeyLemmas.bytes_total}
-use Rattle.mpslp_model_core.proofs.{KeyLemmas.{key_total, same_key, tied_names}, PutsLemmas.{puts, finds_own, find-front, some_cons}}
-use Rattle.mpslp_model_core.proofs.PutsLemmas.{some_append_left, some_append_right}
+use Rattle.mpslp_model_core.specs.Model.{LinearModel, Row, Column, CoefficientKey, key_cmp, IsSound, is_sound_column}
+use Rattle.mpslp_model_core.specs.{Model.is_sound_coefficient, Limits.has_infinite_rhs, Views.{is_element, column_elements}}
+use Rattle.mpslp_model_core.{specs.Views.coefficient_at, proofs.{KeyLemmas.{bytes_total, key_total, same_key, tied_names}, PutsLemmas.puts}}
+use Rattle.mpslp_model_core.proofs.PutsLemmas.{finds_own, find-front, some_cons, some_append_left, some_append_right}
 use Rattle.mpslp_builder.specs.Declaration.{RowDefinition, by_limits, Declaration, declare_row, declare_column, declare_coefficient}
 use Rattle.mpslp_builder.specs.Declaration.{declare_lower, declare_upper, declare_integer, declare_semi, Draft, empty_draft, draft_of}
-use Rattle.mpslp_builder.specs.{Declaration.{at_name, has_name, names_in, is_integer, is_semi}, Bounds.one_limit, Meaning.column_of}
-use Rattle.mpslp_builder.specs.Meaning.{objective_name, constant_of, row_limits, row_entry, row_passes, DraftMeans}
-use Rattle.mpslp_builder.proofs.{BoundsLemmas.{is_integer_kind, is_semi_kind, column_of-is}, CoefficientLemmas.flat_map-flat_map}
-use Rattle.mpslp_builder.proofs.{CoefficientLemmas.flat_map-none, DraftLemmas.{row_part, rhs_part, column_part, coefficient_part}}
-use Rattle.mpslp_builder.proofs.DraftLemmas.{lower_part, upper_part, marked_part, integer_part, binary_part, semi_part, rows-all}
-use Rattle.mpslp_builder.proofs.DraftLemmas.{rhs_values-all, columns-all, coefficients-all, lowers-all, uppers-all, marked-all}
-use Rattle.mpslp_builder.proofs.{DraftLemmas.{integers-all, binaries-all, semis-all}, EntryLemmas.{then_stated, stated, all_stated}}
-use Rattle.mpslp_builder.proofs.{EntryLemmas.{puts-own, puts-kept, find-stated, found-each, sorted-stated}, FlatLemmas.flat-same}
-use Rattle.mpslp_builder.proofs.{GivenBack.{model-back, columns-back, no-negative_upper, binary-within}, KeptParts.{Stays, stays-all}}
-use Rattle.mpslp_builder.proofs.{LaterDrafts.{value_in, itself_named}, MeaningFromNoFault.sorted-mapped, NamedEntries.{named, own-found}}
-use Rattle.mpslp_builder.proofs.SlotLemmas.{same_name}
-use Rattle.mpslp_c.proofs.StatedDeclarations.{objective_stated, row_stated, kind_stated, cost_key, cost_at, head_stated, cell_stated}
-use Rattle.mpslp_c.proofs.StatedDeclarations.{column_stated, stated_declarations}
+use Rattle.mpslp_builder.specs.Declaration.{at_name, has_name, names_in, is_integer, is_semi, declare_sense, declare_objective}
+use Rattle.mpslp_builder.specs.{Declaration.{declare_constant, Declarations}, Bounds.one_limit, Meaning.{column_of, objective_name}}
+use Rattle.mpslp_builder.{specs.Meaning.{constant_of, row_limits, row_entry, row_passes, DraftMeans}, proofs.BoundsLemmas.is_integer_kind}
+use Rattle.mpslp_builder.proofs.{BoundsLemmas.{is_semi_kind, column_of-is}, CoefficientLemmas.{flat_map-flat_map, flat_map-none}}
+use Rattle.mpslp_builder.proofs.DraftLemmas.{row_part, rhs_part, column_part, coefficient_part, lower_part, upper_part, marked_part}
+use Rattle.mpslp_builder.proofs.DraftLemmas.{integer_part, binary_part, semi_part, rows-all, rhs_values-all, columns-all}
+use Rattle.mpslp_builder.proofs.DraftLemmas.{coefficients-all, lowers-all, uppers-all, marked-all, integers-all, binaries-all, semis-all}
+use Rattle.mpslp_builder.proofs.EntryLemmas.{then_stated, stated, all_stated, puts-own, puts-kept, find-stated, found-each, sorted-stated}
+use Rattle.mpslp_builder.proofs.{FlatLemmas.flat-same, GivenBack.{model-back, columns-back, no-negative_upper, binary-within}}
+use Rattle.mpslp_builder.proofs.{KeptParts.{Stays, stays-all}, LaterDrafts.{value_in, itself_named}, MeaningFromNoFault.sorted-mapped}
+use Rattle.mpslp_builder.proofs.{NamedEntries.{named, own-found}, SlotLemmas.same_name}
+use Rattle.std.specs.FinMap as maps
+
+abbrev pub objective_stated : LinearModel → Declarations
+objective_stated m = declare_objective m.objective ∷ declare_constant m.constant ∷ declare_sense m.sense ∷ []
+
+abbrev pub row_stated : List ℕ × Row → Declaration
+row_stated row = declare_row row.0 (by_limits row.1.lower row.1.upper)
+
+abbrev pub kind_stated : List ℕ → Kind → Declarations
+kind_stated name Continuous = []
+kind_stated name Integer = declare_integer name ∷ []
+kind_stated name Semi = declare_semi name ∷ []
+
+abbrev pub cost_key : LinearModel → List ℕ → CoefficientKey
+cost_key m column = record { row = m.objective; column = column }
+
+abbrev pub cost_at : LinearModel → List ℕ → Number
+cost_at m column = coefficient_at m m.objective column
+
+abbrev pub head_stated : LinearModel → List ℕ × Column → Declarations
+head_stated m column =
+    declare_column column.0 ∷ declare_lower column.0 column.1.lower ∷ declare_upper column.0 column.1.upper
+    ∷ declare_coefficient (cost_key m column.0) (cost_at m column.0) ∷ kind_stated column.0 column.1.kind
+
+abbrev pub cell_stated : CoefficientKey × Number → Declaration
+cell_stated cell = declare_coefficient cell.0 cell.1
+
+abbrev pub column_stated : LinearModel → List ℕ × Column → Declarations
+column_stated m column = head_stated m column ++ map cell_stated (column_elements m column.0)
+
+abbrev pub stated_declarations : LinearModel → Declarations
+stated_declarations m = objective_stated m ++ (map row_stated (maps.entries m.rows) ++ flat_map (column_stated m) (maps.entries m.columns))
 
 -- ---- what a kind of declaration puts into a map
 

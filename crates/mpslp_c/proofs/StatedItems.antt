@@ -5,28 +5,28 @@ use Rattle.std.proofs.lemmas.{Grind.flat_map-append, List.{length-map, length-ta
 use Rattle.std.{proofs.lemmas.{List.Quantifiers.position-Some, Option.{slice_get-map, slice_get_within}}, specs.Prelude.{◌&&◌, slice_get}}
 use Rattle.std.specs.{Prelude.{slice_range, slice_index_or, sum_by, nat_le, unwrap_or, if◌then◌else◌}, List.{list_all, flat_map}}
 use Rattle.std.specs.{Option.option_map, Cmp.{first_so, second_so}}
-use Rattle.std.specs.FinMap as maps
 use Rattle.mpslp_decimal.specs.Decimal.{Number, IsDecimal, is_decimal, zero_number}
 use Rattle.mpslp_types.specs.{Name.same_bytes, declared.{faults.FaultKind.{FaultKind, TheVariants.ColumnSplit}, kinds.Kind.Kind}}
-use Rattle.mpslp_types.specs.declared.kinds.{Kind.TheVariants.{Continuous, Integer, Semi}, Limit.Limit, Sense.{Sense, TheVariants.Minimize}}
-use Rattle.mpslp_types.{specs.declared.kinds.Sense.TheVariants.Maximize, proofs.{BoolLemmas.both_so, EachLemmas.{Each, Each-from_list_all}}}
-use Rattle.mpslp_types.proofs.EachLemmas.{Each-filter, Each-weaker}
+use Rattle.mpslp_types.specs.declared.kinds.{Kind.TheVariants.{Continuous, Integer, Semi}, Limit.Limit, Sense.Sense}
+use Rattle.mpslp_types.{specs.declared.kinds.Sense.TheVariants.{Minimize, Maximize}, proofs.{BoolLemmas.both_so, EachLemmas.Each}}
+use Rattle.mpslp_types.proofs.EachLemmas.{Each-from_list_all, Each-filter, Each-weaker}
 use Rattle.mpslp_model_core.specs.Model.{LinearModel, Row, Column, CoefficientKey, key_cmp, IsSound, is_sound_row, is_sound_column}
 use Rattle.mpslp_model_core.specs.{Model.is_sound_coefficient, Views.{num_columns, row_name, row_names, row_index, column_names}}
 use Rattle.mpslp_model_core.{specs.Views.{is_element, column_elements, numbered_elements}, proofs.KeyLemmas.{key_total, same_key}}
-use Rattle.mpslp_builder.specs.Declaration.{declare_sense, declare_column, declare_coefficient, declare_lower, declare_upper, Declarations}
-use Rattle.mpslp_builder.proofs.{EntryLemmas.found-each, SlotLemmas.same_name, SoundParts.{row_named, row_sides, column_named}}
-use Rattle.mpslp_builder.proofs.SoundParts.{column_sides, lower_of, upper_of}
+use Rattle.mpslp_builder.specs.Declaration.{declare_sense, declare_column, declare_coefficient, declare_lower, declare_upper}
+use Rattle.mpslp_builder.{specs.Declaration.Declarations, proofs.{EntryLemmas.found-each, SlotLemmas.same_name, SoundParts.row_named}}
+use Rattle.mpslp_builder.proofs.SoundParts.{row_sides, column_named, column_sides, lower_of, upper_of}
 use Rattle.mpslp_c.specs.Arrays.{RepresentsNumber, RepresentsLimit, RepresentsSide, RepresentsName, RepresentsRow, RepresentsRows}
-use Rattle.mpslp_c.specs.{Arrays.{RepresentsElement, RepresentsColumn, RepresentsModel, column_len, kind_number, sense_number}, Stored.Step}
-use Rattle.mpslp_c.specs.Stored.{fails, step_declared, steps_with, bytes_at, sense_steps, objective_steps, row_steps, kind_steps}
+use Rattle.mpslp_c.specs.Arrays.{RepresentsElement, RepresentsColumn, RepresentsModel, column_len, kind_number, sense_number}
+use Rattle.mpslp_c.specs.Stored.{Step, fails, step_declared, steps_with, bytes_at, sense_steps, objective_steps, row_steps, kind_steps}
 use Rattle.mpslp_c.specs.Stored.{column_steps, element_steps, Item, row_items, element_items, elements_end, own_items, column_items}
 use Rattle.mpslp_c.specs.{Stored.{first_column_steps, items, is_good, is_good_item, declared_by}, declared.faults.TheConstants.AT_COLUMN}
 use Rattle.mpslp_c.specs.declared.{numbers.MpslpNumber.MpslpNumber, arrays.{MpslpRow.MpslpRow, MpslpColumn.MpslpColumn}}
 use Rattle.mpslp_c.{specs.declared.arrays.{MpslpElement.MpslpElement, MpslpModel.MpslpModel}, proofs.CountLemmas.all_counted}
 use Rattle.mpslp_c.proofs.{KnownLemmas.all-append, StoredLemmas.same_some, StatedValues.{number-stated, limit-stated, lower-given}}
-use Rattle.mpslp_c.proofs.{StatedValues.{upper-given, name-stated}, StatedDeclarations.{objective_stated, row_stated, kind_stated}}
-use Rattle.mpslp_c.proofs.StatedDeclarations.{cost_key, cost_at, head_stated, cell_stated, column_stated, stated_declarations}
+use Rattle.mpslp_c.proofs.{StatedValues.{upper-given, name-stated}, StatedDraft.{objective_stated, row_stated, kind_stated, cost_key}}
+use Rattle.mpslp_c.proofs.StatedDraft.{cost_at, head_stated, cell_stated, column_stated, stated_declarations}
+use Rattle.std.specs.FinMap as maps
 
 -- ---- steps and items that have no error, and what they declare
 

@@ -2,7 +2,6 @@
 use Rattle.std.proofs.Common.{arith, rules, ◌≡◌, refl, sym, ap, subst, ◌∙◌, ℕ, List, [], ◌∷◌, ◌++◌, map, Bool, true, false, not, cond}
 use Rattle.std.{proofs.lemmas.List.append-nil, specs.{Prelude.{◌&&◌, ◌||◌, Option, Some, None, is_some}, List.{list_all, list_any}}}
 use Rattle.std.specs.{List.flat_map, Option.option_map_or, Cmp.{first_so, second_so, Lexicographic.nat_list_eq_equiv}, FinMap.is_sorted}
-use Rattle.std.specs.FinMap as maps
 use Rattle.mpslp_decimal.specs.Decimal.{Number, is_decimal, is_zero}
 use Rattle.mpslp_types.specs.{Name.{same_bytes, bytes_cmp, is_one_of}, Limit.{is_plus_infinite, is_minus_infinite, is_lower_side}}
 use Rattle.mpslp_types.specs.{Limit.is_upper_side, declared.kinds.{Kind.{Kind, TheVariants.{Continuous, Integer, Semi}}, Limit.Limit}}
@@ -13,19 +12,20 @@ use Rattle.mpslp_types.proofs.EachLemmas.{list_all-from_Each}
 use Rattle.mpslp_model_core.specs.Model.{LinearModel, Row, Column, CoefficientKey, key_cmp, IsSound, is_sound_row, is_sound_column}
 use Rattle.mpslp_model_core.{specs.{Model.is_sound_coefficient, Views.{is_element, column_elements}}, proofs.KeyLemmas.key_total}
 use Rattle.mpslp_builder.specs.Declaration.{by_limits, Declaration, Declarations, at_name, has_name, has_row, has_column, names_in}
-use Rattle.mpslp_builder.specs.{Declaration.{is_integer, is_semi}, Consistency.{Slot, sense_slot, objective_slot, constant_slot, row_slot}}
-use Rattle.mpslp_builder.specs.Consistency.{rhs_slot, range_slot, coefficient_slot, lower_slot, upper_slot, same_slot, all_slots, is_known}
-use Rattle.mpslp_builder.{specs.{Consistency.{is_allowed, has_one_constant}, Meaning.Means}, proofs.BoundsLemmas.is_integer_kind}
-use Rattle.mpslp_builder.proofs.{BoundsLemmas.is_semi_kind, DistinctLemmas.{IsNew, Apart, distinct-flat_map, distinct-sorted}}
-use Rattle.mpslp_builder.proofs.{EntryLemmas.{then_stated, sorted-kept}, FlatLemmas.flat-same, LaterDrafts.itself_named}
-use Rattle.mpslp_builder.proofs.{NamedEntries.{one_of-names, at-mapped}, SlotLemmas.same_name, SoundParts.{row_sides, column_sides}}
-use Rattle.mpslp_builder.proofs.SoundParts.{lower_of, upper_of}
+use Rattle.mpslp_builder.specs.{Declaration.{is_integer, is_semi}, Consistency.{Slot, sense_slot, objective_slot, constant_slot}}
+use Rattle.mpslp_builder.specs.Consistency.{row_slot, rhs_slot, range_slot, coefficient_slot, lower_slot, upper_slot, same_slot}
+use Rattle.mpslp_builder.specs.{Consistency.{all_slots, is_known, is_allowed, has_one_constant}, Meaning.Means}
+use Rattle.mpslp_builder.proofs.{BoundsLemmas.{is_integer_kind, is_semi_kind}, DistinctLemmas.{IsNew, Apart, distinct-flat_map}}
+use Rattle.mpslp_builder.proofs.{DistinctLemmas.distinct-sorted, EntryLemmas.{then_stated, sorted-kept}, FlatLemmas.flat-same}
+use Rattle.mpslp_builder.proofs.{LaterDrafts.itself_named, NamedEntries.{one_of-names, at-mapped}, SlotLemmas.same_name}
+use Rattle.mpslp_builder.proofs.SoundParts.{row_sides, column_sides, lower_of, upper_of}
 use Rattle.mpslp_canonical_lp.proofs.RankedSlots.{new-from_others, Section, joined-once, AreOther, other-from_sorted, slots-append}
 use Rattle.mpslp_canonical_lp.proofs.RankedSlots.{slots-flat}
 use Rattle.mpslp_c.{specs.{Arrays.RepresentsModel, Stored.Defines, declared.arrays.MpslpModel.MpslpModel}, proofs.StoredLemmas.same_some}
-use Rattle.mpslp_c.proofs.StatedDeclarations.{objective_stated, row_stated, kind_stated, cost_key, cell_stated, column_stated}
-use Rattle.mpslp_c.proofs.{StatedDeclarations.stated_declarations, StatedDraft.{drafted, rows-drafted, columns-drafted, rhs_values-none}}
-use Rattle.mpslp_c.proofs.{StatedDraft.{IsOwn, own-columns, integer-at, semi-at, objective-drafted, draft-means}, StatedItems.items-stated}
+use Rattle.mpslp_c.proofs.StatedDraft.{objective_stated, row_stated, kind_stated, cost_key, cell_stated, column_stated}
+use Rattle.mpslp_c.proofs.StatedDraft.{stated_declarations, drafted, rows-drafted, columns-drafted, rhs_values-none, IsOwn, own-columns}
+use Rattle.mpslp_c.proofs.{StatedDraft.{integer-at, semi-at, objective-drafted, draft-means}, StatedItems.items-stated}
+use Rattle.std.specs.FinMap as maps
 
 -- ---- each slot is filled once
 

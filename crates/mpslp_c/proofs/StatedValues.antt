@@ -1,6 +1,6 @@
 -- The numbers, limits and names in the arrays of a well-formed model are given back unchanged.
-use Rattle.std.proofs.{Common.{◌≡◌, refl, sym, ap, ◌∙◌, ℕ, List, Bool, true, false, not, Result, Ok, Err, ◌*◌, ◌^◌, arith}, lemmas.Int.ints}
-use Rattle.std.specs.{Prelude.{ℤ, pos, negsuc, ◌-ℤ◌, unsigned_abs, int_le, if◌then◌else◌}, Ordering.int_eq}
+use Rattle.std.proofs.Common.{◌≡◌, refl, sym, ap, ◌∙◌, ℕ, List, Bool, true, false, not, Result, Ok, Err, ◌*◌, ◌^◌, arith}
+use Rattle.std.{proofs.lemmas.Int.ints, specs.{Prelude.{ℤ, pos, negsuc, ◌-ℤ◌, unsigned_abs, int_le, if◌then◌else◌}, Ordering.int_eq}}
 use Rattle.mpslp_decimal.specs.{Decimal.{Number, IsDecimal, is_zero, normal, has_few_digits, has_small_exponent}, Literal.to_signed}
 use Rattle.mpslp_decimal.proofs.{NormalLemmas.normal-tens, NumberTextLemmas.{signed-size, nonzero-ends, zero-is}}
 use Rattle.mpslp_types.specs.{Limit.{is_given, is_lower_side, is_upper_side}, Name.is_mps_name, declared.faults.FaultKind.FaultKind}

@@ -1,7 +1,8 @@
 -- Steps and items, one after another.
 use Rattle.std.proofs.Common.{◌≡◌, refl, sym, ap, ◌∙◌, subst, ℕ, zero, suc, ◌<◌, ◌≤◌, ◌+◌, ◌-◌, List, [], ◌∷◌, ◌++◌, length, drop, take}
-use Rattle.std.proofs.{Common.{map, Bool, true, false, Option, None, Some, Result, Ok, Err, arith, add-one}, lemmas.Option.slice_get-get_or}
-use Rattle.std.specs.{Prelude.{pos, slice_get, slice_range, get_or, nat_le, IfNone, IsErrAnd, if◌then◌else◌}, Option.option_map_or}
+use Rattle.std.proofs.Common.{map, Bool, true, false, Option, None, Some, Result, Ok, Err, arith, add-one}
+use Rattle.std.{proofs.lemmas.Option.slice_get-get_or, specs.Prelude.{pos, slice_get, slice_range, get_or, nat_le, IfNone, IsErrAnd}}
+use Rattle.std.specs.{Prelude.{if◌then◌else◌}, Option.option_map_or}
 use Rattle.mpslp_decimal.specs.Decimal.{Number}
 use Rattle.mpslp_types.specs.{Lists.head_of, NameTests.name_refusal, declared.{kinds.Limit.Limit, names.NameFault.NameFault}}
 use Rattle.mpslp_types.specs.declared.faults.{FaultKind.{FaultKind, TheVariants.NameLength}, BuildFault.BuildFault}
@@ -10,9 +11,9 @@ use Rattle.mpslp_builder.specs.Declaration.{declare_coefficient, by_limits, Draf
 use Rattle.mpslp_lines.specs.{FaultTests.kind_of_build_fault, ErrorOf.error_of_build, declared.errors.LineError.LineError}
 use Rattle.mpslp_lines.specs.declared.errors.LineError.TheVariants.{Fault, OutOfMemory}
 use Rattle.mpslp_c.specs.{Answers.TakesItems, Stored.{Step, declares, bounds, kind_of_name_fault, name_given, number_given, limit_given}}
-use Rattle.mpslp_c.specs.Stored.{bytes_at, sense_steps, objective_steps, row_steps, kind_steps, column_steps, element_steps, element_items}
-use Rattle.mpslp_c.specs.Stored.{own_items, elements_end, column_items, step_faults, step_declared, first_kind, after_steps, steps_with}
-use Rattle.mpslp_c.specs.Stored.{Item, item_fault, first_item_fault, after_items, TakesSteps, placed}
+use Rattle.mpslp_c.specs.Stored.{bytes_at, sense_steps, objective_steps, row_steps, kind_steps, column_steps, element_steps}
+use Rattle.mpslp_c.specs.Stored.{element_items, own_items, elements_end, column_items, step_faults, step_declared, first_kind}
+use Rattle.mpslp_c.specs.Stored.{after_steps, steps_with, Item, item_fault, first_item_fault, after_items, TakesSteps, placed}
 use Rattle.mpslp_c.specs.declared.{numbers.MpslpNumber.MpslpNumber, arrays.{MpslpName.MpslpName, MpslpRow.MpslpRow}}
 use Rattle.mpslp_c.specs.declared.arrays.{MpslpColumn.MpslpColumn, MpslpElement.MpslpElement, MpslpModel.MpslpModel}
 use Rattle.mpslp_c.specs.declared.faults.{ItemFault.ItemFault, TheConstants.{AT_COLUMN, AT_ELEMENT}, StoreFault.StoreFault}
@@ -111,10 +112,14 @@ pub leads_last : (all xs : List Item) (old now new : Draft) (answer : Result (Un
 leads_last all xs old now new answer l taken = grind arith
 
 -- one item by its steps
-pub one_item : (item : Item) (old new : Draft) (answer : Result (Unit {0}) LineError) → TakesSteps item.steps old new answer → TakesItems (item ∷ []) old new (placed item.place item.number answer)
-one_item item old new (Ok _) taken = (ap (λ (o : Option FaultKind). option_map_or (λ kind. Some (item_fault item kind)) o None) taken.0, taken.1)
-one_item item old new (Err (Fault kind)) taken = ap (λ (o : Option FaultKind). option_map_or (λ kind. Some (item_fault item kind)) o None) taken
-one_item item old new (Err OutOfMemory) taken = tt
+pub one_item : (item : Item) (old new : Draft) (answer : Result (Unit {0}) LineError) {result : Result (Unit {0}) StoreFault}
+    → result ≡ placed item.place item.number answer → TakesSteps item.steps old new answer → TakesItems (item ∷ []) old new result
+one_item item old new answer is taken = subst (λ (r : Result (Unit {0}) StoreFault). TakesItems (item ∷ []) old new r) (sym is) (by answer taken)
+  where
+    by : (answer : Result (Unit {0}) LineError) → TakesSteps item.steps old new answer → TakesItems (item ∷ []) old new (placed item.place item.number answer)
+    by (Ok _) taken = (ap (λ (o : Option FaultKind). option_map_or (λ kind. Some (item_fault item kind)) o None) taken.0, taken.1)
+    by (Err (Fault kind)) taken = ap (λ (o : Option FaultKind). option_map_or (λ kind. Some (item_fault item kind)) o None) taken
+    by (Err OutOfMemory) taken = tt
 
 -- ---- lists by their indices
 
@@ -130,22 +135,31 @@ range_next {X} xs k end x below h =
 
 -- ---- the steps of items whose values are given
 
-pub objective_taken : (arrays : MpslpModel) (name : List ℕ) (constant : Number) → name_given arrays.names.now arrays.objective ≡ Ok name → number_given arrays.constant ≡ Ok constant
-    → objective_steps arrays ≡ declares (declare_objective name) ∷ declares (declare_constant constant) ∷ sense_steps arrays.sense
-objective_taken arrays name constant h k =
+-- a name that is given is made of its bytes, unless an allocation fails
+pub name_made : (all : List ℕ) (in_c : MpslpName) (name made : List ℕ) → name_given all in_c ≡ Ok name → IfNone (name_refusal name) (made ≡ name) → made ≡ name
+name_made all in_c name made h taken = grind arith
+
+pub objective_taken : (arrays : MpslpModel) (name made : List ℕ) (constant : Number) → name_given arrays.names.now arrays.objective ≡ Ok name → number_given arrays.constant ≡ Ok constant
+    → IfNone (name_refusal name) (made ≡ name) → objective_steps arrays ≡ declares (declare_objective made) ∷ declares (declare_constant constant) ∷ sense_steps arrays.sense
+objective_taken arrays name made constant h k taken =
     (λ i. steps_with (h i) (λ name. steps_with (k i) (λ constant. declares (declare_objective name) ∷ declares (declare_constant constant) ∷ sense_steps arrays.sense)))
+    ∙ (λ i. declares (declare_objective (sym (name_made arrays.names.now arrays.objective name made h taken) i)) ∷ declares (declare_constant constant) ∷ sense_steps arrays.sense)
 
-pub row_taken : (all : List ℕ) (row : MpslpRow) (name : List ℕ) (lower upper : Limit) → name_given all row.name ≡ Ok name → limit_given row.lower ≡ Ok lower → limit_given row.upper ≡ Ok upper
-    → row_steps all row ≡ declares (declare_row name (by_limits lower upper)) ∷ []
-row_taken all row name lower upper h k l =
+pub row_taken : (all : List ℕ) (row : MpslpRow) (name made : List ℕ) (lower upper : Limit) → name_given all row.name ≡ Ok name → limit_given row.lower ≡ Ok lower → limit_given row.upper ≡ Ok upper
+    → IfNone (name_refusal name) (made ≡ name) → row_steps all row ≡ declares (declare_row made (by_limits lower upper)) ∷ []
+row_taken all row name made lower upper h k l taken =
     (λ i. steps_with (h i) (λ name. steps_with (k i) (λ lower. steps_with (l i) (λ upper. declares (declare_row name (by_limits lower upper)) ∷ []))))
+    ∙ (λ i. declares (declare_row (sym (name_made all row.name name made h taken) i) (by_limits lower upper)) ∷ [])
 
-pub column_taken : (all objective : List ℕ) (column : MpslpColumn) (name : List ℕ) (lower upper : Limit) (cost : Number)
+pub column_taken : (all objective : List ℕ) (column : MpslpColumn) (name made : List ℕ) (lower upper : Limit) (cost : Number)
     → name_given all column.name ≡ Ok name → limit_given column.lower ≡ Ok lower → limit_given column.upper ≡ Ok upper → number_given column.cost ≡ Ok cost
-    → column_steps all objective column ≡ declares (declare_column name) ∷ bounds name lower upper ∷ declares (declare_coefficient (record { row = objective; column = name }) cost) ∷ kind_steps name column.kind
-column_taken all objective column name lower upper cost h k l m =
+    → IfNone (name_refusal name) (made ≡ name)
+    → column_steps all objective column ≡ declares (declare_column made) ∷ bounds name lower upper ∷ declares (declare_coefficient (record { row = objective; column = name }) cost) ∷ kind_steps name column.kind
+column_taken all objective column name made lower upper cost h k l m taken =
     (λ i. steps_with (h i) (λ name. steps_with (k i) (λ lower. steps_with (l i) (λ upper. steps_with (m i) (λ cost.
     declares (declare_column name) ∷ bounds name lower upper ∷ declares (declare_coefficient (record { row = objective; column = name }) cost) ∷ kind_steps name column.kind)))))
+    ∙ (λ i. declares (declare_column (sym (name_made all column.name name made h taken) i)) ∷ bounds name lower upper
+    ∷ declares (declare_coefficient (record { row = objective; column = name }) cost) ∷ kind_steps name column.kind)
 
 pub element_taken : (all column : List ℕ) (found : Option MpslpRow) (row : MpslpRow) (element : MpslpElement) (value : Number) → found ≡ Some row → number_given element.value ≡ Ok value
     → element_steps all column found element ≡ declares (declare_coefficient (record { row = bytes_at all row.name; column = column }) value) ∷ []
@@ -159,10 +173,6 @@ legal_by : (fits : Bool) (refusal : Option NameFault) (bytes name : List ℕ)
 legal_by true None bytes name h = let same : bytes ≡ name = cc in (refl, same)
 legal_by true (Some fault) bytes name h = let no : ⊥ = cc in absurd no
 legal_by false refusal bytes name h = let no : ⊥ = cc in absurd no
-
--- so a name is made of its bytes, unless an allocation fails
-pub name_made : (all : List ℕ) (in_c : MpslpName) (name made : List ℕ) → name_given all in_c ≡ Ok name → IfNone (name_refusal name) (made ≡ name) → made ≡ name
-name_made all in_c name made h taken = grind arith
 
 pub given_bytes : (all : List ℕ) (in_c : MpslpName) (name : List ℕ) → name_given all in_c ≡ Ok name → bytes_at all in_c ≡ name
 given_bytes all in_c name h = (legal_by (nat_le (in_c.at + in_c.len) (length all)) (name_refusal (bytes_at all in_c)) (bytes_at all in_c) name h).1

@@ -5,9 +5,9 @@ use Rattle.mpslp_model_core.specs.Model.{LinearModel}
 use Rattle.mpslp_types.specs.declared.faults.Fault.{Fault}
 use Rattle.mpslp_builder.specs.{Declaration.{Draft, empty_draft}, Made.IsMade, Meaning.DraftMeans, FileFault.file_fault}
 use Rattle.mpslp_builder.proofs.MadeDrafts.{no_fault-from_made}
-use Rattle.mpslp_c.specs.{Answers.TakesItems, Stored.{items, first_item_fault, after_items, Defines}, declared.arrays.MpslpModel.MpslpModel}
-use Rattle.mpslp_c.{specs.declared.faults.StoreFault.StoreFault, proofs.DefinesLemmas.{objective-declared, none-from_defines}}
-use Rattle.mpslp_c.proofs.{DefinesLemmas.meant-from_defines, KnownLemmas.items-known}
+use Rattle.mpslp_c.specs.{Answers.TakesItems, Stored.{items, first_item_fault, after_items, Defines}}
+use Rattle.mpslp_c.{specs.declared.{arrays.MpslpModel.MpslpModel, faults.StoreFault.StoreFault}, proofs.DefinesLemmas.objective-declared}
+use Rattle.mpslp_c.proofs.{DefinesLemmas.{none-from_defines, meant-from_defines}, KnownLemmas.items-known}
 use Rattle.mpslp_c.specs.declared.faults.StoreFault.TheVariants as stored
 
 pub some_none : {X : Type 0} (o : Option X) (x : X) → o ≡ None → o ≡ Some x → ⊥

@@ -1,6 +1,6 @@
-use Rattle.std.proofs.Common.{sym, subst, ℕ, [], ◌∷◌, ◌++◌, ◌+◌, length, drop, Result, Ok, Err}
-use Rattle.mpslp_c.specs.{Answers.TakesItems, Stored.{own_items, elements_end, column_items}, declared.faults.StoreFault.StoreFault}
-use Rattle.mpslp_c.proofs.StepLemmas.{leads_is, leads_then, leads_reported, one_item, column_lead, column_at, column_item}
+use Rattle.std.proofs.Common.{subst, ℕ, [], ◌∷◌, ◌++◌, ◌+◌, length, drop, Ok, Err}
+use Rattle.mpslp_c.{specs.{Answers.TakesItems, Stored.{own_items, elements_end, column_items}}, proofs.StepLemmas.{leads_is, leads_then}}
+use Rattle.mpslp_c.proofs.StepLemmas.{leads_reported, one_item, column_lead, column_at, column_item}
 use Rattle.mpslp_c.proofs.storing.declare_columns.Goals as goal
 
 pub returns-in_err-declare_own : goal.returns-in_err-declare_own
@@ -20,7 +20,7 @@ returns-in_err-declare_own c =
     let later = column_items names objective rows elements (j + 1) (drop (j + 1) columns) in
     let begun = leads_then all (item ∷ []) (own ++ later) c.args.builder.now now mid
     (leads_is (column_lead names objective rows elements columns j c.loop-j-test.true) c.loop-j.invariant.leads)
-    (subst (λ (r : Result (Unit {0}) StoreFault). TakesItems (item ∷ []) now mid r) (sym c.in_ok-placed.ensures) (one_item item now mid c.declare_column.result c.declare_column.ensures)) in
+    (one_item item now mid c.declare_column.result c.in_ok-placed.ensures c.declare_column.ensures) in
     leads_reported all own later c.args.builder.now mid new _ c.in_err-declare_own.field-0.0 _ begun
     (subst (λ (end : ℕ). TakesItems (own_items names rows elements j (column_at columns j) end) mid new (Err c.in_err-declare_own.field-0.0)) c.elements_end-end.ensures c.in_err-declare_own.ensures)
     c.from_residual-in_err-declare_own.ensures.1
@@ -42,7 +42,7 @@ loop-j-preserved c =
     let later = column_items names objective rows elements (j + 1) (drop (j + 1) columns) in
     let begun = leads_then all (item ∷ []) (own ++ later) c.args.builder.now now mid
     (leads_is (column_lead names objective rows elements columns j c.loop-j-test.true) c.loop-j.invariant.leads)
-    (subst (λ (r : Result (Unit {0}) StoreFault). TakesItems (item ∷ []) now mid r) (sym c.in_ok-placed.ensures) (one_item item now mid c.declare_column.result c.declare_column.ensures)) in
+    (one_item item now mid c.declare_column.result c.in_ok-placed.ensures c.declare_column.ensures) in
     record {
       leads = leads_then all own later c.args.builder.now mid new begun
           (subst (λ (end : ℕ). TakesItems (own_items names rows elements j (column_at columns j) end) mid new (Ok tt)) c.elements_end-end.ensures c.in_ok-declare_own.ensures);

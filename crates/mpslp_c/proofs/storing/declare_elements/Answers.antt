@@ -1,6 +1,6 @@
-use Rattle.std.{proofs.Common.{sym, subst, [], ◌∷◌, ◌+◌, Result}, specs.Prelude.slice_range}
-use Rattle.mpslp_c.{specs.{Answers.TakesItems, Stored.element_items, declared.faults.StoreFault.StoreFault}, proofs.StepLemmas.leads_is}
-use Rattle.mpslp_c.proofs.StepLemmas.{leads_then, leads_reported, one_item, element_lead, element_at, element_item}
+use Rattle.std.{proofs.Common.{[], ◌∷◌, ◌+◌}, specs.Prelude.slice_range}
+use Rattle.mpslp_c.{specs.Stored.element_items, proofs.StepLemmas.{leads_is, leads_then, leads_reported, one_item, element_lead}}
+use Rattle.mpslp_c.proofs.StepLemmas.{element_at, element_item}
 use Rattle.mpslp_c.proofs.storing.declare_elements.Goals as goal
 
 pub returns-in_err-placed : goal.returns-in_err-placed
@@ -17,7 +17,7 @@ returns-in_err-placed c =
     let later = element_items names rows column (k + 1) (slice_range elements (k + 1) c.args.end) in
     leads_reported all (item ∷ []) later c.args.builder.now now new _ c.in_err-placed.field-0.0 _
     (leads_is (element_lead names rows column elements k c.args.end c.loop-k-test.true c.requires.within) c.loop-k.invariant.leads)
-    (subst (λ (r : Result (Unit {0}) StoreFault). TakesItems (item ∷ []) now new r) (sym c.in_err-placed.ensures) (one_item item now new c.declare_element.result c.declare_element.ensures))
+    (one_item item now new c.declare_element.result c.in_err-placed.ensures c.declare_element.ensures)
     c.from_residual.ensures.1
 
 pub loop-k-preserved : goal.loop-k-preserved
@@ -35,5 +35,5 @@ loop-k-preserved c =
     record {
       leads = leads_then all (item ∷ []) later c.args.builder.now now new
           (leads_is (element_lead names rows column elements k c.args.end c.loop-k-test.true c.requires.within) c.loop-k.invariant.leads)
-          (subst (λ (r : Result (Unit {0}) StoreFault). TakesItems (item ∷ []) now new r) (sym c.in_ok-placed.ensures) (one_item item now new c.declare_element.result c.declare_element.ensures));
+          (one_item item now new c.declare_element.result c.in_ok-placed.ensures c.declare_element.ensures);
     }

@@ -1,49 +1,13 @@
 use Rattle.mpslp_c.proofs.texts.same_in.Goals as goal
 
-pub returns-in-Mps-Mps-clause-answer : goal.returns-in-Mps-Mps-clause-answer
-returns-in-Mps-Mps-clause-answer c = rw (c.in-Mps-Mps.is-0, c.in-Mps-Mps.is-1) c.same_model.ensures.answer
+pub returns-in-Mps-Mps : goal.returns-in-Mps-Mps
+returns-in-Mps-Mps c = rw (c.in-Mps-Mps.is-0, c.in-Mps-Mps.is-1) c.same_model.ensures
 
-pub returns-in-Mps-Mps-clause-accepts : goal.returns-in-Mps-Mps-clause-accepts
-returns-in-Mps-Mps-clause-accepts c = rw (c.in-Mps-Mps.is-0, c.in-Mps-Mps.is-1) c.same_model.ensures.accepts
+pub returns-in-Mps-Lp : goal.returns-in-Mps-Lp
+returns-in-Mps-Lp c = rw (c.in-Mps-Lp.is-0, c.in-Mps-Lp.is-1) c.same_model-in-Mps-Lp.ensures
 
-pub returns-in-Mps-Mps-clause-refuses : goal.returns-in-Mps-Mps-clause-refuses
-returns-in-Mps-Mps-clause-refuses c = rw c.in-Mps-Mps.is-0 c.same_model.ensures.refuses
+pub returns-in-Lp-Mps : goal.returns-in-Lp-Mps
+returns-in-Lp-Mps c = rw (c.in-Lp-Mps.is-0, c.in-Lp-Mps.is-1) c.same_model-in-Lp-Mps.ensures
 
-pub returns-in-Mps-Mps-clause-refuses_second : goal.returns-in-Mps-Mps-clause-refuses_second
-returns-in-Mps-Mps-clause-refuses_second c = rw (c.in-Mps-Mps.is-0, c.in-Mps-Mps.is-1) c.same_model.ensures.refuses_second
-
-pub returns-in-Mps-Lp-clause-answer : goal.returns-in-Mps-Lp-clause-answer
-returns-in-Mps-Lp-clause-answer c = rw (c.in-Mps-Lp.is-0, c.in-Mps-Lp.is-1) c.same_model-in-Mps-Lp.ensures.answer
-
-pub returns-in-Mps-Lp-clause-accepts : goal.returns-in-Mps-Lp-clause-accepts
-returns-in-Mps-Lp-clause-accepts c = rw (c.in-Mps-Lp.is-0, c.in-Mps-Lp.is-1) c.same_model-in-Mps-Lp.ensures.accepts
-
-pub returns-in-Mps-Lp-clause-refuses : goal.returns-in-Mps-Lp-clause-refuses
-returns-in-Mps-Lp-clause-refuses c = rw c.in-Mps-Lp.is-0 c.same_model-in-Mps-Lp.ensures.refuses
-
-pub returns-in-Mps-Lp-clause-refuses_second : goal.returns-in-Mps-Lp-clause-refuses_second
-returns-in-Mps-Lp-clause-refuses_second c = rw (c.in-Mps-Lp.is-0, c.in-Mps-Lp.is-1) c.same_model-in-Mps-Lp.ensures.refuses_second
-
-pub returns-in-Lp-Mps-clause-answer : goal.returns-in-Lp-Mps-clause-answer
-returns-in-Lp-Mps-clause-answer c = rw (c.in-Lp-Mps.is-0, c.in-Lp-Mps.is-1) c.same_model-in-Lp-Mps.ensures.answer
-
-pub returns-in-Lp-Mps-clause-accepts : goal.returns-in-Lp-Mps-clause-accepts
-returns-in-Lp-Mps-clause-accepts c = rw (c.in-Lp-Mps.is-0, c.in-Lp-Mps.is-1) c.same_model-in-Lp-Mps.ensures.accepts
-
-pub returns-in-Lp-Mps-clause-refuses : goal.returns-in-Lp-Mps-clause-refuses
-returns-in-Lp-Mps-clause-refuses c = rw c.in-Lp-Mps.is-0 c.same_model-in-Lp-Mps.ensures.refuses
-
-pub returns-in-Lp-Mps-clause-refuses_second : goal.returns-in-Lp-Mps-clause-refuses_second
-returns-in-Lp-Mps-clause-refuses_second c = rw (c.in-Lp-Mps.is-0, c.in-Lp-Mps.is-1) c.same_model-in-Lp-Mps.ensures.refuses_second
-
-pub returns-in-Lp-Lp-clause-answer : goal.returns-in-Lp-Lp-clause-answer
-returns-in-Lp-Lp-clause-answer c = rw (c.in-Lp-Lp.is-0, c.in-Lp-Lp.is-1) c.same_model-in-Lp-Lp.ensures.answer
-
-pub returns-in-Lp-Lp-clause-accepts : goal.returns-in-Lp-Lp-clause-accepts
-returns-in-Lp-Lp-clause-accepts c = rw (c.in-Lp-Lp.is-0, c.in-Lp-Lp.is-1) c.same_model-in-Lp-Lp.ensures.accepts
-
-pub returns-in-Lp-Lp-clause-refuses : goal.returns-in-Lp-Lp-clause-refuses
-returns-in-Lp-Lp-clause-refuses c = rw c.in-Lp-Lp.is-0 c.same_model-in-Lp-Lp.ensures.refuses
-
-pub returns-in-Lp-Lp-clause-refuses_second : goal.returns-in-Lp-Lp-clause-refuses_second
-returns-in-Lp-Lp-clause-refuses_second c = rw (c.in-Lp-Lp.is-0, c.in-Lp-Lp.is-1) c.same_model-in-Lp-Lp.ensures.refuses_second
+pub returns-in-Lp-Lp : goal.returns-in-Lp-Lp
+returns-in-Lp-Lp c = rw (c.in-Lp-Lp.is-0, c.in-Lp-Lp.is-1) c.same_model-in-Lp-Lp.ensures
