@@ -152,19 +152,50 @@ impl RowTerms {
     }
 }
 
+/// Consecutive numbers.
+fn numbers_from(first: usize) -> [usize; AHEAD] {
+    let mut numbers = [0usize; AHEAD];
+    for i in 0..AHEAD {
+        numbers[i] = first.saturating_add(i);
+    }
+    numbers
+}
+
 impl Tables {
+    /// The number of the first column, if as many columns as are looked up together probably follow the one that was used last in the
+    /// order of their declarations. Only the first and the last one are compared.
+    fn next_run(&self, terms: &[(Name, Decimal)]) -> Option<usize> {
+        if terms.len() < AHEAD {
+            return None;
+        }
+        let first = self.recent.saturating_add(1);
+        let last = first.saturating_add(AHEAD - 1);
+        let is_run = self.is_column(first, terms[0].0.as_bytes())
+            && self.is_column(last, terms[AHEAD - 1].0.as_bytes());
+        if is_run { Some(first) } else { None }
+    }
+
+    /// The numbers of the columns of the first terms, 0 where there is none.
+    fn numbers_of(&self, terms: &[(Name, Decimal)]) -> [usize; AHEAD] {
+        let mut numbers = [0usize; AHEAD];
+        let mut next = self.recent;
+        for i in 0..terms.len().min(AHEAD) {
+            if let Some(column) = self.column_from(terms[i].0.as_bytes(), next) {
+                numbers[i] = column;
+                next = column.saturating_add(1);
+            }
+        }
+        numbers
+    }
+
     /// The numbers that the columns of the first terms may have, 0 where there is none. They only speed up later look-ups, so any
     /// numbers are correct.
     fn guesses(&self, row: u32, terms: &[(Name, Decimal)]) -> [usize; AHEAD] {
         let count = terms.len().min(AHEAD);
-        let mut guesses = [0usize; AHEAD];
-        let mut next = self.recent;
-        for i in 0..count {
-            if let Some(column) = self.column_from(terms[i].0.as_bytes(), next) {
-                guesses[i] = column;
-                next = column.saturating_add(1);
-            }
-        }
+        let mut guesses = match self.next_run(terms) {
+            Some(first) => numbers_from(first),
+            None => self.numbers_of(terms),
+        };
         // This reads the last coefficient of each column, after which the next one is stored. In a loop of their own the misses of
         // the cache overlap.
         for i in 0..count {
@@ -176,6 +207,7 @@ impl Tables {
     }
 
     /// The number of the column of this name. The column of the guessed number is compared first.
+    #[inline(always)]
     fn column_from(&self, name: &[u8], guess: usize) -> Option<usize>
         ensures number { IfSome result (λ i. column_name self.now i ≡ Some name.now) }
         ensures found { is_some result ≡ has_column (draft None None self.now) name.now }
@@ -202,6 +234,7 @@ impl Tables {
     }
 
     /// Declares a term of a row, and its column if that is new.
+    #[inline(always)]
     fn declare_term(
         &mut self,
         alloc: Global,
