@@ -31,7 +31,7 @@ NAMES = ("x", "y", "z", "z1", "ab", "w.2", "E", "q_")
 LEGAL_NAMES = tuple(name for name in NAMES if name != "E")
 RELATIONS = {"<": ("<=", "<", "=<"), ">": (">=", ">", "=>"), "=": ("=",)}
 FLIPPED = {"<": ">", ">": "<", "=": "="}
-TOKEN = re.compile(r"\s+|\\[^\n]*|(?P<token>(?m:^)\d[\w.]*(?=\s*:)|<=|=<|<|>=|=>|>|==|=|:|\+|-|\*|(?:\d+\.?\d*|\.\d+)(?:[eE][+-]?\d+)?|[^\s\\<>=:*+^\-]+|.)")
+TOKEN = re.compile(r"\s+|\\[^\n]*|(?P<token>(?m:^)\d[^\s\\<>=:*+^\-]*(?=\s*:)|<=|=<|<|>=|=>|>|==|=|:|\+|-|\*|(?:\d+\.?\d*|\.\d+)(?:[eE][+-]?\d+)?|[^\s\\<>=:*+^\-]+|.)")
 STATEMENTS = {"constant-in-row", "terms-on-the-right", "number-first", "added-terms", "added-constants", "product"}
 LONGEST_SHOWN = 120
 
