@@ -1,17 +1,9 @@
 -- The three lemmas together, as both readers use them.
-use Rattle.std.proofs.Common.{arith, ◌≡◌, [], true}
-use Rattle.std.specs.Prelude.{None}
-use Rattle.std.specs.List.{list_all}
-use Rattle.mpslp_model_core.specs.Model.{LinearModel}
-use Rattle.mpslp_builder.specs.Declaration.{Declarations, empty_draft, draft_of}
-use Rattle.mpslp_builder.specs.Consistency.{has_objective}
-use Rattle.mpslp_builder.specs.Refusal.{refusals_in_turn}
-use Rattle.mpslp_builder.specs.Made.{is_legal}
-use Rattle.mpslp_builder.specs.Meaning.{model_of, Means}
-use Rattle.mpslp_builder.specs.FileFault.{file_fault}
+use Rattle.mpslp_builder.proofs.Prelude
+use Prelude.{arith, ◌≡◌, [], true, None, list_all, LinearModel, Declarations, empty_draft, draft_of, has_objective, refusals_in_turn}
+use Prelude.{is_legal, model_of, Means, file_fault}
 use Rattle.mpslp_builder.proofs.RefusalLemmas.{are_known_in_turn, consistent-from_none, none-from_consistent}
-use Rattle.mpslp_builder.proofs.MeaningFromNoFault.{means-from_no_fault}
-use Rattle.mpslp_builder.proofs.NoFaultFromMeaning.{no_fault-from_means}
+use Rattle.mpslp_builder.proofs.{MeaningFromNoFault.{means-from_no_fault}, NoFaultFromMeaning.{no_fault-from_means}}
 
 -- Legal declarations, none of which is rejected, with an objective and without a whole-file error mean the model of their draft.
 pub means-from_none : (declarations : Declarations) → has_objective declarations ≡ true → list_all is_legal declarations ≡ true

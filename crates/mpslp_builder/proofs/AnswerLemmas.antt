@@ -1,33 +1,11 @@
 -- The result of a call by its first error, and what is known if it has none.
-use Rattle.std.proofs.Common.{arith, ◌≡◌, refl, ap, subst, ◌∙◌, ℕ, Bool, true, false, cond, not, List, [], ◌∷◌}
-use Rattle.std.specs.Prelude.{◌&&◌, IsTrue, Option, Some, None, is_some, Ok, Err}
-use Rattle.std.specs.List.{list_all}
-use Rattle.std.specs.Result.{IsErrAnd}
-use Rattle.std.specs.Option.{ForSome, option_map_or}
-use Rattle.std.specs.Ordering.{eq_by_cmp}
-use Rattle.std.specs.Cmp.{first_so, second_so}
-use Rattle.std.specs.Cmp.Lexicographic.{texts_ties}
-use Rattle.std.specs.FinMap.{find, put, is_sorted}
-use Rattle.std.proofs.Math.Dec.{T}
-use Rattle.mpslp_decimal.specs.Decimal.{Number, is_decimal}
-use Rattle.mpslp_types.specs.Name.{is_mps_name, bytes_cmp}
-use Rattle.mpslp_model_core.specs.Model.{CoefficientKey, key_cmp}
-use Rattle.mpslp_model_core.proofs.KeyLemmas.{same_key}
-use Rattle.mpslp_model_core.proofs.PutsLemmas.{equal_from}
-use Rattle.mpslp_builder.specs.Calls.{CoefficientsAreKnown}
-use Rattle.mpslp_builder.specs.Declaration.{Declaration, Draft, with_declaration, has_name, has_row, has_column, with_declarations, bounds_declared}
-use Rattle.mpslp_types.specs.Lists.{those_of}
-use Rattle.mpslp_builder.specs.Refusal.{refusals, bounds_refusals}
-use Rattle.mpslp_types.specs.Limit.{is_given}
-use Rattle.mpslp_builder.specs.Made.{is_legal, IsMade}
-use Rattle.mpslp_types.specs.declared.kinds.Limit.{Limit}
-use Rattle.mpslp_types.specs.declared.faults.BuildFault.{BuildFault}
-use Rattle.mpslp_types.specs.declared.faults.BuildFault.TheVariants.{UnknownColumn, OutOfMemory}
-use Rattle.mpslp_builder.specs.Answer.{Answer, Answers, first_refusal}
-use Rattle.mpslp_types.proofs.EachLemmas.{imp_all}
-use Rattle.mpslp_builder.proofs.SlotLemmas.{same_name}
-use Rattle.mpslp_builder.proofs.PutOrderLemmas.{put-again}
-use Rattle.mpslp_builder.proofs.SortedDrafts.{bytes_total, tied_names}
+use Rattle.mpslp_builder.proofs.Prelude
+use Prelude.{arith, ◌≡◌, refl, ap, subst, ◌∙◌, ℕ, Bool, true, false, cond, not, List, [], ◌∷◌, ◌&&◌, IsTrue, Option, Some, None, is_some}
+use Prelude.{Ok, Err, list_all, IsErrAnd, ForSome, option_map_or, eq_by_cmp, first_so, second_so, texts_ties, find, put, is_sorted, T}
+use Prelude.{Number, is_mps_name, bytes_cmp, CoefficientKey, key_cmp, same_key, equal_from, CoefficientsAreKnown, Declaration, Draft}
+use Prelude.{with_declaration, has_name, has_row, has_column, with_declarations, bounds_declared, those_of, refusals, bounds_refusals}
+use Prelude.{is_given, is_legal, IsMade, Limit, BuildFault, UnknownColumn, OutOfMemory, Answer, Answers, first_refusal, imp_all}
+use Rattle.mpslp_builder.proofs.{SlotLemmas.{same_name}, PutOrderLemmas.{put-again}, SortedDrafts.{bytes_total, tied_names}}
 use Rattle.mpslp_builder.proofs.MadeDrafts.{is_free_rhs, made-with_declaration, made-bounds, good-from_made}
 
 pub none_refused : (faults : List BuildFault) → Ok tt ≡ first_refusal faults → faults ≡ []
@@ -75,7 +53,7 @@ named_so {X} p name (e ∷ es) all h =
 
 -- a declared column has a legal name
 pub column_is_legal : (all : Draft) (name : List ℕ) → IsMade all → has_column all name ≡ true → is_mps_name name ≡ true
-column_is_legal all name made h = named_so is_mps_name name all.columns (good-from_made all made).columns h
+column_is_legal all name made h = named_so _ name _ (good-from_made all made).columns h
 
 -- ---- what is known if no test is true
 
@@ -115,12 +93,12 @@ keyed_so : (p : CoefficientKey → Bool) (key : CoefficientKey) (es : List (Coef
 keyed_so p key [] all h = cc
 keyed_so p key (e ∷ es) all h =
     elim (eq_by_cmp key_cmp key e.0) as (λ b. eq_by_cmp key_cmp key e.0 ≡ b → is_some (cond b (Some e.1) (find key_cmp key es)) ≡ true → p key ≡ true) [
-      | true ↦ λ same _. ap p (same_key key e.0 (equal_from (key_cmp key e.0) same)) ∙ first_so (p e.0) (list_all (λ (e : CoefficientKey × Number). p e.0) es) all
-      | false ↦ λ _ there. keyed_so p key es (second_so (p e.0) (list_all (λ (e : CoefficientKey × Number). p e.0) es) all) there
+      | true ↦ λ same _. ap p (same_key key e.0 (equal_from _ same)) ∙ first_so _ (list_all _ es) all
+      | false ↦ λ _ there. keyed_so p key es (second_so _ (list_all _ es) all) there
     ] refl h
 
 -- the row (or objective) and the column of a declared coefficient are declared
 pub coefficients_known : (all : Draft) → IsMade all → CoefficientsAreKnown all
 coefficients_known all made key there =
-    keyed_so (λ key. has_row all key.row && has_column all key.column) key all.coefficients
-    (imp_all _ (λ e. has_row all e.0.row && has_column all e.0.column) all.coefficients (λ e h. second_so (is_decimal e.1) _ h) (good-from_made all made).coefficients) there
+    keyed_so (λ key. has_row all _ && has_column all _) key _
+    (imp_all _ (λ e. has_row all _ && has_column all _) _ (λ e h. second_so _ _ h) (good-from_made all made).coefficients) there

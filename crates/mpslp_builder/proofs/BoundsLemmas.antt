@@ -1,16 +1,8 @@
 -- The bounds of a column follow from the printed ones and the defaults.
-use Rattle.std.proofs.Common.{arith, ◌≡◌, List, ℕ, Bool, true, false}
-use Rattle.std.specs.Prelude.{Option, Some, None, is_none, unwrap_or, ◌&&◌, if◌then◌else◌}
-use Rattle.mpslp_decimal.specs.Decimal.{Number, is_zero, zero_number}
-use Rattle.mpslp_model_core.specs.Model.{Column}
-use Rattle.mpslp_types.specs.Limit.{is_lower_side, is_upper_side}
-use Rattle.mpslp_builder.specs.Bounds.{zero_limit, one_limit, lower_bound, upper_bound}
-use Rattle.mpslp_builder.specs.Meaning.{column_of}
-use Rattle.mpslp_builder.specs.Declaration.{Draft, at_name, has_name, is_integer, is_semi}
-use Rattle.mpslp_types.specs.declared.kinds.Kind.{Kind}
-use Rattle.mpslp_types.specs.declared.kinds.Kind.TheVariants.{Continuous, Integer, Semi}
-use Rattle.mpslp_types.specs.declared.kinds.Limit.{Limit}
-use Rattle.mpslp_types.specs.declared.kinds.Limit.TheVariants.{MinusInf, Finite, PlusInf}
+use Rattle.mpslp_builder.proofs.Prelude
+use Prelude.{arith, ◌≡◌, List, ℕ, Bool, true, false, Option, Some, None, is_none, unwrap_or, ◌&&◌, if◌then◌else◌, Number, is_zero}
+use Prelude.{zero_number, Column, is_lower_side, is_upper_side, zero_limit, one_limit, lower_bound, upper_bound, column_of, Draft, at_name}
+use Prelude.{has_name, is_integer, is_semi, Kind, Continuous, Integer, Semi, Limit, MinusInf, Finite, PlusInf}
 
 abbrev pub is_integer_kind : Kind → Bool
 is_integer_kind Integer = true

@@ -1,24 +1,19 @@
 -- The drafts that tables represent after each call.
-use Rattle.std.proofs.Common.{arith, ◌≡◌, refl, sym, ap, subst, ◌∙◌, ℕ, zero, suc, List, [], ◌∷◌, ◌++◌, Bool, true, false}
-use Rattle.std.specs.Prelude.{None, Some, Option, is_some, slice_get, length, ◌<◌, ◌||◌}
-use Rattle.std.specs.Option.{option_map}
-use Rattle.indexmap.specs.IndexMap.{set_value_at}
-use Rattle.mpslp_decimal.specs.Decimal.{Number}
-use Rattle.mpslp_types.specs.declared.kinds.Limit.{Limit}
-use Rattle.mpslp_types.specs.declared.kinds.Sense.{Sense}
-use Rattle.mpslp_model_core.specs.Limits.{RowDefinition, is_definition_by_limits}
-use Rattle.mpslp_model_core.proofs.CellLemmas.{at}
-use Rattle.mpslp_builder.specs.Declaration.{with_declaration, with_declarations, declare_row, declare_objective, declare_column, declare_coefficient, declare_rhs, declare_range, declare_marked, declare_integer, declare_binary, declare_semi, bounds_declared, has_row, has_column, has_coefficient}
-use Rattle.mpslp_builder.specs.Tables.{cells_of, name_of_objective, draft_from, draft, AreNumbered, IsNumbered}
-use Rattle.mpslp_builder.specs.Calls.{row_key_of, row_name, row_satisfies, column_name, new_column, with_cell, with_bounds, IsOnceEach, IsSameTables, HasObjective, HasRowAdded, HasRowChanged, HasColumnAdded, HasColumnChanged, HasObjectiveChanged, HasRhsPut}
-use Rattle.mpslp_builder_parts.specs.declared.parts.ObjectiveParts.{ObjectiveParts}
-use Rattle.mpslp_builder_parts.specs.RowParts.{RowParts}
-use Rattle.mpslp_builder_parts.specs.declared.parts.ColumnParts.{ColumnParts}
-use Rattle.mpslp_builder.specs.declared.tables.RowRef.{RowRef}
-use Rattle.mpslp_builder.specs.declared.tables.RowRef.TheVariants.{Objective, Row}
-use Rattle.mpslp_builder.specs.declared.tables.Tables.{Tables}
-use Rattle.mpslp_builder.proofs.ColumnDrafts.{column_draft, column_numbered, kept_numbered, mark_draft, integer_draft, binary_draft, semi_draft, sides_draft, cell_draft, cell_numbered}
-use Rattle.mpslp_builder.proofs.RowDrafts.{row_draft, row_numbered, written_numbered, range_draft, rhs_draft, objective_draft, objective_numbered, objective_rhs_draft, objective_rhs_numbered}
+use Rattle.mpslp_builder.proofs.Prelude
+use Prelude.{arith, ◌≡◌, refl, sym, ap, subst, ◌∙◌, ℕ, zero, suc, List, [], ◌∷◌, ◌++◌, Bool, true, false, None, Some, Option, is_some}
+use Prelude.{slice_get, length, ◌<◌, ◌||◌, option_map, set_value_at, Number, Limit, Sense, RowDefinition, is_definition_by_limits, at}
+use Prelude.{with_declaration, with_declarations, declare_row, declare_objective, declare_column, declare_coefficient, declare_rhs}
+use Prelude.{declare_range, declare_marked, declare_integer, declare_binary, declare_semi, bounds_declared, has_row, has_column}
+use Prelude.{has_coefficient, cells_of, name_of_objective, draft_from, draft, AreNumbered, IsNumbered, row_key_of, row_name, row_satisfies}
+use Prelude.{column_name, new_column, with_cell, with_bounds, IsOnceEach, IsSameTables, HasObjective, HasRowAdded, HasRowChanged}
+use Prelude.{HasColumnAdded, HasColumnChanged, HasObjectiveChanged, HasRhsPut, ObjectiveParts, RowParts, ColumnParts, RowRef, Objective}
+use Prelude.{Tables, Draft, find, nat_cmp, cells_at}
+use Rattle.mpslp_builder.specs.declared.tables.RowRef.TheVariants.{Row}
+use Rattle.mpslp_builder.proofs.ColumnDrafts.{column_draft, column_numbered, kept_numbered, mark_draft, integer_draft, binary_draft}
+use Rattle.mpslp_builder.proofs.ColumnDrafts.{semi_draft, sides_draft, cell_draft, cell_numbered}
+use Rattle.mpslp_builder.proofs.RowDrafts.{row_draft, row_numbered, written_numbered, range_draft, rhs_draft, objective_draft}
+use Rattle.mpslp_builder.proofs.RowDrafts.{objective_numbered, objective_rhs_draft, objective_rhs_numbered}
+use Rattle.mpslp_builder.proofs.ReadingLemmas.{entry_at, cell_at}
 
 abbrev Parts : Type 0
 Parts = Option ObjectiveParts × List (List ℕ × RowParts) × List (List ℕ × ColumnParts)
@@ -143,43 +138,43 @@ module _ (sense : Option Sense) (constant : Option Number) (t u : Tables) where
         numbered_written (kept_numbered sense constant t.objective t.rows.entries t.columns.entries i h.key h.parts h.was (change h.parts) kept numbered)
 
   module _ (once : IsOnceEach t) (i : ℕ) (c : List ℕ) (column : column_name t i ≡ Some c) where
+    -- what is declared of the name of the entry is declared of the name of the number
+    by_name : (change : ColumnParts → ColumnParts) (h : HasColumnChanged t i change u) (after : List ℕ → Draft)
+        → draft_from sense constant t.objective t.rows.entries (set_value_at t.columns.entries i (change h.parts)) ≡ after h.key → draft sense constant u ≡ after c
+    by_name change h after is = columns_written change i h ∙ is ∙ ap after (entry_named (slice_get t.columns.entries i) h.key h.parts c h.was column)
+
     pub mark_added : HasColumnChanged t i (λ parts. record parts { marked = true }) u → draft sense constant u ≡ with_declaration (draft sense constant t) (declare_marked c)
     mark_added h =
-        columns_written (λ parts. record parts { marked = true }) i h
-        ∙ mark_draft sense constant t.objective t.rows.entries t.columns.entries i h.key h.parts h.was once.columns
-        ∙ ap (λ (name : List ℕ). with_declaration (draft sense constant t) (declare_marked name)) (entry_named (slice_get t.columns.entries i) h.key h.parts c h.was column)
+        by_name (λ parts. record parts { marked = true }) h (λ name. with_declaration (draft sense constant t) (declare_marked name))
+        (mark_draft sense constant t.objective t.rows.entries t.columns.entries i h.key h.parts h.was once.columns)
 
     pub integer_added : HasColumnChanged t i (λ parts. record parts { integer = true }) u → draft sense constant u ≡ with_declaration (draft sense constant t) (declare_integer c)
     integer_added h =
-        columns_written (λ parts. record parts { integer = true }) i h
-        ∙ integer_draft sense constant t.objective t.rows.entries t.columns.entries i h.key h.parts h.was once.columns
-        ∙ ap (λ (name : List ℕ). with_declaration (draft sense constant t) (declare_integer name)) (entry_named (slice_get t.columns.entries i) h.key h.parts c h.was column)
+        by_name (λ parts. record parts { integer = true }) h (λ name. with_declaration (draft sense constant t) (declare_integer name))
+        (integer_draft sense constant t.objective t.rows.entries t.columns.entries i h.key h.parts h.was once.columns)
 
     pub binary_added : HasColumnChanged t i (λ parts. record parts { binary = true }) u → draft sense constant u ≡ with_declaration (draft sense constant t) (declare_binary c)
     binary_added h =
-        columns_written (λ parts. record parts { binary = true }) i h
-        ∙ binary_draft sense constant t.objective t.rows.entries t.columns.entries i h.key h.parts h.was once.columns
-        ∙ ap (λ (name : List ℕ). with_declaration (draft sense constant t) (declare_binary name)) (entry_named (slice_get t.columns.entries i) h.key h.parts c h.was column)
+        by_name (λ parts. record parts { binary = true }) h (λ name. with_declaration (draft sense constant t) (declare_binary name))
+        (binary_draft sense constant t.objective t.rows.entries t.columns.entries i h.key h.parts h.was once.columns)
 
     pub semi_added : HasColumnChanged t i (λ parts. record parts { semi = true }) u → draft sense constant u ≡ with_declaration (draft sense constant t) (declare_semi c)
     semi_added h =
-        columns_written (λ parts. record parts { semi = true }) i h
-        ∙ semi_draft sense constant t.objective t.rows.entries t.columns.entries i h.key h.parts h.was once.columns
-        ∙ ap (λ (name : List ℕ). with_declaration (draft sense constant t) (declare_semi name)) (entry_named (slice_get t.columns.entries i) h.key h.parts c h.was column)
+        by_name (λ parts. record parts { semi = true }) h (λ name. with_declaration (draft sense constant t) (declare_semi name))
+        (semi_draft sense constant t.objective t.rows.entries t.columns.entries i h.key h.parts h.was once.columns)
 
     pub sides_added : (lower upper : Option Limit) → HasColumnChanged t i (with_bounds lower upper) u → draft sense constant u ≡ with_declarations (draft sense constant t) (bounds_declared c lower upper)
     sides_added lower upper h =
-        columns_written (with_bounds lower upper) i h
-        ∙ sides_draft sense constant t.objective t.rows.entries t.columns.entries i h.key h.parts h.was lower upper once.columns
-        ∙ ap (λ (name : List ℕ). with_declarations (draft sense constant t) (bounds_declared name lower upper)) (entry_named (slice_get t.columns.entries i) h.key h.parts c h.was column)
+        by_name (with_bounds lower upper) h (λ name. with_declarations (draft sense constant t) (bounds_declared name lower upper))
+        (sides_draft sense constant t.objective t.rows.entries t.columns.entries i h.key h.parts h.was lower upper once.columns)
 
     module _ (numbered : IsNumbered t) (n : ℕ) (r : List ℕ) (row : row_name t n ≡ Some r) (x : Number) (h : HasColumnChanged t i (with_cell n x) u) where
-      pub cell_added : has_coefficient (draft sense constant t) (at r c) ≡ false → draft sense constant u ≡ with_declaration (draft sense constant t) (declare_coefficient (at r c) x)
+      pub cell_added : find nat_cmp n (cells_at t i) ≡ None → draft sense constant u ≡ with_declaration (draft sense constant t) (declare_coefficient (at r c) x)
       cell_added absent =
-          let name = entry_named (slice_get t.columns.entries i) h.key h.parts c h.was column in
-          columns_written (with_cell n x) i h
-          ∙ cell_draft sense constant t.objective t.rows.entries t.columns.entries i h.key h.parts h.was numbered n r row x (ap (λ (k : List ℕ). has_coefficient (draft sense constant t) (at r k)) name ∙ absent)
-          ∙ ap (λ (k : List ℕ). with_declaration (draft sense constant t) (declare_coefficient (at r k) x)) name
+          by_name (with_cell n x) h (λ k. with_declaration (draft sense constant t) (declare_coefficient (at r k) x))
+          (cell_draft sense constant t.objective t.rows.entries t.columns.entries i h.key h.parts h.was numbered n r row x once.columns
+          (ap (λ (k : List ℕ). has_coefficient (draft sense constant t) (at r k)) (entry_named (slice_get t.columns.entries i) h.key h.parts c h.was column)
+          ∙ cell_at sense constant t once i c (entry_at t.columns.entries i c column) n r numbered row ∙ ap is_some absent))
 
       pub cell_added_numbered : IsNumbered u
       cell_added_numbered =

@@ -1,21 +1,7 @@
 -- Lists without duplicates: joined, made by a flat_map, and the keys of sorted entries.
-use Rattle.std.proofs.Common.{arith, ◌≡◌, refl, ap, List, [], ◌∷◌, ◌++◌, Bool, true, false, map}
-use Rattle.std.specs.Prelude.{◌&&◌, not}
-use Rattle.std.specs.List.{list_any, flat_map}
-use Rattle.std.specs.Cmp.{first_so, second_so, IsTotalOrder}
-use Rattle.std.specs.Ordering.{is_lt}
-use Rattle.std.specs.declared.cmp.Ordering.{Ordering}
-use Rattle.std.specs.FinMap.{is_sorted}
-use Rattle.std.specs.FinMap.Entries.{below_all}
-use Rattle.std.proofs.lemmas.List.Folds.{list_any-append}
-use Rattle.mpslp_types.specs.Lists.{are_distinct}
-use Rattle.mpslp_types.proofs.EachLemmas.{Each, Each-weaker}
-
-both : (a b : Bool) → a ≡ true → b ≡ true → (a && b) ≡ true
-both a b p q = grind arith
-
-not_of : (a : Bool) → not a ≡ true → a ≡ false
-not_of a h = grind arith
+use Rattle.mpslp_builder.proofs.Prelude
+use Prelude.{arith, ◌≡◌, refl, ap, List, [], ◌∷◌, ◌++◌, Bool, true, false, map, not, list_any, flat_map, first_so, second_so, IsTotalOrder}
+use Prelude.{is_lt, Ordering, is_sorted, below_all, list_any-append, are_distinct, Each, Each-weaker, both_so, not_so}
 
 module _ {K : Type 0} (same : K → K → Bool) where
   -- no key equals this one
@@ -30,8 +16,8 @@ module _ {K : Type 0} (same : K → K → Bool) where
   distinct-append [] ys h k apart = k
   distinct-append (x ∷ xs) ys h k apart =
       let only = list_any (λ later. same later x) xs in
-      let here = not_of only (first_so (not only) (are_distinct same xs) h) in
-      both (not (list_any (λ later. same later x) (xs ++ ys))) (are_distinct same (xs ++ ys)) (ap not (new_append x xs ys here apart.0))
+      let here = not_so only (first_so (not only) (are_distinct same xs) h) in
+      both_so (not (list_any (λ later. same later x) (xs ++ ys))) (are_distinct same (xs ++ ys)) (ap not (new_append x xs ys here apart.0))
       (distinct-append xs ys (second_so (not only) (are_distinct same xs) h) k apart.1)
 
   new_flat : {X : Type 0} (f : X → List K) (k : K) (xs : List X) → Each (λ x. IsNew k (f x)) xs → IsNew k (flat_map f xs)
@@ -61,4 +47,4 @@ module _ {K X : Type 0} (R : K → K → Ordering) (o : IsTotalOrder R) (same : 
   -- the keys of sorted entries
   pub distinct-sorted : (es : List (K × X)) → is_sorted R es ≡ true → are_distinct same (map (λ e. e.0) es) ≡ true
   distinct-sorted [] h = refl
-  distinct-sorted (e ∷ es) h = grind (arith, both, none_above, distinct-sorted es (second_so (below_all R e.0 es) (is_sorted R es) h))
+  distinct-sorted (e ∷ es) h = grind (arith, both_so, none_above, distinct-sorted es (second_so (below_all R e.0 es) (is_sorted R es) h))

@@ -1,39 +1,25 @@
 -- A property of all declarations is one of all entries of the draft.
-use Rattle.std.proofs.Common.{arith, ◌≡◌, refl, sym, ap, ◌∙◌, ℕ, List, [], ◌∷◌, Bool, true, not}
-use Rattle.std.specs.Prelude.{◌&&◌}
-use Rattle.std.specs.List.{list_all}
-use Rattle.std.specs.Option.{option_map_or}
-use Rattle.std.specs.Cmp.{first_so, second_so}
-use Rattle.std.specs.Cmp.Lexicographic.{nat_list_cmp_total}
-use Rattle.std.proofs.Math.Dec.{T}
-use Rattle.std.specs.declared.cmp.Ordering.{Ordering}
+use Rattle.mpslp_builder.proofs.Prelude
+use Prelude.{arith, ◌≡◌, refl, sym, ap, ◌∙◌, ℕ, List, [], ◌∷◌, Bool, true, not, ◌&&◌, list_all, option_map_or, first_so, second_so}
+use Prelude.{nat_list_cmp_total, T, Ordering, put, is_sorted, is_sorted-put, is_decimal, is_mps_name, bytes_cmp, CoefficientKey, key_cmp}
+use Prelude.{key_total, tied_names, Declaration, declare_row, declare_rhs, declare_column, declare_coefficient, declare_lower}
+use Prelude.{declare_upper, Declarations, Draft, empty_draft, with_declaration, with_declarations, has_row, has_column, have_infinite_side}
+use Prelude.{is_given, is_plus_infinite, is_minus_infinite, are_given, is_legal, is_known, is_allowed, both_so}
 use Rattle.std.specs.declared.cmp.Ordering.TheVariants as orders
-use Rattle.std.specs.FinMap.{put, is_sorted}
-use Rattle.std.specs.FinMap.Entries.{is_sorted-put}
-use Rattle.mpslp_decimal.specs.Decimal.{Number, is_decimal}
-use Rattle.mpslp_types.specs.Name.{is_mps_name, bytes_cmp}
-use Rattle.mpslp_model_core.specs.Model.{CoefficientKey, key_cmp}
-use Rattle.mpslp_model_core.specs.KeyOrder.{key_total}
 pub use Rattle.mpslp_model_core.proofs.KeyLemmas.{same_key}
-use Rattle.mpslp_model_core.proofs.KeyLemmas.{tied_names}
-use Rattle.mpslp_builder.specs.Declaration.{RowDefinition, Declaration, declare_row, declare_rhs, declare_column, declare_coefficient, declare_lower, declare_upper, Declarations, Draft, empty_draft, with_declaration, with_declarations, has_row, has_column, have_infinite_side}
-use Rattle.mpslp_types.specs.Limit.{is_given, is_plus_infinite, is_minus_infinite}
-use Rattle.mpslp_builder.specs.Made.{are_given, is_legal}
-use Rattle.mpslp_builder.specs.Consistency.{is_known, is_allowed}
-use Rattle.mpslp_types.proofs.BoolLemmas.{both_so}
 
 -- ---- one more entry
 
-put_all : {K X : Type 0} (R : K → K → Ordering) (p : K × X → Bool) (k : K) (v : X) (es : List (K × X)) → ((j : K) → R k j ≡ orders.Equal → p (j, v) ≡ true) → p (k, v) ≡ true
+pub put_all : {K X : Type 0} (R : K → K → Ordering) (p : K × X → Bool) (k : K) (v : X) (es : List (K × X)) → ((j : K) → R k j ≡ orders.Equal → p (j, v) ≡ true) → p (k, v) ≡ true
     → list_all p es ≡ true → list_all p (put R k v es) ≡ true
-put_all R p k v [] tied h all = both_so (p (k, v)) true h refl
+put_all R p k v [] tied h all = both_so _ _ h refl
 put_all {K} {X} R p k v (e ∷ es) tied h all = grind (arith, both_so, put_all R p k v es tied h (second_so (p e) (list_all p es) all))
 
 put_names : {X : Type 0} (p : List ℕ × X → Bool) (k : List ℕ) (v : X) (es : List (List ℕ × X)) → p (k, v) ≡ true → list_all p es ≡ true → list_all p (put bytes_cmp k v es) ≡ true
-put_names p k v es h all = put_all bytes_cmp p k v es (λ j tie. ap (λ (n : List ℕ). p (n, v)) (sym (tied_names k j tie)) ∙ h) h all
+put_names p k v es h all = put_all bytes_cmp p k v es (λ j tie. ap (λ n. p (n, v)) (sym (tied_names k j tie)) ∙ h) h all
 
 put_keys : {X : Type 0} (p : CoefficientKey × X → Bool) (k : CoefficientKey) (v : X) (es : List (CoefficientKey × X)) → p (k, v) ≡ true → list_all p es ≡ true → list_all p (put key_cmp k v es) ≡ true
-put_keys p k v es h all = put_all key_cmp p k v es (λ j tie. ap (λ (n : CoefficientKey). p (n, v)) (sym (same_key k j tie)) ∙ h) h all
+put_keys p k v es h all = put_all key_cmp p k v es (λ j tie. ap (λ n. p (n, v)) (sym (same_key k j tie)) ∙ h) h all
 
 -- ---- a draft whose entries are valid in the draft of all declarations
 
@@ -55,15 +41,15 @@ good-with_declaration : (all draft : Draft) (d : Declaration) → IsGood all dra
 good-with_declaration all b (declare_row name definition) g legal known allowed = record {
   objective = g.objective;
   constant = g.constant;
-  rows = put_names (λ (e : List ℕ × RowDefinition). is_mps_name e.0 && (are_given e.1 && not (have_infinite_side e.1))) name definition b.rows
-      (both_so (is_mps_name name) (are_given definition && not (have_infinite_side definition)) (first_so (is_mps_name name) (are_given definition) legal)
-      (both_so (are_given definition) (not (have_infinite_side definition)) (second_so (is_mps_name name) (are_given definition) legal) allowed)) g.rows;
+  rows = put_names _ name _ b.rows
+      (both_so _ _ (first_so _ _ legal)
+      (both_so _ _ (second_so _ _ legal) allowed)) g.rows;
   rhs_values = g.rhs_values;
   columns = g.columns;
   coefficients = g.coefficients;
   lowers = g.lowers;
   uppers = g.uppers;
-  rows_sorted = is_sorted-put bytes_cmp nat_list_cmp_total name definition b.rows g.rows_sorted;
+  rows_sorted = is_sorted-put _ nat_list_cmp_total name _ b.rows g.rows_sorted;
   columns_sorted = g.columns_sorted;
   coefficients_sorted = g.coefficients_sorted;
 }
@@ -73,7 +59,7 @@ good-with_declaration all b (declare_column name) g legal known allowed = record
   constant = g.constant;
   rows = g.rows;
   rhs_values = g.rhs_values;
-  columns = put_names (λ (e : List ℕ × Unit {0}). is_mps_name e.0) name tt b.columns legal g.columns;
+  columns = put_names _ name tt b.columns legal g.columns;
   coefficients = g.coefficients;
   lowers = g.lowers;
   uppers = g.uppers;
@@ -87,13 +73,13 @@ good-with_declaration all b (declare_coefficient key value) g legal known allowe
   rows = g.rows;
   rhs_values = g.rhs_values;
   columns = g.columns;
-  coefficients = put_keys (λ (e : CoefficientKey × Number). is_decimal e.1 && (has_row all e.0.row && has_column all e.0.column)) key value b.coefficients
-      (both_so (is_decimal value) (has_row all key.row && has_column all key.column) legal known) g.coefficients;
+  coefficients = put_keys _ key value b.coefficients
+      (both_so _ (has_row all key.row && has_column all key.column) legal known) g.coefficients;
   lowers = g.lowers;
   uppers = g.uppers;
   rows_sorted = g.rows_sorted;
   columns_sorted = g.columns_sorted;
-  coefficients_sorted = is_sorted-put key_cmp key_total key value b.coefficients g.coefficients_sorted;
+  coefficients_sorted = is_sorted-put _ key_total key _ _ g.coefficients_sorted;
 }
 good-with_declaration all b (declare_lower column limit) g legal known allowed = grind (arith, put_names, both_so)
 good-with_declaration all b (declare_upper column limit) g legal known allowed = grind (arith, put_names, both_so)

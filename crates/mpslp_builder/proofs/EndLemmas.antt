@@ -1,32 +1,12 @@
 -- What the steps of `finish` require of tables.
-use Rattle.std.proofs.Common.{rules, ◌≡◌, refl, sym, ap, subst, ◌∙◌, ℕ, zero, suc, ◌+◌, ◌<◌, List, [], ◌∷◌, ◌++◌, length, arith, Bool, true, false, cond, IsPermutation}
-use Rattle.std.specs.Prelude.{◌≢◌, Option, Some, None, is_some, unwrap_or, slice_get, slice_index}
-use Rattle.std.specs.Option.{option_map, option_map_or}
-use Rattle.std.specs.Ordering.{is_lt, eq_by_cmp}
-use Rattle.std.specs.FinMap.{find}
-use Rattle.std.specs.List.{All, range_with_len}
-use Rattle.std.specs.List.Sorted.{IsSortedBy}
-use Rattle.mpslp_decimal.specs.Decimal.{Number, negated, zero_number}
-use Rattle.mpslp_types.specs.Name.{bytes_cmp}
-use Rattle.mpslp_types.specs.declared.kinds.Sense.{Sense}
-use Rattle.mpslp_types.proofs.EachLemmas.{Each, Each-weaker}
-use Rattle.mpslp_model_core.specs.Numbered.{sorted_of, each_part, given_parts, IsInjective}
-use Rattle.mpslp_model_core.proofs.KeyLemmas.{bytes_total}
-use Rattle.mpslp_model_core.proofs.SortedLemmas.{find-sorted_of}
-use Rattle.mpslp_model_core.proofs.CellLemmas.{or_else, find-two, name_same, name_tied}
-use Rattle.mpslp_model_core.proofs.MovingLemmas.{all-from_each}
-use Rattle.mpslp_builder.specs.Declaration.{at_name}
-use Rattle.mpslp_builder.specs.Meaning.{constant_of}
-use Rattle.mpslp_builder.specs.Tables.{name_of_objective, rhs_of, cells_of, objective_rhs, name_of_row_key, draft_from, AreNumbered}
-use Rattle.mpslp_builder_parts.specs.Ordered.{name_at, entries_at}
-use Rattle.mpslp_builder_parts.specs.Parts.{rhs_in, itself}
-use Rattle.mpslp_builder_parts.specs.declared.parts.ObjectiveParts.{ObjectiveParts}
-use Rattle.mpslp_builder_parts.specs.RowParts.{RowParts}
-use Rattle.mpslp_builder_parts.specs.declared.parts.ColumnParts.{ColumnParts}
-use Rattle.mpslp_builder.proofs.OrderedParts.{no_part-found}
-use Rattle.mpslp_builder_parts.proofs.RankLemmas.{order_length, order_within, order_apart}
-use Rattle.mpslp_builder_parts.proofs.TakenLemmas.{as_many}
-use Rattle.mpslp_builder.proofs.ModelOfTables.{within-all}
+use Rattle.mpslp_builder.proofs.Prelude
+use Prelude.{rules, ◌≡◌, refl, sym, ap, subst, ◌∙◌, ℕ, zero, suc, ◌+◌, ◌<◌, List, [], ◌∷◌, ◌++◌, length, arith, Bool, true, false, cond}
+use Prelude.{IsPermutation, ◌≢◌, Option, Some, None, is_some, unwrap_or, slice_get, slice_index, option_map, option_map_or, is_lt}
+use Prelude.{eq_by_cmp, find, All, range_with_len, IsSortedBy, Number, negated, zero_number, bytes_cmp, Sense, Each, Each-weaker, sorted_of}
+use Prelude.{each_part, given_parts, IsInjective, bytes_total, find-sorted_of, or_else, find-two, name_same, name_tied, all-from_each}
+use Prelude.{at_name, constant_of, name_of_objective, rhs_of, cells_of, objective_rhs, name_of_row_key, draft_from, AreNumbered, name_at}
+use Prelude.{entries_at, rhs_in, itself, ObjectiveParts, RowParts, ColumnParts, order_length, order_within, order_apart, as_many}
+use Rattle.mpslp_builder.proofs.{OrderedParts.{no_part-found}, ModelOfTables.{within-all}}
 
 -- entries, their indices in the order of their names, and the entries in that order
 pub record AreOrdered {V : Type 0} (entries : List (List ℕ × V)) (order : List ℕ) (ordered : List (List ℕ × V)) : Type 0 where

@@ -1,20 +1,10 @@
 -- A file has no whole-file error if and only if no row and no column passes a test of one.
-use Rattle.std.proofs.Common.{arith, ◌≡◌, refl, ℕ, List, [], ◌∷◌, Bool, true, false, not, cond, map}
-use Rattle.std.specs.Prelude.{◌&&◌, Option, Some, None, filter, filter_map}
-use Rattle.std.specs.List.{list_all, cons_option}
-use Rattle.std.specs.Option.{option_map, option_map_or}
-use Rattle.std.specs.Cmp.{second_so}
-use Rattle.mpslp_decimal.specs.Decimal.{Number}
-use Rattle.mpslp_builder.specs.Declaration.{RowDefinition, Draft, at_name, names_in}
-use Rattle.mpslp_model_core.specs.Limits.{limits_of, has_infinite_rhs}
-use Rattle.mpslp_model_core.specs.WrongParts.{is_inexact, is_too_large, is_crossed}
-use Rattle.mpslp_builder.specs.Bounds.{has_crossed_bounds, has_semi_bounds}
-use Rattle.mpslp_builder.specs.Meaning.{has_negative_upper, has_binary_bounds, row_passes}
-use Rattle.mpslp_types.specs.Lists.{is_nonempty, head_of}
-use Rattle.mpslp_builder.specs.FileFault.{whole_fault, rows_where, names_with, named_faults, file_fault}
-use Rattle.mpslp_types.specs.declared.faults.Fault.{Fault}
-use Rattle.mpslp_types.specs.declared.faults.FaultKind.{FaultKind}
-use Rattle.mpslp_types.specs.declared.faults.FaultKind.TheVariants.{NoColumns, InfiniteLimit, RangeInexact, LimitTooLarge, LimitsCrossed, NegativeUpper, BoundsCrossed, BinaryBounds, SemiBounds}
+use Rattle.mpslp_builder.proofs.Prelude
+use Prelude.{arith, ◌≡◌, refl, ℕ, List, [], ◌∷◌, Bool, true, false, not, cond, map, ◌&&◌, Option, Some, None, filter, filter_map, list_all}
+use Prelude.{cons_option, option_map, option_map_or, second_so, Number, RowDefinition, Draft, at_name, names_in, limits_of}
+use Prelude.{has_infinite_rhs, is_inexact, is_too_large, is_crossed, has_crossed_bounds, has_semi_bounds, has_negative_upper}
+use Prelude.{has_binary_bounds, row_passes, is_nonempty, head_of, whole_fault, rows_where, names_with, file_fault, Fault, FaultKind}
+use Prelude.{InfiniteLimit, RangeInexact, LimitTooLarge, LimitsCrossed, NegativeUpper, BoundsCrossed, BinaryBounds, SemiBounds}
 
 -- ---- the tests of the kinds
 
@@ -79,7 +69,7 @@ add : (all : Draft) (kind : FaultKind) (more : List FaultKind) → names_with al
 add all kind more h k = grind arith
 
 rows_pass : (all : Draft) (test : RowDefinition → Number → Option Number → Bool) → rows_where all test ≡ [] → passes_rows all test ≡ true
-rows_pass all test h = none_filtered (row_passes all test) all.rows (none_mapped (λ (entry : List ℕ × RowDefinition). entry.0) _ h)
+rows_pass all test h = none_filtered _ all.rows (none_mapped _ _ h)
 
 test_of : {X : Type 0} (b : Bool) (x : X) (o : Option X) → cond b o (Some x) ≡ None → b ≡ true
 test_of b x o h = grind arith
@@ -91,7 +81,7 @@ branch_of b x o h = grind arith
 pub no_fault-from_none : (all : Draft) → file_fault all ≡ None → HasNoFault all
 no_fault-from_none all h =
     let there = is_nonempty all.columns in
-    let none = whole_fault NoColumns None in
+    let none = whole_fault _ None in
     let k8 = SemiBounds ∷ [] in
     let k7 = BinaryBounds ∷ k8 in
     let k6 = BoundsCrossed ∷ k7 in
@@ -99,7 +89,7 @@ no_fault-from_none all h =
     let k4 = LimitsCrossed ∷ k5 in
     let k3 = LimitTooLarge ∷ k4 in
     let k2 = RangeInexact ∷ k3 in
-    let h1 = branch_of there none (head_of (named_faults all)) h in
+    let h1 = branch_of _ none (head_of _) h in
     let h2 = later all InfiniteLimit k2 h1 in
     let h3 = later all RangeInexact k3 h2 in
     let h4 = later all LimitTooLarge k4 h3 in
@@ -108,15 +98,15 @@ no_fault-from_none all h =
     let h7 = later all BoundsCrossed k7 h6 in
     let h8 = later all BinaryBounds k8 h7 in
     record {
-      column = test_of there none (head_of (named_faults all)) h;
+      column = test_of there _ (head_of _) h;
       rhs_values = rows_pass all has_infinite_rhs (here all InfiniteLimit k2 h1);
       exact = rows_pass all (λ definition b r. is_inexact (limits_of definition b r)) (here all RangeInexact k3 h2);
       small = rows_pass all (λ definition b r. is_too_large (limits_of definition b r)) (here all LimitTooLarge k4 h3);
       straight = rows_pass all (λ definition b r. is_crossed (limits_of definition b r)) (here all LimitsCrossed k5 h4);
-      no_negative_upper = none_filtered (has_negative_upper all) (names_in all.columns) (here all NegativeUpper k6 h5);
-      bounds = none_filtered (has_crossed_bounds all) (names_in all.columns) (here all BoundsCrossed k7 h6);
-      binary = none_filtered (has_binary_bounds all) (names_in all.columns) (here all BinaryBounds k8 h7);
-      semi = none_filtered (has_semi_bounds all) (names_in all.columns) (here all SemiBounds [] h8);
+      no_negative_upper = none_filtered (has_negative_upper all) _ (here all NegativeUpper k6 h5);
+      bounds = none_filtered (has_crossed_bounds all) _ (here all BoundsCrossed k7 h6);
+      binary = none_filtered (has_binary_bounds all) _ (here all BinaryBounds k8 h7);
+      semi = none_filtered (has_semi_bounds all) _ (here all SemiBounds [] h8);
     }
 
 -- There is none, so none is reported.

@@ -1,43 +1,18 @@
 -- The model that `finish` makes of tables, from its parts.
-use Rattle.std.proofs.Common.{arith, rules, ◌≡◌, refl, sym, ap, subst, ◌∙◌, ℕ, List, [], ◌∷◌, map, Bool, true}
-use Rattle.std.specs.Prelude.{Option, Some, None, filter, is_some, slice_index, unwrap_or}
-use Rattle.std.specs.Ordering.{nat_cmp}
-use Rattle.std.specs.Cmp.{first_so, second_so}
-use Rattle.std.specs.FinMap as maps
-use Rattle.std.specs.FinMap.{is_sorted, put}
-use Rattle.std.specs.List.{list_all}
-use Rattle.mpslp_decimal.specs.Decimal.{Number, zero_number}
-use Rattle.mpslp_types.specs.Name.{bytes_cmp}
-use Rattle.mpslp_types.specs.declared.kinds.Sense.{Sense}
-use Rattle.mpslp_types.specs.declared.kinds.Sense.TheVariants.{Minimize}
-use Rattle.mpslp_types.specs.declared.kinds.RowType.TheVariants.{Free}
-use Rattle.mpslp_types.proofs.BoolLemmas.{true_from, both_so}
-use Rattle.mpslp_types.proofs.EachLemmas.{Each, Each-weaker, Each-map, Each-from_list_all}
-use Rattle.mpslp_model_core.specs.Model.{key_cmp, IsSound}
-use Rattle.mpslp_model_core.specs.Limits.{plain_limits}
-use Rattle.mpslp_model_core.specs.ModelParts.{linear_model, AreModelParts, columns_in}
-use Rattle.mpslp_model_core.specs.ModelParts as parts
-use Rattle.mpslp_model_core.specs.Numbered.{sorted_of, each_part, all_cells, all_named, is_kept, moved_cells, IsOnce}
-use Rattle.mpslp_model_core.specs.declared.model.ModelParts.{ModelParts}
-use Rattle.mpslp_model_core.proofs.SortedLemmas.{is_sorted-sorted_of}
-use Rattle.mpslp_model_core.proofs.OnceLemmas.{is_sorted-filter}
-use Rattle.mpslp_model_core.proofs.MovingLemmas.{each-kept}
-use Rattle.mpslp_builder.specs.Declaration.{Draft}
-use Rattle.mpslp_builder.specs.Made.{IsMade}
-use Rattle.mpslp_builder.specs.Meaning.{column_of, objective_name, constant_of, row_limits, row_entry, model_of, DraftMeans}
-use Rattle.mpslp_builder.specs.FileFault.{file_fault}
-use Rattle.mpslp_builder.specs.Tables.{definition_of, cells_of, no_part, name_of_row_key, cells_by_name, draft_from, AreNumbered}
-use Rattle.mpslp_builder_parts.specs.Ordered.{entries_at}
-use Rattle.mpslp_builder_parts.specs.Parts.{moved_in}
-use Rattle.mpslp_builder_parts.specs.declared.parts.ObjectiveParts.{ObjectiveParts}
-use Rattle.mpslp_builder_parts.specs.RowParts.{RowParts}
-use Rattle.mpslp_builder_parts.specs.declared.parts.ColumnParts.{ColumnParts}
-use Rattle.mpslp_builder.proofs.MadeDrafts.{meant-from_made}
-use Rattle.mpslp_builder.proofs.SortedDrafts.{sorted-from_made}
-use Rattle.mpslp_builder.proofs.MeaningFromNoFault.{sorted-mapped}
+use Rattle.mpslp_builder.proofs.Prelude
+use Prelude.{arith, rules, ◌≡◌, refl, sym, ap, subst, ◌∙◌, ℕ, List, [], ◌∷◌, map, true, Option, Some, None, filter, is_some, slice_index}
+use Prelude.{unwrap_or, nat_cmp, first_so, second_so, is_sorted, put, list_all, Number, zero_number, bytes_cmp, Sense, Minimize, Free}
+use Prelude.{true_from, both_so, Each, Each-weaker, Each-map, Each-from_list_all, key_cmp, IsSound, plain_limits, linear_model}
+use Prelude.{AreModelParts, columns_in, sorted_of, each_part, all_cells, all_named, is_kept, moved_cells, IsOnce, ModelParts}
+use Prelude.{is_sorted-sorted_of, is_sorted-filter, each-kept, Draft, IsMade, column_of, objective_name, constant_of, row_limits, row_entry}
+use Prelude.{model_of, DraftMeans, file_fault, definition_of, cells_of, no_part, name_of_row_key, cells_by_name, draft_from, AreNumbered}
+use Prelude.{entries_at, moved_in, ObjectiveParts, RowParts, ColumnParts, list_all-from_Each}
+use Rattle.mpslp_builder.proofs.{MadeDrafts.{meant-from_made}, SortedDrafts.{sorted-from_made}, MeaningFromNoFault.{sorted-mapped}}
 use Rattle.mpslp_builder.proofs.OrderedParts.{ordered_parts, each-ordered}
 use Rattle.mpslp_builder.proofs.TableParts.{SaysRow, SaysColumn, rows_say, rows_meant, columns_say, columns_meant}
 use Rattle.mpslp_builder.proofs.ModelOfTables.{AreFinished, keeps, coefficients_are}
+use Rattle.std.specs.FinMap as maps
+use Rattle.mpslp_model_core.specs.ModelParts as parts
 
 -- The parts of a model are what a draft means by them.
 pub record AreMeantParts (all : Draft) (m : ModelParts) : Type 0 where
@@ -72,10 +47,6 @@ meant_draft all m made there none p = subst (DraftMeans all) (sym (meant_model a
 
 -- ---- the cells of a column that are moved
 
-all-from : {X : Type 0} (p : X → Bool) (xs : List X) → Each (λ x. p x ≡ true) xs → list_all p xs ≡ true
-all-from p [] h = refl
-all-from p (x ∷ xs) h = both_so (p x) (list_all p xs) h.0 (all-from p xs h.1)
-
 module _ (P : ℕ → Type 0) where
   each-put : (k : ℕ) (v : Number) (es : List (ℕ × Number)) → P k → Each (λ e. P e.0) es → Each (λ e. P e.0) (put nat_cmp k v es)
   each-put k v [] here h = (here, tt)
@@ -97,7 +68,7 @@ module _ (objective : Option ObjectiveParts) (rows : List (List ℕ × RowParts)
   moved_named cells h =
       let P : ℕ → Type 0 = λ k. is_some (parts.name_of_row_key m k) ≡ true in
       let all = map (λ e. (slice_index f.ranks e.0, e.1)) cells in
-      all-from (λ e. is_some (parts.name_of_row_key m e.0)) (moved_cells f.ranks cells)
+      list_all-from_Each (λ e. is_some (parts.name_of_row_key m e.0)) (moved_cells f.ranks cells)
       (each-kept (λ e. P e.0) (sorted_of nat_cmp all)
       (each-sorted_of P all
       (Each-map (λ e. P e.0) (λ e. (slice_index f.ranks e.0, e.1)) cells

@@ -1,16 +1,8 @@
 -- A result that meets the contract of `finish` is the model that the declarations mean.
-use Rattle.std.proofs.Common.{arith, ◌≡◌, sym, subst, ◌∙◌, true}
-use Rattle.std.specs.Prelude.{Some, None, is_some, Result, IfOk, MatchResult}
-use Rattle.mpslp_model_core.specs.Model.{LinearModel}
-use Rattle.mpslp_types.specs.declared.faults.Fault.{Fault}
-use Rattle.mpslp_types.specs.declared.faults.ReadFault.{ReadFault}
+use Rattle.mpslp_builder.proofs.Prelude
+use Prelude.{arith, ◌≡◌, sym, subst, ◌∙◌, true, Some, None, is_some, Result, IfOk, MatchResult, LinearModel, Fault, ReadFault, Draft}
+use Prelude.{Finishes, IsMade, DraftMeans, Means, file_fault, IsAnswerOf}
 use Rattle.mpslp_types.specs.declared.faults.ReadFault.TheVariants.{OutOfMemory}
-use Rattle.mpslp_builder.specs.Declaration.{Draft}
-use Rattle.mpslp_builder.specs.Finish.{Finishes}
-use Rattle.mpslp_builder.specs.Made.{IsMade}
-use Rattle.mpslp_builder.specs.Meaning.{DraftMeans, Means}
-use Rattle.mpslp_builder.specs.FileFault.{file_fault}
-use Rattle.mpslp_builder.specs.Laws.{IsAnswerOf}
 use Rattle.mpslp_builder.proofs.MadeDrafts.{consistent-from_made, no_fault-from_made}
 
 module _ (all : Draft) (made : IsMade all) (there : is_some all.objective ≡ true) where

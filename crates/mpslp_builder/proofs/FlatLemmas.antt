@@ -1,6 +1,5 @@
 -- Lists made of the lists that elements make.
-use Rattle.std.proofs.Common.{◌≡◌, refl, List, [], ◌∷◌, ◌++◌}
-use Rattle.std.specs.List.{flat_map}
+use Rattle.mpslp_builder.proofs.Prelude.{◌≡◌, refl, List, [], ◌∷◌, ◌++◌, flat_map}
 
 pub flat-none : {X Y : Type 0} (f : X → List Y) → ((x : X) → f x ≡ []) → (xs : List X) → flat_map f xs ≡ []
 flat-none f h [] = refl

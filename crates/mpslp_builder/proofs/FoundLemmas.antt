@@ -1,41 +1,17 @@
 -- The error that is found first is the one that is reported: of each kind, the one with the least name.
-use Rattle.std.proofs.Common.{◌≡◌, refl, sym, ap, ◌∙◌, ℕ, zero, suc, drop, ◌<◌, ◌+◌, ◌-◌, List, [], ◌∷◌, length, map, Bool, true, false, cond, arith}
-use Rattle.std.specs.Prelude.{Option, Some, None, is_some, filter, filter_map, slice_get, slice_index_or, unwrap_or}
-use Rattle.std.specs.Option.{option_map}
-use Rattle.std.specs.List.{list_any}
-use Rattle.std.specs.Cmp.{first_so, second_so}
-use Rattle.std.specs.Ordering.{is_lt, is_eq}
-use Rattle.std.specs.declared.cmp.Ordering.{Ordering}
-use Rattle.std.specs.declared.cmp.Ordering.TheVariants.{Less, Equal, Greater}
-use Rattle.std.specs.FinMap.{find, put, is_sorted}
-use Rattle.std.specs.FinMap.Entries.{by_order, below_all}
-use Rattle.std.proofs.Math.Dec.{T}
-use Rattle.std.proofs.lemmas.List.{drop_more}
-use Rattle.mpslp_decimal.specs.Decimal.{zero_number}
-use Rattle.mpslp_types.specs.Name.{bytes_cmp}
-use Rattle.mpslp_types.proofs.BoolLemmas.{both_so, nor, true_from, T_from}
-use Rattle.mpslp_types.specs.Lists.{head_of, is_nonempty}
-use Rattle.mpslp_model_core.specs.Numbered.{sorted_of, each_part, IsOnce}
-use Rattle.mpslp_model_core.specs.declared.limits.RowFault.{RowFault}
+use Rattle.mpslp_builder.proofs.Prelude
+use Prelude.{◌≡◌, refl, sym, ap, ◌∙◌, ℕ, zero, suc, drop, ◌<◌, ◌+◌, ◌-◌, List, [], ◌∷◌, length, map, Bool, true, false, cond, arith, Option}
+use Prelude.{Some, None, is_some, filter, filter_map, slice_get, slice_index_or, unwrap_or, option_map, list_any, first_so, second_so}
+use Prelude.{is_lt, is_eq, Ordering, Less, Equal, Greater, find, put, is_sorted, by_order, below_all, T, drop_more, zero_number, bytes_cmp}
+use Prelude.{both_so, nor, true_from, T_from, head_of, is_nonempty, sorted_of, each_part, IsOnce, RowFault, ColumnFault, bytes_total}
+use Prelude.{find-sorted_of, is_sorted-sorted_of, Draft, names_in, declared_of, row_passes, whole_fault, file_fault, definition_of, no_part}
+use Prelude.{draft, IsNumbered, IsOnceEach, row_test, bounds_test, kind_of_row_fault, kind_of_column_fault, row_fails, column_fails}
+use Prelude.{is_wrong_row, is_wrong_column, lesser, is_below, least_name, entry_name, named_fault, RowParts, ColumnParts, Tables, FaultKind}
+use Prelude.{or_else, less_from}
+use Rattle.mpslp_builder.proofs.{NameLemmas.{once_too}, OwnParts.{row_parts_at, column_parts_at}}
 use Rattle.mpslp_model_core.specs.declared.limits.RowFault.TheVariants as rows
-use Rattle.mpslp_model_core.specs.declared.bounds.ColumnFault.{ColumnFault}
 use Rattle.mpslp_model_core.specs.declared.bounds.ColumnFault.TheVariants as columns
-use Rattle.mpslp_model_core.proofs.KeyLemmas.{bytes_total}
-use Rattle.mpslp_model_core.proofs.SortedLemmas.{find-sorted_of, is_sorted-sorted_of}
-use Rattle.mpslp_builder.specs.Declaration.{Draft, names_in}
-use Rattle.mpslp_builder.specs.Meaning.{declared_of, row_passes}
-use Rattle.mpslp_builder.specs.FileFault.{whole_fault, file_fault}
-use Rattle.mpslp_builder.specs.Tables.{definition_of, no_part, draft, IsNumbered}
-use Rattle.mpslp_builder.specs.Calls.{IsOnceEach}
-use Rattle.mpslp_builder.specs.FaultFound.{row_test, bounds_test, kind_of_row_fault, kind_of_column_fault, row_fails, column_fails, is_wrong_row, is_wrong_column, lesser, is_below, least_name, entry_name, named_fault}
-use Rattle.mpslp_builder_parts.specs.RowParts.{RowParts}
-use Rattle.mpslp_builder_parts.specs.declared.parts.ColumnParts.{ColumnParts}
-use Rattle.mpslp_builder.specs.declared.tables.Tables.{Tables}
-use Rattle.mpslp_types.specs.declared.faults.FaultKind.{FaultKind}
 use Rattle.mpslp_types.specs.declared.faults.FaultKind.TheVariants as kinds
-use Rattle.mpslp_model_core.proofs.CellLemmas.{or_else}
-use Rattle.mpslp_builder.proofs.NameLemmas.{once_too}
-use Rattle.mpslp_builder.proofs.OwnParts.{row_parts_at, column_parts_at}
 
 -- ---- the first name of a sorted map that passes a test
 
@@ -48,9 +24,6 @@ module _ {X : Type 0} (p : List ℕ × X → Bool) where
   below_first : (k : List ℕ) (es : List (List ℕ × X)) → below_all bytes_cmp k es ≡ true → lesser k (first_of p es) ≡ k
   below_first k [] h = refl
   below_first k (e ∷ es) h = grind (arith, below_first k es (second_so (is_lt (bytes_cmp k e.0)) (below_all bytes_cmp k es) h))
-
-  less_from : (w : Ordering) → is_lt w ≡ true → w ≡ Less
-  less_from w h = grind arith
 
   -- a name below another one is below all names that are above that one
   below_through : (k m : List ℕ) (es : List (List ℕ × X)) → bytes_cmp k m ≡ Less → below_all bytes_cmp m es ≡ true → below_all bytes_cmp k es ≡ true

@@ -1,7 +1,6 @@
 -- The parts of a draft that declarations leave unchanged.
-use Rattle.std.proofs.Common.{◌≡◌, refl, ◌∙◌, [], ◌∷◌}
-use Rattle.mpslp_builder.specs.Declaration.{Declaration, Declarations, Draft, with_declaration, with_declarations}
-use Rattle.mpslp_types.proofs.EachLemmas.{Each}
+use Rattle.mpslp_builder.proofs.Prelude
+use Prelude.{◌≡◌, refl, ◌∙◌, [], ◌∷◌, Declaration, Declarations, Draft, with_declaration, with_declarations, Each}
 
 -- a part that has a value keeps it
 abbrev pub Stays : {X : Type 0} → (Draft → X) → X → Declaration → Type 0

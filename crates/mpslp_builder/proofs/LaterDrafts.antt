@@ -1,14 +1,10 @@
 -- What a later draft keeps of an earlier one: if no slot is filled twice, what was declared stays declared.
-use Rattle.std.proofs.Common.{arith, rules, ◌≡◌, refl, ℕ, List, [], ◌∷◌, Bool, true, false, not, cond}
-use Rattle.std.specs.Prelude.{◌&&◌, Option, Some, is_some}
-use Rattle.std.specs.Option.{option_map_or}
-use Rattle.std.specs.Cmp.{first_so, second_so}
-use Rattle.std.specs.FinMap.{put}
-use Rattle.std.specs.Cmp.Lexicographic.{nat_list_eq_equiv}
-use Rattle.mpslp_types.specs.Name.{same_bytes, bytes_cmp}
-use Rattle.mpslp_builder.specs.Declaration.{RowDefinition, Declaration, declare_sense, declare_objective, declare_constant, declare_row, declare_rhs, declare_range, declare_column, declare_coefficient, declare_lower, declare_upper, declare_marked, declare_integer, declare_binary, declare_semi, Declarations, Draft, with_declaration, with_declarations, at_name, has_name, has_row, has_column, is_objective, is_integer, is_semi}
-use Rattle.mpslp_builder.specs.Consistency.{slots_of, is_known}
-use Rattle.mpslp_types.proofs.BoolLemmas.{or_right, either_more, not_so}
+use Rattle.mpslp_builder.proofs.Prelude
+use Prelude.{arith, rules, ◌≡◌, refl, ℕ, List, [], ◌∷◌, Bool, true, false, not, cond, ◌&&◌, Option, Some, is_some, option_map_or, first_so}
+use Prelude.{second_so, put, nat_list_eq_equiv, same_bytes, bytes_cmp, RowDefinition, Declaration, declare_row, declare_rhs, declare_range}
+use Prelude.{declare_column, declare_coefficient, declare_lower, declare_upper, declare_marked, declare_integer, declare_binary}
+use Prelude.{declare_semi, Declarations, Draft, with_declaration, with_declarations, at_name, has_name, has_row, has_column, is_objective}
+use Prelude.{is_integer, is_semi, slots_of, is_known, or_right, either_more, not_so}
 use Rattle.mpslp_builder.proofs.SlotLemmas.{at-put, has-put, are_fresh, are_fresh_in_turn, same_name}
 
 -- ---- what a later draft keeps
@@ -31,7 +27,7 @@ then_on a b c f g = record {
   objective = λ n h. g.objective n (f.objective n h);
   constant = λ h. g.constant (f.constant h);
   right_side = λ n h. g.right_side n (f.right_side n h);
-  row = λ n definition h. g.row n definition (f.row n definition h);
+  row = λ n definition h. g.row n _ (f.row n _ h);
   column = λ n h. g.column n (f.column n h);
   integer = λ n h. g.integer n (f.integer n h);
   semi = λ n h. g.semi n (f.semi n h);
@@ -48,9 +44,6 @@ is_new_row : (all : Draft) (name q : List ℕ) (definition : RowDefinition) (res
 is_new_row all name q definition rest h same found = search (rules, same_name, not_so, or_right)
 
 pub extends-with_declaration : (all : Draft) (d : Declaration) → are_fresh all (slots_of d) ≡ true → Extends all (with_declaration all d)
-extends-with_declaration all (declare_sense s) h = grind arith
-extends-with_declaration all (declare_objective name) h = grind arith
-extends-with_declaration all (declare_constant v) h = grind arith
 extends-with_declaration all (declare_row name definition) h = grind (arith, at-put, kept_row, is_new_row)
 extends-with_declaration all (declare_rhs row v) h = record { objective = λ _ h. h; constant = λ h. h; right_side = λ q e. more_entries q row v all.rhs_values e; row = λ _ _ h. h; column = λ _ h. h; integer = λ _ h. h; semi = λ _ h. h }
 extends-with_declaration all (declare_column name) h = record { objective = λ _ h. h; constant = λ h. h; right_side = λ _ h. h; row = λ _ _ h. h; column = λ q e. more_entries q name tt all.columns e; integer = λ _ h. h; semi = λ _ h. h }
@@ -61,11 +54,11 @@ extends-with_declaration all (declare_semi c) h = record { objective = λ _ h. h
 extends-with_declaration all _ h = grind arith
 
 pub extends-in_turn : (declarations : Declarations) (before : Draft) → are_fresh_in_turn before declarations ≡ true → Extends before (with_declarations before declarations)
-extends-in_turn [] before h = itself before
+extends-in_turn [] before h = itself _
 extends-in_turn (d ∷ more) before h =
-    then_on before (with_declaration before d) (with_declarations (with_declaration before d) more)
-    (extends-with_declaration before d (first_so (are_fresh before (slots_of d)) (are_fresh_in_turn (with_declaration before d) more) h))
-    (extends-in_turn more (with_declaration before d) (second_so (are_fresh before (slots_of d)) (are_fresh_in_turn (with_declaration before d) more) h))
+    then_on _ _ _
+    (extends-with_declaration _ d (first_so _ (are_fresh_in_turn _ more) h))
+    (extends-in_turn more _ (second_so _ (are_fresh_in_turn _ more) h))
 
 -- ---- what follows for names
 
@@ -85,8 +78,8 @@ pub has_row-after : (before after : Draft) (q : List ℕ) → Extends before aft
 has_row-after before after q e h = grind arith
 
 pub known-after : (before after : Draft) (d : Declaration) → Extends before after → is_known before d ≡ true → is_known after d ≡ true
-known-after before after (declare_rhs row v) e h = has_row-after before after row e h
-known-after before after (declare_range row v) e h = has_row-after before after row e h
+known-after before after (declare_rhs row v) e h = has_row-after _ _ row e h
+known-after before after (declare_range row v) e h = has_row-after _ after row e h
 known-after before after (declare_coefficient key v) e h = grind arith
 known-after before after (declare_lower c l) e h = e.column c h
 known-after before after (declare_upper c l) e h = e.column c h

@@ -1,3 +1,4 @@
+pub mod Prelude
 pub mod AnswerLemmas
 pub mod PartedLemmas
 pub mod DistinctLemmas

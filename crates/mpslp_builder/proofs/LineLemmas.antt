@@ -1,43 +1,18 @@
 -- Lines of a column by number: what each step declares, and what is still known after it.
-use Rattle.std.proofs.Common.{arith, rules, ◌≡◌, refl, sym, ap, ◌∙◌, ℕ, zero, suc, List, [], ◌∷◌, ◌++◌, Bool, true, false, cond, length}
-use Rattle.std.specs.Prelude.{◌≢◌, Option, Some, None, is_some, slice_get, ◌||◌, Result, Ok, OnOk, OnErr}
-use Rattle.std.specs.Option.{option_map, option_map_or}
-use Rattle.std.specs.Ordering.{nat_cmp, is_eq}
-use Rattle.std.specs.declared.cmp.Ordering.{Ordering}
-use Rattle.std.specs.declared.cmp.Ordering.TheVariants.{Less, Equal, Greater}
-use Rattle.std.specs.Cmp.{nat_cmp_total}
-use Rattle.std.specs.FinMap.{find, nat_cmp-IsAntisymmetric}
-use Rattle.std.specs.FinMap.Entries.{find-put}
-use Rattle.indexmap.specs.IndexMap.{set_value_at}
-use Rattle.mpslp_decimal.specs.Decimal.{Number, is_decimal}
-use Rattle.mpslp_types.specs.Name.{is_mps_name}
-use Rattle.mpslp_types.specs.declared.kinds.Sense.{Sense}
-use Rattle.mpslp_types.specs.declared.faults.BuildFault.{BuildFault}
-use Rattle.mpslp_model_core.proofs.CellLemmas.{at}
-use Rattle.mpslp_builder.specs.Declaration.{Draft, Declarations, with_declaration, with_declarations, declare_column, declare_marked, declare_coefficient, has_row, has_column}
-use Rattle.mpslp_builder.specs.Refusal.{refusals, refusals_in_turn}
-use Rattle.mpslp_builder.specs.Tables.{no_part, cells_of, name_of_row_key, draft, IsNumbered}
-use Rattle.mpslp_builder.specs.Calls.{row_name, column_name, column_satisfies, cells_at, new_column, with_cell, IsOnceEach, IsSameTables, HasColumnAdded, HasColumnChanged}
-use Rattle.mpslp_builder.specs.ColumnLine.{entry_declared, TakesLine}
-use Rattle.mpslp_builder.specs.LineTables.{AreDeclared, Follows, HasStarted}
-use Rattle.mpslp_builder_parts.specs.declared.parts.ColumnParts.{ColumnParts}
-use Rattle.mpslp_builder.specs.declared.tables.Tables.{Tables}
-use Rattle.mpslp_builder.proofs.AnswerLemmas.{made_after}
-use Rattle.mpslp_builder.proofs.MadeDrafts.{with_declarations-append, refusals_in_turn-append}
-use Rattle.mpslp_builder.proofs.RefusalLemmas.{join_none}
-use Rattle.mpslp_builder.proofs.ReadingLemmas.{number_there, entry_at, cell_at}
-use Rattle.mpslp_builder.proofs.TestLemmas.{integer_stated, cell_stated}
-use Rattle.mpslp_builder.proofs.CallLemmas.{cell_added, cell_added_numbered, mark_added, column_changed_numbered, column_added, column_added_numbered}
+use Rattle.mpslp_builder.proofs.Prelude
+use Prelude.{arith, rules, ◌≡◌, refl, sym, ap, ◌∙◌, ℕ, zero, suc, List, [], ◌∷◌, ◌++◌, Bool, true, false, cond, length, ◌≢◌, Option, Some}
+use Prelude.{None, is_some, slice_get, ◌||◌, Result, Ok, OnOk, OnErr, option_map, option_map_or, nat_cmp, is_eq, Ordering, Less, Equal}
+use Prelude.{Greater, nat_cmp_total, find, nat_cmp-IsAntisymmetric, find-put, set_value_at, Number, is_decimal, is_mps_name, Sense}
+use Prelude.{BuildFault, at, Draft, Declarations, with_declaration, with_declarations, declare_column, declare_marked, declare_coefficient}
+use Prelude.{has_row, has_column, refusals, refusals_in_turn, no_part, cells_of, name_of_row_key, draft, IsNumbered, row_name, column_name}
+use Prelude.{column_satisfies, cells_at, new_column, with_cell, IsOnceEach, IsSameTables, HasColumnAdded, HasColumnChanged, entry_declared}
+use Prelude.{TakesLine, AreDeclared, Follows, HasStarted, ColumnParts, Tables}
+use Rattle.mpslp_builder.proofs.{AnswerLemmas.{made_after}, MadeDrafts.{with_declarations-append, refusals_in_turn-append}}
+use Rattle.mpslp_builder.proofs.{RefusalLemmas.{join_none}, ReadingLemmas.{number_there}, TestLemmas.{integer_stated, cell_stated}}
+use Rattle.mpslp_builder.proofs.CallLemmas.{cell_added, cell_added_numbered, mark_added, column_changed_numbered, column_added}
+use Rattle.mpslp_builder.proofs.{CallLemmas.{column_added_numbered}, NameLemmas.{name_kept, names-more}}
 
 -- ---- entries by number
-
--- a value that is written keeps the names
-name_kept : {V : Type 0} (es : List (List ℕ × V)) (i j : ℕ) (w : V) → option_map (λ e. e.0) (slice_get (set_value_at es i w) j) ≡ option_map (λ e. e.0) (slice_get es j)
-name_kept [] i j w = refl
-name_kept (e ∷ es) zero zero w = refl
-name_kept (e ∷ es) zero (suc j) w = refl
-name_kept (e ∷ es) (suc i) zero w = refl
-name_kept (e ∷ es) (suc i) (suc j) w = name_kept es i j w
 
 -- and is there
 written_there : {V X : Type 0} (f : V → X) (d : X) (es : List (List ℕ × V)) (i : ℕ) (k : List ℕ) (v w : V) → slice_get es i ≡ Some (k, v)
@@ -45,13 +20,6 @@ written_there : {V X : Type 0} (f : V → X) (d : X) (es : List (List ℕ × V))
 written_there f d [] i k v w h = cc
 written_there f d (e ∷ es) zero k v w h = refl
 written_there f d (e ∷ es) (suc i) k v w h = written_there f d es i k v w h
-
--- an entry that is added keeps the numbers of the others
-name_still : {V : Type 0} (es : List (List ℕ × V)) (x : List ℕ × V) (i : ℕ) (name : List ℕ) → option_map (λ e. e.0) (slice_get es i) ≡ Some name
-    → option_map (λ e. e.0) (slice_get (es ++ x ∷ []) i) ≡ Some name
-name_still [] x i name h = cc
-name_still (e ∷ es) x zero name h = h
-name_still (e ∷ es) x (suc i) name h = name_still es x i name h
 
 -- and has the next number
 added_there : {V : Type 0} (es : List (List ℕ × V)) (x : List ℕ × V) → slice_get (es ++ x ∷ []) (length es) ≡ Some x
@@ -64,7 +32,7 @@ or_true : (b : Bool) → true ≡ (b || true)
 or_true b = grind arith
 
 -- a row, or the objective, with a number is declared
-row_there : (sense : Option Sense) (constant : Option Number) (t : Tables) (n : ℕ) (r : List ℕ) → row_name t n ≡ Some r → true ≡ has_row (draft sense constant t) r
+pub row_there : (sense : Option Sense) (constant : Option Number) (t : Tables) (n : ℕ) (r : List ℕ) → row_name t n ≡ Some r → true ≡ has_row (draft sense constant t) r
 row_there sense constant t n r is = search (rules, or_true, number_there)
 
 -- ---- steps
@@ -166,9 +134,7 @@ module _ (t u : Tables) (numbered : IsNumbered t) where
           cell_stated constant t once i c is (number_there no_part t.columns.entries i c is) n r false numbered row (row_there None constant t n r row) (sym (ap is_some absent))
 
       cell_draft : (c : List ℕ) → column_name t i ≡ Some c → (sense : Option Sense) (constant : Option Number) → draft sense constant u ≡ with_declaration (draft sense constant t) (declare_coefficient (at r c) x)
-      cell_draft c is sense constant =
-          cell_added sense constant t u once i c is numbered n r row x h
-          (cell_at sense constant t once i c (entry_at t.columns.entries i c is) n r numbered row ∙ ap is_some absent)
+      cell_draft c is sense constant = cell_added sense constant t u once i c is numbered n r row x h absent
 
       pub cell_laid : (c : List ℕ) → column_name t i ≡ Some c → AreDeclared t (entry_declared c (r, x)) u
       cell_laid c is = laid_one t u (declare_coefficient (at r c) x) (cell_free c is) (cell_draft c is)
@@ -208,7 +174,7 @@ module _ (t u : Tables) (numbered : IsNumbered t) where
       rows = λ n i. name_of_row_key (h.objective i) (h.rows i) n;
       columns = λ i name is.
           ap (λ (es : List (List ℕ × ColumnParts)). option_map (λ e. e.0) (slice_get es i)) h.columns
-          ∙ name_still t.columns.entries (k, new_column) i name is;
+          ∙ names-more t.columns.entries ((k, new_column) ∷ []) i name is;
     }
 
     pub started : HasStarted t k (length t.columns.entries) u

@@ -1,29 +1,17 @@
 -- Drafts that a builder can hold: each call that is not rejected makes another such draft, and at the end a draft means a
 -- model if and only if it has no whole-file error.
-use Rattle.std.proofs.Common.{arith, rules, ◌≡◌, refl, sym, ap, subst, ◌∙◌, ℕ, List, [], ◌∷◌, ◌++◌, Bool, true, false, not}
-use Rattle.std.specs.Prelude.{◌&&◌, ◌||◌, Option, None, is_some}
-use Rattle.std.specs.List.{list_all}
-use Rattle.std.specs.Option.{option_map_or}
-use Rattle.std.proofs.lemmas.List.{append-nil, append_assoc}
-use Rattle.std.proofs.lemmas.List.Folds.{list_all-append}
-use Rattle.mpslp_decimal.specs.Decimal.{Number}
-use Rattle.mpslp_model_core.specs.Model.{LinearModel}
-use Rattle.mpslp_builder.specs.Declaration.{RowDefinition, Declaration, declare_objective, declare_row, declare_rhs, Declarations, Draft, empty_draft, with_declaration, with_declarations, draft_of, at_name, has_name, has_row, is_objective, is_free_definition, is_free_row, is_row_by_limits, is_definition_by_limits, bounds_declared}
-use Rattle.mpslp_types.specs.Limit.{is_given}
-use Rattle.mpslp_builder.specs.Consistency.{has_objective, AreConsistent}
-use Rattle.mpslp_builder.specs.Refusal.{refusals, refusals_in_turn, bounds_refusals}
-use Rattle.mpslp_builder.specs.Made.{is_legal, HasNoFreeRhs, IsMade}
-use Rattle.mpslp_builder.specs.Meaning.{model_of, DraftMeans}
-use Rattle.mpslp_builder.specs.FileFault.{file_fault}
-use Rattle.mpslp_types.specs.declared.kinds.Limit.{Limit}
-use Rattle.mpslp_types.specs.declared.faults.BuildFault.{BuildFault}
-use Rattle.mpslp_types.specs.declared.faults.BuildFault.TheVariants.{UnknownRow, UnknownColumn, DuplicateRhs, DuplicateBound, InfiniteValue}
-use Rattle.mpslp_types.proofs.BoolLemmas.{both_so, or_right, back, both_false}
-use Rattle.mpslp_builder.proofs.RefusalLemmas.{HasDeclaredNames, not_both, first_none, pass, join_none, empty_declared_names, empty_kinds_apart, none-fine, consistent-from_none}
-use Rattle.mpslp_builder.proofs.SlotLemmas.{at-put, has-put, same_name}
-use Rattle.mpslp_builder.proofs.DraftEntries.{IsGood, good-with_declarations, empty_good}
-use Rattle.mpslp_builder.proofs.WellFormed.{IsWellFormed, well_formed-from_consistent}
-use Rattle.mpslp_builder.proofs.MeaningFromNoFault.{meant-from_no_fault}
+use Rattle.mpslp_builder.proofs.Prelude
+use Prelude.{arith, rules, ◌≡◌, refl, sym, ap, subst, ◌∙◌, ℕ, List, [], ◌∷◌, ◌++◌, Bool, true, false, not, ◌&&◌, ◌||◌, Option, None}
+use Prelude.{is_some, list_all, option_map_or, append-nil, append_assoc, list_all-append, Number, LinearModel, RowDefinition, Declaration}
+use Prelude.{declare_objective, declare_row, declare_rhs, Declarations, Draft, with_declaration, with_declarations, draft_of, has_name}
+use Prelude.{has_row, is_objective, is_free_definition, is_free_row, is_row_by_limits, is_definition_by_limits, bounds_declared, is_given}
+use Prelude.{has_objective, AreConsistent, refusals, refusals_in_turn, bounds_refusals, is_legal, HasNoFreeRhs, IsMade, model_of}
+use Prelude.{DraftMeans, file_fault, Limit, BuildFault, UnknownColumn, DuplicateRhs, DuplicateBound, InfiniteValue, both_so, or_right, back}
+use Prelude.{both_false}
+use Rattle.mpslp_builder.proofs.RefusalLemmas.{HasDeclaredNames, not_both, first_none, pass, join_none, empty_declared_names}
+use Rattle.mpslp_builder.proofs.RefusalLemmas.{empty_kinds_apart, none-fine, consistent-from_none}
+use Rattle.mpslp_builder.proofs.{SlotLemmas.{at-put, has-put, same_name}, DraftEntries.{IsGood, good-with_declarations, empty_good}}
+use Rattle.mpslp_builder.proofs.{WellFormed.{IsWellFormed, well_formed-from_consistent}, MeaningFromNoFault.{meant-from_no_fault}}
 use Rattle.mpslp_builder.proofs.NoFaultFromMeaning.{no_fault-from_meant}
 
 -- ---- several declarations after several
@@ -31,7 +19,7 @@ use Rattle.mpslp_builder.proofs.NoFaultFromMeaning.{no_fault-from_meant}
 -- the draft, and the errors, of declarations after others
 pub with_declarations-append : (xs ys : Declarations) (before : Draft) → with_declarations before (xs ++ ys) ≡ with_declarations (with_declarations before xs) ys
 with_declarations-append [] ys before = refl
-with_declarations-append (x ∷ xs) ys before = with_declarations-append xs ys (with_declaration before x)
+with_declarations-append (x ∷ xs) ys before = with_declarations-append xs ys _
 
 pub refusals_in_turn-append : (xs ys : Declarations) (before : Draft)
     → refusals_in_turn before (xs ++ ys) ≡ refusals_in_turn before xs ++ refusals_in_turn (with_declarations before xs) ys
@@ -62,7 +50,7 @@ free_rhs-kept all d names unrefused limited none = grind (arith, free_rhs-row, f
 -- the names that it uses are declared
 pub declared_names-from_made : (all : Draft) → IsMade all → HasDeclaredNames all
 declared_names-from_made all made =
-    let fine = none-fine made.declarations empty_draft empty_declared_names empty_kinds_apart refl made.unrefused in
+    let fine = none-fine made.declarations _ empty_declared_names empty_kinds_apart refl made.unrefused in
     subst HasDeclaredNames (sym made.draft) fine.declared_names
 
 -- several legal declarations, none of them rejected
@@ -70,18 +58,18 @@ made-with_declarations : (all : Draft) (more : Declarations) → IsMade all → 
     → HasNoFreeRhs (with_declarations all more) → IsMade (with_declarations all more)
 made-with_declarations all more made legal unrefused no_free_rhs = record {
   declarations = made.declarations ++ more;
-  legal = list_all-append is_legal made.declarations more ∙ both_so (list_all is_legal made.declarations) (list_all is_legal more) made.legal legal;
-  unrefused = refusals_in_turn-append made.declarations more empty_draft
-      ∙ join_none (refusals_in_turn empty_draft made.declarations) (refusals_in_turn (draft_of made.declarations) more) made.unrefused
-      (ap (λ (before : Draft). refusals_in_turn before more) (sym made.draft) ∙ unrefused);
-  draft = ap (λ (before : Draft). with_declarations before more) made.draft ∙ sym (with_declarations-append made.declarations more empty_draft);
+  legal = list_all-append _ made.declarations _ ∙ both_so _ _ made.legal legal;
+  unrefused = refusals_in_turn-append made.declarations _ _
+      ∙ join_none _ _ made.unrefused
+      (ap (λ before. refusals_in_turn before more) (sym made.draft) ∙ unrefused);
+  draft = ap (λ before. with_declarations before more) made.draft ∙ sym (with_declarations-append made.declarations _ _);
   no_free_rhs = no_free_rhs;
 }
 
 -- one legal declaration that is not rejected and is no right-hand side of a row of type N
 pub made-with_declaration : (all : Draft) (d : Declaration) → IsMade all → is_legal d ≡ true → refusals all d ≡ [] → is_free_rhs all d ≡ false → IsMade (with_declaration all d)
 made-with_declaration all d made legal unrefused limited =
-    made-with_declarations all (d ∷ []) made (both_so (is_legal d) true legal refl) (append-nil (refusals all d) ∙ unrefused)
+    made-with_declarations all (d ∷ []) made (both_so _ _ legal refl) (append-nil _ ∙ unrefused)
     (free_rhs-kept all d (declared_names-from_made all made) unrefused limited made.no_free_rhs)
 
 -- the tests of a bound
@@ -101,7 +89,7 @@ legal_bounds column lower upper h k = grind arith
 pub made-bounds : (all : Draft) (column : List ℕ) (lower upper : Option Limit) → IsMade all → option_map_or is_given lower true ≡ true
     → option_map_or is_given upper true ≡ true → bounds_refusals all column lower upper ≡ [] → IsMade (with_declarations all (bounds_declared column lower upper))
 made-bounds all column lower upper made h k unrefused =
-    made-with_declarations all (bounds_declared column lower upper) made (legal_bounds column lower upper h k) (bounds-in_turn all column lower upper unrefused) (free_rhs-bounds lower upper)
+    made-with_declarations all (bounds_declared _ _ _) made (legal_bounds _ lower _ h k) (bounds-in_turn all _ _ _ unrefused) (free_rhs-bounds _ _)
   where
     free_rhs-bounds : (lower upper : Option Limit) → HasNoFreeRhs (with_declarations all (bounds_declared column lower upper))
     free_rhs-bounds lower upper = grind arith
@@ -112,7 +100,7 @@ objective-declared : (declarations : Declarations) (before : Draft) → is_some 
     → has_objective declarations ≡ true
 objective-declared [] before none there = absurd cc
 objective-declared (declare_objective name ∷ more) before none there = refl
-objective-declared (d ∷ more) before none there = objective-declared more (with_declaration before d) none there
+objective-declared (d ∷ more) before none there = objective-declared more _ none there
 
 -- with an objective, its declarations are consistent
 pub consistent-from_made : (all : Draft) (made : IsMade all) → is_some all.objective ≡ true → AreConsistent made.declarations
@@ -121,13 +109,13 @@ consistent-from_made all made there = grind (arith, consistent-from_none, object
 -- a right-hand side of a row of type N is never rejected
 pub free_rhs-passes : (all : Draft) (row : List ℕ) (value : Number) → IsMade all → is_free_row all row ≡ true → refusals all (declare_rhs row value) ≡ []
 free_rhs-passes all row value made free =
-    let there = definition_there (at_name all.rows row) free in
-    let no_objective : is_objective all row ≡ false = not_both (is_objective all row) (has_name all.rows row) ((declared_names-from_made all made).apart row) there in
-    let filled = has_name all.rhs_values row || (is_row_by_limits all row || (is_objective all row && is_some all.constant)) in
-    pass (not (has_row all row)) UnknownRow ((filled, DuplicateRhs) ∷ []) (ap not (or_right (is_objective all row) (has_name all.rows row) there))
-    (pass filled DuplicateRhs [] (both_false (has_name all.rhs_values row) (is_row_by_limits all row || (is_objective all row && is_some all.constant)) (made.no_free_rhs row free)
-    (both_false (is_row_by_limits all row) (is_objective all row && is_some all.constant) (not_by_limits (at_name all.rows row) free)
-    (ap (λ (b : Bool). b && is_some all.constant) no_objective))) refl)
+    let there = definition_there _ free in
+    let no_objective = not_both _ (has_name _ row) ((declared_names-from_made all made).apart row) there in
+    let filled = has_name _ row || (is_row_by_limits all row || (is_objective all row && is_some all.constant)) in
+    pass _ _ ((filled, DuplicateRhs) ∷ []) (ap not (or_right _ (has_name _ row) there))
+    (pass _ _ [] (both_false _ _ (made.no_free_rhs row free)
+    (both_false _ _ (not_by_limits _ free)
+    (ap (λ b. b && is_some all.constant) no_objective))) refl)
   where
     definition_there : (o : Option RowDefinition) → option_map_or is_free_definition o false ≡ true → is_some o ≡ true
     definition_there o h = grind arith
@@ -139,9 +127,9 @@ free_rhs-passes all row value made free =
 pub good-from_made : (all : Draft) → IsMade all → IsGood all all
 good-from_made all made =
     let drafted = draft_of made.declarations in
-    let fine = none-fine made.declarations empty_draft empty_declared_names empty_kinds_apart refl made.unrefused in
-    subst (λ (draft : Draft). IsGood draft draft) (sym made.draft)
-    (good-with_declarations drafted made.declarations empty_draft (empty_good drafted) made.legal fine.known fine.allowed)
+    let fine = none-fine made.declarations _ empty_declared_names empty_kinds_apart refl made.unrefused in
+    subst (λ draft. IsGood draft draft) (sym made.draft)
+    (good-with_declarations _ made.declarations _ (empty_good drafted) made.legal fine.known fine.allowed)
 
 -- with an objective, it is well-formed
 pub well_formed-from_made : (all : Draft) → IsMade all → is_some all.objective ≡ true → IsWellFormed all

@@ -1,38 +1,18 @@
 -- Declarations without a whole-file error mean their model.
-use Rattle.std.proofs.Common.{rules, ◌≡◌, ◌<◌, refl, sym, ap, subst, ◌∙◌, ℕ, List, [], ◌∷◌, length, Bool, true, false, not, cond, map, arith}
-use Rattle.std.specs.Prelude.{◌&&◌, ◌||◌, ℤ, Option, Some, None, is_some, unwrap_or, filter}
-use Rattle.std.specs.List.{list_all}
-use Rattle.std.specs.Option.{option_map_or}
-use Rattle.std.specs.Cmp.{first_so, second_so}
-use Rattle.std.specs.Cmp.Lexicographic.{texts_ties}
-use Rattle.std.proofs.Math.Dec.{T}
-use Rattle.std.specs.Ordering.{eq_by_cmp, is_lt}
-use Rattle.std.specs.FinMap as maps
-use Rattle.std.specs.FinMap.{find, is_sorted}
-use Rattle.std.specs.FinMap.Entries.{below_all}
-use Rattle.mpslp_decimal.specs.Decimal.{Number, zero_number, is_decimal, is_zero, negated}
-use Rattle.mpslp_types.specs.Name.{same_bytes, is_mps_name, is_one_of, bytes_cmp}
-use Rattle.mpslp_model_core.specs.Model.{LinearModel, Row, Column, CoefficientKey, key_cmp, is_sound_row, is_sound_column, is_sound_coefficient}
-use Rattle.mpslp_types.specs.Limit.{is_lower_side, is_upper_side, is_plus_infinite, is_minus_infinite, is_given}
-use Rattle.mpslp_builder.specs.Declaration.{RowDefinition, Declarations, Draft, draft_of, at_name, has_name, has_row, has_column, names_in, have_infinite_side}
-use Rattle.mpslp_model_core.specs.Limits.{limits_of, plain_limits, has_infinite_rhs}
-use Rattle.mpslp_model_core.specs.WrongParts.{is_inexact, is_too_large, is_crossed}
-use Rattle.mpslp_builder.specs.Bounds.{zero_limit, one_limit, has_crossed_bounds, has_semi_bounds}
-use Rattle.mpslp_builder.specs.Meaning.{column_of, rhs_or_zero, row_limits, row_entry, model_of, objective_name, DraftMeans, Means}
-use Rattle.mpslp_builder.specs.Made.{are_given, is_legal}
-use Rattle.mpslp_types.specs.Lists.{is_nonempty}
-use Rattle.mpslp_builder.specs.FileFault.{file_fault}
-use Rattle.mpslp_builder.specs.Consistency.{AreConsistent}
-use Rattle.mpslp_types.specs.declared.kinds.Limit.{Limit}
-use Rattle.mpslp_types.specs.declared.kinds.Limit.TheVariants.{PlusInf}
-use Rattle.mpslp_types.specs.declared.kinds.RowType.TheVariants.{Free}
-use Rattle.mpslp_types.proofs.BoolLemmas.{both_so, not_so}
-use Rattle.mpslp_builder.proofs.LaterDrafts.{itself_named}
-use Rattle.mpslp_builder.proofs.RowSoundness.{IsSoundForm, sound-from_no_fault, is_legal_form}
-use Rattle.mpslp_builder.proofs.DraftEntries.{IsGood}
-use Rattle.mpslp_builder.proofs.WellFormed.{IsWellFormed, well_formed-from_consistent}
-use Rattle.mpslp_types.proofs.EachLemmas.{imp_all, and_all, map_all}
+use Rattle.mpslp_builder.proofs.Prelude
+use Prelude.{rules, ◌≡◌, ◌<◌, refl, sym, ap, subst, ◌∙◌, ℕ, List, [], ◌∷◌, length, Bool, true, false, not, cond, map, arith, ◌&&◌, ◌||◌, ℤ}
+use Prelude.{Option, Some, None, is_some, unwrap_or, filter, list_all, option_map_or, first_so, second_so, texts_ties, T, eq_by_cmp, is_lt}
+use Prelude.{find, is_sorted, below_all, Number, zero_number, is_decimal, is_zero, negated, same_bytes, is_mps_name, is_one_of, bytes_cmp}
+use Prelude.{LinearModel, Row, CoefficientKey, key_cmp, is_sound_row, is_sound_column, is_sound_coefficient, is_lower_side, is_upper_side}
+use Prelude.{is_plus_infinite, is_minus_infinite, is_given, RowDefinition, Declarations, Draft, draft_of, at_name, has_name, has_row}
+use Prelude.{has_column, names_in, have_infinite_side, limits_of, plain_limits, has_infinite_rhs, is_inexact, is_too_large, is_crossed}
+use Prelude.{zero_limit, one_limit, has_crossed_bounds, has_semi_bounds, column_of, rhs_or_zero, row_limits, row_entry, model_of}
+use Prelude.{objective_name, DraftMeans, Means, are_given, is_legal, is_nonempty, file_fault, AreConsistent, Limit, PlusInf, Free, both_so}
+use Prelude.{not_so, imp_all, and_all, map_all}
+use Rattle.mpslp_builder.proofs.{LaterDrafts.{itself_named}, RowSoundness.{IsSoundForm, sound-from_no_fault, is_legal_form}}
+use Rattle.mpslp_builder.proofs.{DraftEntries.{IsGood}, WellFormed.{IsWellFormed, well_formed-from_consistent}}
 use Rattle.mpslp_builder.proofs.FileFaultLemmas.{HasNoFault, no_fault-from_none, found_all}
+use Rattle.std.specs.FinMap as maps
 
 -- ---- the objective
 
@@ -47,7 +27,7 @@ named_row o q r s e h = grind arith
 
 -- ---- entries
 
-one_of-names : {X : Type 0} (q : List ℕ) (es : List (List ℕ × X)) → is_one_of (names_in es) q ≡ has_name es q
+pub one_of-names : {X : Type 0} (q : List ℕ) (es : List (List ℕ × X)) → is_one_of (names_in es) q ≡ has_name es q
 one_of-names q [] = refl
 one_of-names {X} q (e ∷ es) =
     ap (λ (b : Bool). b || is_one_of (names_in es) q) (texts_ties q e.0)
@@ -118,7 +98,7 @@ row_tests all row =
 
 sound_row : (all : Draft) (row : List ℕ × RowDefinition) → list_all (λ e. is_decimal e.1) all.rhs_values ≡ true → row_tests all row ≡ true → IsSoundForm (row_limits all row)
 sound_row all row sides h =
-    let b = rhs_or_zero all row.0 in
+    let b = rhs_or_zero all _ in
     let r = at_name all.ranges row.0 in
     let limits = limits_of row.1 b r in
     let legal = are_given row.1 && not (have_infinite_side row.1) in
@@ -126,14 +106,14 @@ sound_row all row sides h =
     let t4 = not (is_crossed limits) in
     let t3 = not (is_too_large limits) in
     let t2 = not (is_inexact limits) in
-    let t1 = not (has_infinite_rhs row.1 b r) in
+    let t1 = not (has_infinite_rhs _ b r) in
     let h1 = second_so a1 (t1 && (t2 && (t3 && t4))) h in
     let h2 = second_so t1 (t2 && (t3 && t4)) h1 in
     let h3 = second_so t2 (t3 && t4) h2 in
-    sound-from_no_fault row.1 b r (definition-legal row.1 (second_so (is_mps_name row.0) legal (first_so a1 (t1 && (t2 && (t3 && t4))) h)))
-    (or_zero (at_name all.rhs_values row.0) (found_all is_decimal row.0 all.rhs_values sides))
-    (not_so (has_infinite_rhs row.1 b r) (first_so t1 (t2 && (t3 && t4)) h1)) (not_so (is_inexact limits) (first_so t2 (t3 && t4) h2))
-    (not_so (is_too_large limits) (first_so t3 t4 h3)) (not_so (is_crossed limits) (second_so t3 t4 h3))
+    sound-from_no_fault _ b r (definition-legal row.1 (second_so _ legal (first_so a1 _ h)))
+    (or_zero (at_name all.rhs_values row.0) (found_all _ row.0 all.rhs_values sides))
+    (not_so _ (first_so t1 _ h1)) (not_so _ (first_so t2 _ h2))
+    (not_so _ (first_so t3 t4 h3)) (not_so _ (second_so t3 t4 h3))
 
 rows_pass : (all : Draft) → IsGood all all → HasNoFault all → list_all (row_tests all) all.rows ≡ true
 rows_pass all g f =
@@ -159,13 +139,24 @@ column_tests all name = is_mps_name name && (not (has_crossed_bounds all name) &
 
 tested_column : (all : Draft) (name : List ℕ) → IsGood all all → column_tests all name ≡ true → is_sound_column (name, column_of all name) ≡ true
 tested_column all name g h =
-    let crossed = not (has_crossed_bounds all name) in
-    let semi = not (has_semi_bounds all name) in
-    let rest = second_so (is_mps_name name) (crossed && semi) h in
-    sound_column all name g (first_so (is_mps_name name) (crossed && semi) h) (first_so crossed semi rest) (second_so crossed semi rest)
+    let crossed = not _ in
+    let semi = not _ in
+    let rest = second_so _ _ h in
+    sound_column all name g (first_so (is_mps_name name) (crossed && semi) h) (first_so crossed semi rest) (second_so _ _ rest)
 
 some_columns : {X Y : Type 0} (f : X → Y) (xs : List X) → is_nonempty xs ≡ true → 0 < length (map f xs)
 some_columns f xs h = grind arith
+
+-- ---- the entries of the model of a draft
+
+pub rows_are : (all : Draft) → IsGood all all → maps.entries (model_of all).rows ≡ map (row_entry all) all.rows
+rows_are all g = maps.entries-from_sorted bytes_cmp (map (row_entry all) all.rows) (subst T (sym (sorted-mapped (λ row. unwrap_or (row_limits all row) (plain_limits Free zero_number)) all.rows)) g.rows_sorted)
+
+pub columns_are : (all : Draft) → IsGood all all → maps.entries (model_of all).columns ≡ map (λ column. (column.0, column_of all column.0)) all.columns
+columns_are all g = maps.entries-from_sorted bytes_cmp (map (λ column. (column.0, column_of all column.0)) all.columns) (subst T (sym (sorted-mapped (λ column. column_of all column.0) all.columns)) g.columns_sorted)
+
+pub column_names : (all : Draft) → IsGood all all → maps.keys (model_of all).columns ≡ names_in all.columns
+column_names all g = ap names_in (columns_are all g) ∙ names-mapped (λ column. column_of all column.0) all.columns
 
 -- ---- without an error the model is meant
 
@@ -176,51 +167,45 @@ meant-from_no_fault all w none =
     let g = w.good in
     let f = no_fault-from_none all none in
     let rows = rows_pass all g f in
-    let row_values : List ℕ × RowDefinition → Row = λ row. unwrap_or (row_limits all row) (plain_limits Free zero_number) in
-    let column_values : List ℕ × Unit {0} → Column = λ column. column_of all column.0 in
-    let rows_are : maps.entries m.rows ≡ map (row_entry all) all.rows = maps.entries-from_sorted bytes_cmp (map (row_entry all) all.rows) (subst T (sym (sorted-mapped row_values all.rows)) g.rows_sorted) in
-    let columns_are : maps.entries m.columns ≡ map (λ column. (column.0, column_of all column.0)) all.columns =
-    maps.entries-from_sorted bytes_cmp (map (λ column. (column.0, column_of all column.0)) all.columns) (subst T (sym (sorted-mapped column_values all.columns)) g.columns_sorted) in
     let is_kept : CoefficientKey × Number → Bool = λ entry. not (is_zero entry.1) in
-    let kept_are : maps.entries m.coefficients ≡ filter is_kept all.coefficients = maps.entries-from_sorted key_cmp (filter is_kept all.coefficients) (sorted-filtered is_kept all.coefficients g.coefficients_sorted) in
-    let row_names : maps.keys m.rows ≡ names_in all.rows = ap names_in rows_are ∙ names-mapped row_values all.rows in
-    let column_names : maps.keys m.columns ≡ names_in all.columns = ap names_in columns_are ∙ names-mapped column_values all.columns in
+    let kept_are : maps.entries m.coefficients ≡ filter is_kept all.coefficients = maps.entries-from_sorted key_cmp _ (sorted-filtered is_kept all.coefficients g.coefficients_sorted) in
+    let row_names : maps.keys m.rows ≡ names_in _ = ap names_in (rows_are all g) ∙ names-mapped _ _ in
     record {
       finite_rhs_values = f.rhs_values;
-      exact_limits = imp_all (row_tests all) (λ row. is_some (row_limits all row)) all.rows (λ row h. some_limits (row_limits all row) (sound_row all row g.rhs_values h)) rows;
+      exact_limits = imp_all _ (λ row. is_some (row_limits all row)) all.rows (λ row h. some_limits _ (sound_row all row g.rhs_values h)) rows;
       model = refl;
       sound = record {
-        objective = legal_objective all.objective w.named g.objective;
-        objective_is_no_row = ap (λ (names : List (List ℕ)). is_one_of names (objective_name all)) row_names ∙ one_of-names (objective_name all) all.rows ∙ w.apart (objective_name all) (named_objective all.objective w.named);
-        constant = legal_constant all.constant (unwrap_or (at_name all.rhs_values (objective_name all)) zero_number) g.constant (or_zero (at_name all.rhs_values (objective_name all)) (found_all is_decimal (objective_name all) all.rhs_values g.rhs_values));
-        has_column = subst (λ (names : List (List ℕ)). 0 < length names) (sym column_names) (some_columns (λ (e : List ℕ × Unit {0}). e.0) all.columns f.column);
-        rows = ap (list_all is_sound_row) rows_are ∙ sym (map_all (row_entry all) is_sound_row all.rows)
-            ∙ imp_all (row_tests all) (λ row. is_sound_row (row_entry all row)) all.rows (λ row h. sound_entry row.0 (row_limits all row) (name_of all row h) (sound_row all row g.rhs_values h)) rows;
-        columns = ap (list_all is_sound_column) columns_are ∙ sym (map_all (λ (column : List ℕ × Unit {0}). (column.0, column_of all column.0)) is_sound_column all.columns)
-            ∙ imp_all (λ column. column_tests all column.0) (λ column. is_sound_column (column.0, column_of all column.0)) all.columns (λ column h. tested_column all column.0 g h)
-            (and_all (λ column. is_mps_name column.0) (λ column. not (has_crossed_bounds all column.0) && not (has_semi_bounds all column.0)) all.columns g.columns
-            (and_all (λ column. not (has_crossed_bounds all column.0)) (λ column. not (has_semi_bounds all column.0)) all.columns
-            (map_all (λ (e : List ℕ × Unit {0}). e.0) (λ name. not (has_crossed_bounds all name)) all.columns ∙ f.bounds)
-            (map_all (λ (e : List ℕ × Unit {0}). e.0) (λ name. not (has_semi_bounds all name)) all.columns ∙ f.semi)));
+        objective = legal_objective _ w.named g.objective;
+        objective_is_no_row = ap (λ (names : List (List ℕ)). is_one_of names (objective_name all)) row_names ∙ one_of-names (objective_name all) all.rows ∙ w.apart _ (named_objective all.objective w.named);
+        constant = legal_constant all.constant _ g.constant (or_zero (at_name all.rhs_values (objective_name all)) (found_all _ (objective_name all) _ g.rhs_values));
+        has_column = subst (λ names. 0 < length names) (sym (column_names all g)) (some_columns _ all.columns f.column);
+        rows = ap (list_all is_sound_row) (rows_are all g) ∙ sym (map_all _ is_sound_row all.rows)
+            ∙ imp_all _ (λ row. is_sound_row (row_entry all row)) all.rows (λ row h. sound_entry row.0 _ (name_of all row h) (sound_row all row g.rhs_values h)) rows;
+        columns = ap (list_all is_sound_column) (columns_are all g) ∙ sym (map_all _ is_sound_column all.columns)
+            ∙ imp_all _ (λ column. is_sound_column (column.0, column_of all _)) all.columns (λ column h. tested_column all column.0 g h)
+            (and_all _ (λ column. not (has_crossed_bounds all column.0) && not (has_semi_bounds all column.0)) all.columns g.columns
+            (and_all _ (λ column. not (has_semi_bounds all column.0)) all.columns
+            (map_all _ (λ name. not (has_crossed_bounds all name)) all.columns ∙ f.bounds)
+            (map_all _ (λ name. not (has_semi_bounds all name)) all.columns ∙ f.semi)));
         coefficients = ap (list_all (is_sound_coefficient m)) kept_are
-            ∙ imp_all (λ e. (is_decimal e.1 && (has_row all e.0.row && has_column all e.0.column)) && not (is_zero e.1)) (is_sound_coefficient m) (filter is_kept all.coefficients)
-            (λ e h. sound_coefficient all m e row_names column_names refl h) (filter_all is_kept (λ e. is_decimal e.1 && (has_row all e.0.row && has_column all e.0.column)) all.coefficients g.coefficients);
+            ∙ imp_all _ (is_sound_coefficient m) (filter is_kept all.coefficients)
+            (λ e h. sound_coefficient all m e row_names (column_names all g) refl h) (filter_all _ (λ e. is_decimal e.1 && (has_row all _ && has_column all e.0.column)) all.coefficients g.coefficients);
       };
       no_negative_upper = f.no_negative_upper;
       binary_within = f.binary;
     }
   where
     name_of : (all : Draft) (row : List ℕ × RowDefinition) → row_tests all row ≡ true → is_mps_name row.0 ≡ true
-    name_of all row h = first_so (is_mps_name row.0) _ (first_so (is_mps_name row.0 && (are_given row.1 && not (have_infinite_side row.1))) _ h)
+    name_of all row h = first_so _ _ (first_so _ _ h)
 
     sound_coefficient : (all : Draft) (m : LinearModel) (e : CoefficientKey × Number) → maps.keys m.rows ≡ names_in all.rows → maps.keys m.columns ≡ names_in all.columns → m.objective ≡ objective_name all
         → ((is_decimal e.1 && (has_row all e.0.row && has_column all e.0.column)) && not (is_zero e.1)) ≡ true → is_sound_coefficient m e ≡ true
     sound_coefficient all m e rows columns objective h =
         let key = e.0 in
-        let known = has_row all key.row && has_column all key.column in
-        let a = first_so (is_decimal e.1 && known) (not (is_zero e.1)) h in
+        let known = has_row all _ && has_column all key.column in
+        let a = first_so _ _ h in
         let k = second_so (is_decimal e.1) known a in
-        let column : is_one_of (maps.keys m.columns) key.column ≡ true = ap (λ (names : List (List ℕ)). is_one_of names key.column) columns ∙ one_of-names key.column all.columns ∙ second_so (has_row all key.row) (has_column all key.column) k in
+        let column : is_one_of (maps.keys m.columns) key.column ≡ true = ap (λ names. is_one_of names key.column) columns ∙ one_of-names key.column all.columns ∙ second_so (has_row all key.row) (has_column all key.column) k in
         let row : is_one_of (m.objective ∷ maps.keys m.rows) key.row ≡ true =
         (λ i. is_one_of (objective i ∷ rows i) key.row) ∙ named_row all.objective key.row (is_one_of (names_in all.rows) key.row) (has_name all.rows key.row) (one_of-names key.row all.rows) (first_so (has_row all key.row) (has_column all key.column) k) in
         both_so (is_decimal e.1) (not (is_zero e.1) && (is_one_of (maps.keys m.columns) key.column && is_one_of (m.objective ∷ maps.keys m.rows) key.row))

@@ -1,22 +1,9 @@
 -- Entries with distinct names, and what is found by a name.
-use Rattle.std.proofs.Common.{arith, ◌≡◌, refl, sym, ap, ◌∙◌, ℕ, zero, suc, List, [], ◌∷◌, ◌++◌, Bool, true, false, cond, length, inl, inr}
-use Rattle.std.specs.Prelude.{Option, Some, None, is_some, slice_get, ◌⊎◌}
-use Rattle.std.specs.List.{IsDistinct, AllByRecursion}
-use Rattle.std.specs.Option.{option_map, option_map_or}
-use Rattle.std.specs.Ordering.{eq_by_cmp}
-use Rattle.std.specs.Cmp.Lexicographic.{texts_ties}
-use Rattle.std.specs.FinMap.{find}
-use Rattle.std.specs.Map.{keys_of}
-use Rattle.mpslp_types.specs.Name.{same_bytes, bytes_cmp}
-use Rattle.mpslp_model_core.proofs.PutsLemmas.{equal_from}
-use Rattle.mpslp_model_core.proofs.KeyLemmas.{bytes_total, tied_names}
-use Rattle.mpslp_model_core.specs.Numbered.{each_part, given_parts, IsOnce}
-
-name_tied : (a b : List ℕ) → a ≡ b → eq_by_cmp bytes_cmp a b ≡ true
-name_tied a b e = grind (arith, bytes_total)
-
-name_same : (a b : List ℕ) → eq_by_cmp bytes_cmp a b ≡ true → a ≡ b
-name_same a b e = tied_names a b (equal_from (bytes_cmp a b) e)
+use Rattle.mpslp_builder.proofs.Prelude
+use Prelude.{arith, ◌≡◌, refl, sym, ap, ◌∙◌, ℕ, zero, suc, List, [], ◌∷◌, ◌++◌, Bool, true, false, cond, length, inl, inr, Option, Some}
+use Prelude.{None, is_some, slice_get, ◌⊎◌, AllByRecursion, option_map, option_map_or, eq_by_cmp, texts_ties, find, keys_of, same_bytes}
+use Prelude.{bytes_cmp, each_part, given_parts, IsOnce, name_tied, name_same, set_value_at}
+use Rattle.std.specs.List.{IsDistinct}
 
 module _ {V X : Type 0} (f : V → X) where
   none_of : (q : List ℕ) (es : List (List ℕ × V)) → AllByRecursion (λ y. same_bytes q y ≡ false) (keys_of es) → find bytes_cmp q (each_part f es) ≡ None
@@ -106,6 +93,11 @@ module _ {V X Y : Type 0} (f : V → X) (g : V → Option Y) where
       ]
 
 -- ---- one more entry, or another value
+
+pub name_kept : {V : Type 0} (es : List (List ℕ × V)) (i j : ℕ) (w : V) → option_map (λ e. e.0) (slice_get (set_value_at es i w) j) ≡ option_map (λ e. e.0) (slice_get es j)
+name_kept (e ∷ es) zero (suc j) w = refl
+name_kept (e ∷ es) (suc i) (suc j) w = name_kept es i j w
+name_kept _ _ _ _ = refl
 
 pub names-more : {V : Type 0} (xs ys : List (List ℕ × V)) (i : ℕ) (r : List ℕ) → option_map (λ e. e.0) (slice_get xs i) ≡ Some r → option_map (λ e. e.0) (slice_get (xs ++ ys) i) ≡ Some r
 names-more [] ys i r h = cc

@@ -1,28 +1,13 @@
 -- Entries with names: what is found among them by a name.
-use Rattle.std.proofs.Common.{arith, ◌≡◌, refl, ap, ◌∙◌, List, [], ◌∷◌, ℕ, Bool, true, false, cond, map}
-use Rattle.std.specs.Prelude.{Some, is_some, ◌||◌}
-use Rattle.std.specs.List.{list_any}
-use Rattle.std.specs.Ordering.{eq_by_cmp}
-use Rattle.std.specs.Cmp.Lexicographic.{texts_ties}
-use Rattle.std.specs.FinMap.{find, is_sorted}
-use Rattle.mpslp_types.specs.Name.{same_bytes, is_one_of, bytes_cmp}
-use Rattle.mpslp_builder.specs.Declaration.{at_name, has_name, names_in}
-use Rattle.mpslp_types.proofs.EachLemmas.{Each}
-use Rattle.mpslp_types.proofs.BoolLemmas.{or_left, or_right}
-use Rattle.mpslp_model_core.proofs.PutsLemmas.{finds_own}
-use Rattle.mpslp_builder.proofs.EntryLemmas.{then_stated}
-use Rattle.mpslp_builder.proofs.MeaningFromNoFault.{sorted-mapped}
-use Rattle.mpslp_builder.proofs.SortedDrafts.{bytes_total, tied_names}
+use Rattle.mpslp_builder.proofs.Prelude
+use Prelude.{arith, ◌≡◌, refl, ◌∙◌, List, [], ◌∷◌, ℕ, Bool, true, false, cond, map, Some, ◌||◌, list_any, eq_by_cmp, texts_ties, is_sorted}
+use Prelude.{same_bytes, is_one_of, bytes_cmp, at_name, names_in, Each, or_left, or_right, finds_own}
+use Rattle.mpslp_builder.proofs.{EntryLemmas.{then_stated}, MeaningFromNoFault.{sorted-mapped}, SortedDrafts.{bytes_total, tied_names}}
+pub use Rattle.mpslp_builder.proofs.MeaningFromNoFault.{one_of-names}
 
 -- an entry's name, without a value
 abbrev pub named : {X : Type 0} → List ℕ × X → List ℕ × Unit {0}
 named entry = (entry.0, tt)
-
-pub one_of-names : {X : Type 0} (q : List ℕ) (es : List (List ℕ × X)) → is_one_of (names_in es) q ≡ has_name es q
-one_of-names q [] = refl
-one_of-names {X} q (e ∷ es) =
-    ap (λ (b : Bool). b || is_one_of (names_in es) q) (texts_ties q e.0)
-    ∙ elim (eq_by_cmp bytes_cmp q e.0) as (λ b. (b || is_one_of (names_in es) q) ≡ is_some (cond b (Some e.1) (find bytes_cmp q es))) [ true ↦ refl | false ↦ one_of-names q es ]
 
 -- the same as a test of each entry
 pub any-name : {X : Type 0} (q : List ℕ) (es : List (List ℕ × X)) → is_one_of (names_in es) q ≡ list_any (λ e. same_bytes q e.0) es

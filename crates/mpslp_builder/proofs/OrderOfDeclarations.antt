@@ -1,27 +1,20 @@
 -- The order of declarations does not matter: consistent declarations make the same draft in any order.
-use Rattle.std.proofs.Common.{arith, rules, ◌≡◌, refl, sym, ap, subst, ◌∙◌, ℕ, List, [], ◌∷◌, ◌++◌, Bool, true, false, not, IsPermutation}
-use Rattle.std.specs.Prelude.{◌&&◌, ◌||◌, if◌then◌else◌}
-use Rattle.std.specs.List.{list_any, list_all}
-use Rattle.std.specs.Cmp.Lexicographic.{texts_ties, nat_list_cmp_total, nat_list_eq_equiv}
-use Rattle.std.specs.FinMap.{put}
-use Rattle.std.proofs.lemmas.List.Folds.{list_all-append}
-use Rattle.mpslp_types.specs.Name.{same_bytes, bytes_cmp}
-use Rattle.mpslp_model_core.specs.Model.{LinearModel, CoefficientKey, key_cmp}
-use Rattle.mpslp_model_core.specs.KeyOrder.{key_total}
-use Rattle.mpslp_builder.specs.Declaration.{RowDefinition, Declaration, declare_sense, declare_objective, declare_constant, declare_row, declare_rhs, declare_range, declare_column, declare_coefficient, declare_lower, declare_upper, declare_marked, declare_integer, declare_binary, declare_semi, Declarations, Draft, empty_draft, with_declaration, with_declarations, draft_of, is_definition_by_limits}
-use Rattle.mpslp_types.specs.Lists.{are_distinct}
-use Rattle.mpslp_builder.specs.Consistency.{Slot, sense_slot, objective_slot, constant_slot, row_slot, rhs_slot, range_slot, coefficient_slot, lower_slot, upper_slot, same_slot, slots_of, all_slots, declares_objective, is_known, is_allowed, has_one_constant, AreConsistent}
-use Rattle.mpslp_builder.specs.Meaning.{DraftMeans, Means}
-use Rattle.mpslp_types.proofs.BoolLemmas.{all_true}
-use Rattle.mpslp_builder.proofs.SlotLemmas.{are_apart, apart-cons, are_distinct-append, key_ties, same_name}
-use Rattle.mpslp_builder.proofs.PutOrderLemmas.{put-put}
-use Rattle.mpslp_model_core.proofs.PermutationLemmas.{along_permutation}
+use Rattle.mpslp_builder.proofs.Prelude
+use Prelude.{arith, rules, ◌≡◌, refl, sym, ap, subst, ◌∙◌, ℕ, List, [], ◌∷◌, ◌++◌, Bool, true, false, IsPermutation, ◌&&◌, ◌||◌}
+use Prelude.{if◌then◌else◌, list_any, list_all, texts_ties, nat_list_cmp_total, nat_list_eq_equiv, put, list_all-append, same_bytes}
+use Prelude.{bytes_cmp, LinearModel, CoefficientKey, key_cmp, key_total, RowDefinition, Declaration, declare_sense, declare_objective}
+use Prelude.{declare_constant, declare_row, declare_rhs, declare_range, declare_column, declare_coefficient, declare_lower, declare_upper}
+use Prelude.{declare_marked, declare_integer, declare_binary, declare_semi, Declarations, Draft, empty_draft, with_declaration}
+use Prelude.{with_declarations, draft_of, is_definition_by_limits, are_distinct, Slot, sense_slot, objective_slot, constant_slot, row_slot}
+use Prelude.{rhs_slot, range_slot, coefficient_slot, lower_slot, upper_slot, same_slot, slots_of, all_slots, is_known, is_allowed}
+use Prelude.{has_one_constant, AreConsistent, DraftMeans, Means, all_true, along_permutation}
+use Rattle.mpslp_builder.proofs.{SlotLemmas.{are_apart, apart-cons, are_distinct-append, key_ties, same_name}, PutOrderLemmas.{put-put}}
 
 -- ---- two entries of one map
 
 names_turn : {X : Type 0} (j k : List ℕ) (w v : X) (es : List (List ℕ × X)) → same_bytes k j ≡ false
     → put bytes_cmp k v (put bytes_cmp j w es) ≡ put bytes_cmp j w (put bytes_cmp k v es)
-names_turn j k w v es apart = sym (put-put bytes_cmp nat_list_cmp_total k j v w es (sym (texts_ties k j) ∙ apart))
+names_turn j k w v es apart = sym (put-put _ nat_list_cmp_total k j v w es (sym (texts_ties k j) ∙ apart))
 
 -- the same value at either name
 units_turn : (j k : List ℕ) (es : List (List ℕ × Unit {0})) → put bytes_cmp k tt (put bytes_cmp j tt es) ≡ put bytes_cmp j tt (put bytes_cmp k tt es)
@@ -30,7 +23,7 @@ units_turn j k es = search (rules, same_name, names_turn)
 keys_turn : {X : Type 0} (j k : CoefficientKey) (w v : X) (es : List (CoefficientKey × X)) → (same_bytes k.row j.row && same_bytes k.column j.column) ≡ false
     → put key_cmp k v (put key_cmp j w es) ≡ put key_cmp j w (put key_cmp k v es)
 keys_turn j k w v es apart =
-    sym (put-put key_cmp key_total k j v w es (sym (key_ties k j) ∙ apart))
+    sym (put-put _ key_total k j v w es (sym (key_ties k j) ∙ apart))
 
 -- ---- two declarations
 
@@ -48,14 +41,14 @@ with_declaration-with_declaration all (declare_constant a) (declare_constant b) 
 with_declaration-with_declaration all (declare_row j w) (declare_row k v) h = grind (arith, names_turn, heads_apart)
 with_declaration-with_declaration all (declare_rhs j w) (declare_rhs k v) h = grind (arith, names_turn, heads_apart)
 with_declaration-with_declaration all (declare_range j w) (declare_range k v) h = grind (arith, names_turn, heads_apart)
-with_declaration-with_declaration all (declare_column j) (declare_column k) h = ap (λ (columns : List (List ℕ × Unit {0})). record all { columns = columns }) (units_turn j k all.columns)
+with_declaration-with_declaration all (declare_column j) (declare_column k) h = ap (λ columns. record all { columns = columns }) (units_turn j k _)
 with_declaration-with_declaration all (declare_coefficient j w) (declare_coefficient k v) h = grind (arith, keys_turn, heads_apart)
 with_declaration-with_declaration all (declare_lower j w) (declare_lower k v) h = grind (arith, names_turn, heads_apart)
 with_declaration-with_declaration all (declare_upper j w) (declare_upper k v) h = grind (arith, names_turn, heads_apart)
-with_declaration-with_declaration all (declare_marked j) (declare_marked k) h = ap (λ (marked : List (List ℕ × Unit {0})). record all { marked = marked }) (units_turn j k all.marked)
-with_declaration-with_declaration all (declare_integer j) (declare_integer k) h = ap (λ (integers : List (List ℕ × Unit {0})). record all { integers = integers }) (units_turn j k all.integers)
-with_declaration-with_declaration all (declare_binary j) (declare_binary k) h = ap (λ (binaries : List (List ℕ × Unit {0})). record all { binaries = binaries }) (units_turn j k all.binaries)
-with_declaration-with_declaration all (declare_semi j) (declare_semi k) h = ap (λ (semis : List (List ℕ × Unit {0})). record all { semis = semis }) (units_turn j k all.semis)
+with_declaration-with_declaration all (declare_marked j) (declare_marked k) h = ap (λ marked. record all { marked = marked }) (units_turn j k _)
+with_declaration-with_declaration all (declare_integer j) (declare_integer k) h = ap (λ integers. record all { integers = integers }) (units_turn j k _)
+with_declaration-with_declaration all (declare_binary j) (declare_binary k) h = ap (λ binaries. record all { binaries = binaries }) (units_turn j k _)
+with_declaration-with_declaration all (declare_semi j) (declare_semi k) h = ap (λ semis. record all { semis = semis }) (units_turn j k _)
 with_declaration-with_declaration all _ _ h = refl
 
 -- ---- slots, in either order
@@ -116,7 +109,7 @@ reorders_chain : (xs ys zs : Declarations) → Reorders xs ys → Reorders ys zs
 reorders_chain xs ys zs r s = grind arith
 
 reorders : (xs ys : Declarations) → IsPermutation xs ys → Reorders xs ys
-reorders = along_permutation Reorders reorders_same reorders_skip reorders_turn reorders_chain
+reorders = along_permutation _ reorders_same reorders_skip reorders_turn reorders_chain
 
 -- ---- what does not depend on the order
 
@@ -130,11 +123,11 @@ consistent-permutation xs ys moved c =
     let r = reorders xs ys moved in
     let same = draft-permutation xs ys moved c in
     record {
-      objective = sym (r.any declares_objective) ∙ c.objective;
+      objective = sym (r.any _) ∙ c.objective;
       once = sym r.distinct ∙ c.once;
       one_constant = ap has_one_constant (sym same) ∙ c.one_constant;
-      known = ap (λ (all : Draft). list_all (is_known all) ys) (sym same) ∙ sym (r.all (is_known (draft_of xs))) ∙ c.known;
-      allowed = ap (λ (all : Draft). list_all (is_allowed all) ys) (sym same) ∙ sym (r.all (is_allowed (draft_of xs))) ∙ c.allowed;
+      known = ap (λ all. list_all (is_known all) ys) (sym same) ∙ sym (r.all _) ∙ c.known;
+      allowed = ap (λ all. list_all (is_allowed all) ys) (sym same) ∙ sym (r.all _) ∙ c.allowed;
     }
 
 -- In any order the declarations mean the same model.

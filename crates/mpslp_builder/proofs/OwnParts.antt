@@ -1,17 +1,7 @@
 -- What a draft says of a row or a column by its name is the part stored with that name.
-use Rattle.std.proofs.Common.{◌≡◌, refl, ◌∙◌, ℕ, Bool}
-use Rattle.std.specs.Prelude.{List, Option, Some, slice_get}
-use Rattle.mpslp_decimal.specs.Decimal.{Number}
-use Rattle.mpslp_types.specs.declared.kinds.Sense.{Sense}
-use Rattle.mpslp_model_core.specs.Limits.{RowDefinition}
-use Rattle.mpslp_builder.specs.Declaration.{at_name}
-use Rattle.mpslp_builder.specs.Meaning.{declared_of}
-use Rattle.mpslp_builder.specs.Tables.{definition_of, rhs_of, range_of, lower_of, upper_of, draft, IsNumbered}
-use Rattle.mpslp_builder.specs.Calls.{IsOnceEach}
-use Rattle.mpslp_builder.specs.FaultFound.{declared_in}
-use Rattle.mpslp_builder_parts.specs.RowParts.{RowParts}
-use Rattle.mpslp_builder_parts.specs.declared.parts.ColumnParts.{ColumnParts}
-use Rattle.mpslp_builder.specs.declared.tables.Tables.{Tables}
+use Rattle.mpslp_builder.proofs.Prelude
+use Prelude.{◌≡◌, refl, ◌∙◌, ℕ, Bool, List, Option, Some, slice_get, Number, Sense, RowDefinition, at_name, declared_of, definition_of}
+use Prelude.{rhs_of, range_of, lower_of, upper_of, draft, IsNumbered, IsOnceEach, declared_in, RowParts, ColumnParts, Tables}
 use Rattle.mpslp_builder.proofs.ReadingLemmas.{HasEntryAt, given_at, flag_at, stated_at, rhs_at, range_at}
 
 module _ (sense : Option Sense) (constant : Option Number) (t : Tables) (once : IsOnceEach t) where

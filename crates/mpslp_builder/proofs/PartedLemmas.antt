@@ -1,21 +1,15 @@
 -- Entries of a list that is declared in two parts, with some elements in both: they are sorted again.
-use Rattle.std.proofs.Common.{◌≡◌, refl, sym, subst, List, [], ◌∷◌, ◌++◌, Bool, true, false, cond, map, arith}
-use Rattle.std.specs.Prelude.{Some, is_some, filter, not}
-use Rattle.std.specs.List.{flat_map}
-use Rattle.std.specs.Cmp.{IsTotalOrder}
-use Rattle.std.specs.declared.cmp.Ordering.{Ordering}
-use Rattle.std.specs.declared.cmp.Ordering.TheVariants.{Equal}
-use Rattle.std.specs.FinMap.{find, is_sorted}
-use Rattle.std.proofs.Math.Dec.{T}
-use Rattle.mpslp_types.proofs.EachLemmas.{Each, Each-weaker, Each-both, Each-append, Each-map, Each-flat_map, Each-filter}
-use Rattle.mpslp_model_core.proofs.PutsLemmas.{puts, puts-give, finds_own, some_append_left, some_append_right}
+use Rattle.mpslp_builder.proofs.Prelude
+use Prelude.{◌≡◌, refl, sym, subst, List, [], ◌∷◌, ◌++◌, Bool, true, false, cond, map, arith, Some, is_some, filter, not, flat_map}
+use Prelude.{IsTotalOrder, Ordering, Equal, find, is_sorted, T, Each, Each-weaker, Each-both, Each-append, Each-map, Each-flat_map}
+use Prelude.{Each-filter, puts, puts-give, finds_own, some_append_left, some_append_right}
 
 module _ {K X Y : Type 0} (R : K → K → Ordering) (o : IsTotalOrder R) (same : (x y : K) → R x y ≡ Equal → x ≡ y) (entry : Y → K × X) (f : Y → List (K × X)) where
   -- what is found among an element's own entries is found in the whole
   found : (p : Y → Bool) (xs : List Y) → Each (λ x. is_some (find R (entry x).0 (f x)) ≡ true) xs
       → Each (λ x. p x ≡ true → is_some (find R (entry x).0 (flat_map f (filter p xs))) ≡ true) xs
   found p [] h = tt
-  found p (x ∷ xs) h = by (p x) refl (found p xs h.1)
+  found p (x ∷ xs) h = by _ refl (found p xs h.1)
     where
       by : (b : Bool) → p x ≡ b → Each (λ y. p y ≡ true → is_some (find R (entry y).0 (flat_map f (filter p xs))) ≡ true) xs
           → (p x ≡ true → is_some (find R (entry x).0 (flat_map f (cond b (x ∷ filter p xs) (filter p xs)))) ≡ true)
@@ -36,14 +30,14 @@ module _ {K X Y : Type 0} (R : K → K → Ordering) (o : IsTotalOrder R) (same 
       → puts R (flat_map f (filter p xs) ++ flat_map f (filter (λ x. not (p x)) xs)) [] ≡ map entry xs
   parted-give p xs sorted some own =
       let target = map entry xs in
-      let finds : Each (λ x. find R (entry x).0 (map entry xs) ≡ Some (entry x).1) xs = Each-unmap (λ e. find R e.0 (map entry xs) ≡ Some e.1) xs (finds_own R o same (map entry xs) sorted) in
-      let right : Each (λ x. Each (λ e. find R e.0 (map entry xs) ≡ Some e.1) (f x)) xs =
-      Each-both _ _ _ (λ x is each. Each-weaker _ _ (λ e same_entry. subst (λ (d : K × X). find R d.0 (map entry xs) ≡ Some d.1) (sym same_entry) is) (f x) each) xs finds own in
-      puts-give R o same (map entry xs) _ sorted
-      (Each-append _ (flat_map f (filter p xs)) (flat_map f (filter (λ x. not (p x)) xs))
-      (Each-flat_map _ f (filter p xs) (Each-filter _ p xs (Each-weaker _ _ (λ x is _. is) xs right)))
-      (Each-flat_map _ f (filter (λ x. not (p x)) xs) (Each-filter _ (λ x. not (p x)) xs (Each-weaker _ _ (λ x is _. is) xs right))))
-      (Each-map _ entry xs (Each-both _ _ _ (λ x g h. in_either p (flat_map f (filter p xs)) (flat_map f (filter (λ x. not (p x)) xs)) x g h) xs (found p xs some) (found (λ x. not (p x)) xs some)))
+      let finds : Each (λ x. find R _ _ ≡ Some _) xs = Each-unmap _ xs (finds_own R o same _ sorted) in
+      let right : Each (λ x. Each _ _) xs =
+      Each-both _ _ _ (λ x is each. Each-weaker _ _ (λ e same_entry. subst (λ d. find R d.0 (map entry xs) ≡ Some d.1) (sym same_entry) is) _ each) xs finds own in
+      puts-give R o same _ _ sorted
+      (Each-append _ _ (flat_map f (filter _ xs))
+      (Each-flat_map _ f _ (Each-filter _ p xs (Each-weaker _ _ (λ x is _. is) xs right)))
+      (Each-flat_map _ f (filter _ xs) (Each-filter _ (λ x. not _) xs (Each-weaker _ _ (λ x is _. is) xs right))))
+      (Each-map _ _ xs (Each-both _ _ _ (λ x g h. in_either p _ (flat_map f (filter _ xs)) x g h) xs (found p xs some) (found (λ x. not _) xs some)))
     where
       Each-unmap : (Q : K × X → Type 0) (ys : List Y) → Each Q (map entry ys) → Each (λ y. Q (entry y)) ys
       Each-unmap Q [] h = tt

@@ -1,13 +1,7 @@
 -- Entries with different keys can be put in either order, and putting an entry that is already there has no effect.
-use Rattle.std.proofs.Common.{arith, ◌≡◌, refl, ◌∙◌, List, [], ◌∷◌, false, cond}
-use Rattle.std.specs.Prelude.{Bool, Some}
-use Rattle.std.specs.Ordering.{eq_by_cmp}
-use Rattle.std.specs.Cmp.{IsTotalOrder}
-use Rattle.std.specs.declared.cmp.Ordering.{Ordering}
-use Rattle.std.specs.declared.cmp.Ordering.TheVariants.{Less, Equal}
-use Rattle.std.specs.FinMap.{find, put, is_sorted}
-use Rattle.std.specs.FinMap.Entries.{find-put, same_entries, is_sorted-put}
-use Rattle.std.proofs.Math.Dec.{T}
+use Rattle.mpslp_builder.proofs.Prelude
+use Prelude.{arith, ◌≡◌, refl, ◌∙◌, List, [], ◌∷◌, false, cond, Bool, Some, eq_by_cmp, IsTotalOrder, Ordering, Less, Equal, find, put}
+use Prelude.{is_sorted, find-put, same_entries, is_sorted-put, T}
 
 module _ {K X : Type 0} (R : K → K → Ordering) (o : IsTotalOrder R) where
   -- the first key is below the second

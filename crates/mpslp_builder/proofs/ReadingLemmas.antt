@@ -1,32 +1,15 @@
 -- What tables state of a number is what their draft states of the name.
-use Rattle.std.proofs.Common.{◌≡◌, refl, sym, ap, ◌∙◌, ℕ, zero, suc, List, [], ◌∷◌, ◌++◌, Bool, true, false, cond, ◌<◌, arith}
-use Rattle.std.proofs.lemmas.Option.{slice_get_within}
-use Rattle.std.specs.Prelude.{Option, Some, None, is_some, slice_get, length, ◌||◌, ◌&&◌}
-use Rattle.std.specs.Option.{option_map, option_map_or}
-use Rattle.std.specs.Ordering.{eq_by_cmp, nat_cmp}
-use Rattle.std.specs.Cmp.Lexicographic.{nat_list_eq_equiv, bytes_decides, texts_ties}
-use Rattle.std.specs.FinMap.{find}
-use Rattle.mpslp_decimal.specs.Decimal.{Number}
-use Rattle.mpslp_types.specs.Name.{same_bytes, bytes_cmp}
-use Rattle.mpslp_types.specs.declared.kinds.Sense.{Sense}
-use Rattle.mpslp_model_core.specs.Limits.{RowDefinition, is_free_definition, is_definition_by_limits}
-use Rattle.mpslp_model_core.specs.Numbered.{sorted_of, each_part, given_parts}
-use Rattle.mpslp_model_core.proofs.KeyLemmas.{bytes_total}
-use Rattle.mpslp_model_core.proofs.SortedLemmas.{find-sorted_of}
-use Rattle.mpslp_model_core.proofs.CellLemmas.{at, or_else, find-two}
-use Rattle.mpslp_builder.specs.Declaration.{at_name, has_name, has_coefficient, is_objective, is_free_row, is_row_by_limits, is_integer}
-use Rattle.mpslp_builder.specs.Consistency.{has_objective_rhs}
-use Rattle.mpslp_builder.specs.Tables.{definition_of, rhs_of, range_of, cells_of, as_part, name_of_objective, objective_rhs, draft, IsNumbered}
-use Rattle.mpslp_builder.specs.Calls.{row_key_of, row_name, row_satisfies, column_satisfies, cells_at, is_objective_ref, IsOnceEach}
-use Rattle.mpslp_builder_parts.specs.declared.parts.ObjectiveParts.{ObjectiveParts}
-use Rattle.mpslp_builder_parts.specs.RowParts.{RowParts}
-use Rattle.mpslp_builder_parts.specs.declared.parts.ColumnParts.{ColumnParts}
-use Rattle.mpslp_builder.specs.declared.tables.RowRef.{RowRef}
-use Rattle.mpslp_builder.specs.declared.tables.RowRef.TheVariants.{Objective, Row}
-use Rattle.mpslp_builder.specs.declared.tables.Tables.{Tables}
+use Rattle.mpslp_builder.proofs.Prelude
+use Prelude.{◌≡◌, refl, sym, ap, ◌∙◌, ℕ, zero, suc, List, [], ◌∷◌, ◌++◌, Bool, true, false, cond, ◌<◌, arith, slice_get_within, Option}
+use Prelude.{Some, None, is_some, slice_get, length, ◌||◌, ◌&&◌, option_map, option_map_or, eq_by_cmp, nat_cmp, nat_list_eq_equiv}
+use Prelude.{bytes_decides, texts_ties, find, Number, same_bytes, bytes_cmp, Sense, RowDefinition, is_free_definition}
+use Prelude.{is_definition_by_limits, sorted_of, each_part, given_parts, bytes_total, find-sorted_of, at, or_else, find-two, at_name}
+use Prelude.{has_name, has_coefficient, is_objective, is_free_row, is_row_by_limits, is_integer, has_objective_rhs, definition_of, rhs_of}
+use Prelude.{range_of, cells_of, as_part, name_of_objective, objective_rhs, draft, IsNumbered, row_key_of, row_name, row_satisfies}
+use Prelude.{column_satisfies, cells_at, is_objective_ref, IsOnceEach, ObjectiveParts, RowParts, ColumnParts, RowRef, Objective, Tables}
+use Rattle.mpslp_builder.specs.declared.tables.RowRef.TheVariants.{Row}
 use Rattle.mpslp_builder.proofs.PartLemmas.{absent-each_part, none_there}
-use Rattle.mpslp_builder.proofs.NameLemmas.{there_found, found_there, find_own, find_given_own, none_given}
-use Rattle.mpslp_builder.proofs.ColumnDrafts.{cell_found}
+use Rattle.mpslp_builder.proofs.{NameLemmas.{there_found, found_there, find_own, find_given_own, none_given}, ColumnDrafts.{cell_found}}
 use Rattle.mpslp_builder.proofs.RowDrafts.{other_rhs}
 
 -- a row or a column with a number is declared

@@ -1,21 +1,16 @@
 -- Declarations, none of which is rejected after those before it, are consistent; and the converse.
-use Rattle.std.proofs.Common.{arith, rules, ◌≡◌, refl, sym, ap, ◌∙◌, ℕ, List, [], ◌∷◌, ◌++◌, Bool, true, false, not}
-use Rattle.std.specs.Prelude.{◌&&◌, ◌||◌, Option, Some, None, is_some}
-use Rattle.std.specs.Option.{option_map_or}
-use Rattle.std.specs.List.{list_all}
-use Rattle.std.specs.Cmp.{first_so, second_so}
-use Rattle.std.specs.FinMap.{put}
-use Rattle.mpslp_decimal.specs.Decimal.{Number}
-use Rattle.mpslp_types.specs.Name.{same_bytes, bytes_cmp}
-use Rattle.mpslp_builder.specs.Declaration.{by_type, by_limits, Declaration, declare_sense, declare_objective, declare_constant, declare_row, declare_rhs, declare_range, declare_column, declare_coefficient, declare_lower, declare_upper, declare_marked, declare_integer, declare_binary, declare_semi, Declarations, Draft, empty_draft, with_declaration, with_declarations, has_name, has_row, has_column, is_objective, is_integer, is_semi, is_row_by_limits}
-use Rattle.mpslp_types.specs.Lists.{are_distinct, those_of}
-use Rattle.mpslp_builder.specs.Consistency.{Slot, slots_of, all_slots, same_slot, is_known, is_allowed, has_objective_rhs, has_one_constant, has_objective, AreConsistent}
-use Rattle.mpslp_builder.specs.Refusal.{refusals, refusals_in_turn}
-use Rattle.mpslp_types.specs.declared.faults.BuildFault.{BuildFault}
-use Rattle.mpslp_types.specs.declared.faults.BuildFault.TheVariants as builds
-use Rattle.mpslp_types.proofs.BoolLemmas.{both_so, or_left, or_right, either, not_so, so_not, back, nor, both_false}
-use Rattle.mpslp_builder.proofs.LaterDrafts.{Extends, more_entries, extends-with_declaration, extends-in_turn, itself_named, has_row-after, known-after}
+use Rattle.mpslp_builder.proofs.Prelude
+use Prelude.{arith, rules, ◌≡◌, refl, sym, ap, ◌∙◌, ℕ, List, [], ◌∷◌, ◌++◌, Bool, true, false, not, ◌&&◌, ◌||◌, Option, Some, None, is_some}
+use Prelude.{option_map_or, list_all, first_so, second_so, put, Number, same_bytes, bytes_cmp, Declaration, declare_objective}
+use Prelude.{declare_constant, declare_row, declare_rhs, declare_range, declare_column, declare_coefficient, declare_lower, declare_upper}
+use Prelude.{declare_marked, declare_integer, declare_binary, declare_semi, Declarations, Draft, empty_draft, with_declaration}
+use Prelude.{with_declarations, has_name, has_row, has_column, is_objective, is_integer, is_semi, is_row_by_limits, those_of, Slot}
+use Prelude.{slots_of, is_known, is_allowed, has_objective_rhs, has_one_constant, has_objective, AreConsistent, refusals, refusals_in_turn}
+use Prelude.{BuildFault, both_so, or_left, or_right, either, not_so, so_not, back, nor, both_false}
+use Rattle.mpslp_builder.proofs.LaterDrafts.{Extends, more_entries, extends-with_declaration, extends-in_turn, itself_named, has_row-after}
+use Rattle.mpslp_builder.proofs.LaterDrafts.{known-after}
 use Rattle.mpslp_builder.proofs.SlotLemmas.{has-put, are_fresh, is_filled, are_fresh_in_turn, fresh_in_turn-is, same_name}
+use Rattle.mpslp_types.specs.declared.faults.BuildFault.TheVariants as builds
 
 -- ---- drafts of declarations that are not rejected
 
@@ -36,21 +31,21 @@ more_named {X} test q k v es known was h = grind (arith, same_name, has-put)
 
 declared_names-with_declaration : (all : Draft) (d : Declaration) → HasDeclaredNames all → are_fresh all (slots_of d) ≡ true → is_known all d ≡ true → HasDeclaredNames (with_declaration all d)
 declared_names-with_declaration all (declare_objective name) w h k =
-    let none : has_row all name ≡ false = not_so (has_row all name) (first_so (not (has_row all name)) true (second_so (not (is_some all.objective)) (not (has_row all name) && true) h)) in
+    let none = not_so (has_row all _) (first_so (not _) true (second_so (not _) (not _ && true) h)) in
     record {
-      apart = λ q same. ap (λ (n : List ℕ). has_name all.rows n) (same_name q name same) ∙ back (has_name all.rows name) (has_row all name) (or_right (is_objective all name) (has_name all.rows name)) none;
-      rhs_values = λ q there. none_there all.objective q (same_bytes q name) (has_name all.rows q) (not (has_row all name) && true) h (w.rhs_values q there);
-      ranges = λ q there. none_there all.objective q (same_bytes q name) (has_name all.rows q) (not (has_row all name) && true) h (w.ranges q there);
+      apart = λ q same. ap (λ n. has_name all.rows n) (same_name q name same) ∙ back (has_name _ name) (has_row all _) (or_right _ (has_name _ name)) none;
+      rhs_values = λ q there. none_there _ q _ _ (not _ && true) h (w.rhs_values q there);
+      ranges = λ q there. none_there _ q _ _ (not _ && true) h (w.ranges q there);
       integers = w.integers;
       semis = w.semis;
     }
 declared_names-with_declaration all (declare_row name definition) w h k =
     let after = with_declaration all (declare_row name definition) in
     let grows = extends-with_declaration all (declare_row name definition) h in
-    let none : has_row all name ≡ false = not_so (has_row all name) (first_so (not (has_row all name)) _ h) in
+    let none = not_so (has_row all _) (first_so (not _) _ h) in
     record {
-      apart = λ q is. has-put q name definition all.rows ∙ elim (same_bytes q name) as (λ b. same_bytes q name ≡ b → (b || has_name all.rows q) ≡ false) [
-        | true ↦ λ same. absurd (let so : has_row all name ≡ true = or_left (is_objective all name) (has_name all.rows name) (ap (is_objective all) (sym (same_name q name same)) ∙ is) in cc)
+      apart = λ q is. has-put q _ _ all.rows ∙ elim (same_bytes q _) as (λ b. same_bytes q name ≡ b → (b || has_name all.rows q) ≡ false) [
+        | true ↦ λ same. absurd (let so : has_row all name ≡ true = or_left _ _ (ap (is_objective all) (sym (same_name q name same)) ∙ is) in cc)
         | false ↦ λ _. w.apart q is
       ] refl;
       rhs_values = λ q there. has_row-after all after q grows (w.rhs_values q there);
@@ -58,36 +53,36 @@ declared_names-with_declaration all (declare_row name definition) w h k =
       integers = w.integers;
       semis = w.semis;
     }
-declared_names-with_declaration all (declare_rhs row v) w h k = record { apart = w.apart; rhs_values = λ q there. more_named (has_row all) q row v all.rhs_values k (w.rhs_values q) there; ranges = w.ranges; integers = w.integers; semis = w.semis }
-declared_names-with_declaration all (declare_range row v) w h k = record { apart = w.apart; rhs_values = w.rhs_values; ranges = λ q there. more_named (has_row all) q row v all.ranges k (w.ranges q) there; integers = w.integers; semis = w.semis }
+declared_names-with_declaration all (declare_rhs row v) w h k = record { apart = w.apart; rhs_values = λ q there. more_named (has_row all) q row v _ k (w.rhs_values q) there; ranges = w.ranges; integers = w.integers; semis = w.semis }
+declared_names-with_declaration all (declare_range row v) w h k = record { apart = w.apart; rhs_values = w.rhs_values; ranges = λ q there. more_named (has_row all) q row v _ k (w.ranges q) there; integers = w.integers; semis = w.semis }
 declared_names-with_declaration all (declare_column name) w h k = grind (arith, more_entries)
 declared_names-with_declaration all (declare_marked c) w h k = record {
   apart = w.apart;
   rhs_values = w.rhs_values;
   ranges = w.ranges;
-  integers = λ q. either _ (has_name all.integers q || has_name all.binaries q) (has_column all q)
-      (more_named (has_column all) q c tt all.marked k (λ is. w.integers q (or_left (has_name all.marked q) _ is)))
-      (λ is. w.integers q (or_right (has_name all.marked q) _ is));
+  integers = λ q. either _ _ _
+      (more_named (has_column all) q c tt _ k (λ is. w.integers q (or_left (has_name _ q) _ is)))
+      (λ is. w.integers q (or_right (has_name _ q) _ is));
   semis = w.semis;
 }
 declared_names-with_declaration all (declare_integer c) w h k = record {
   apart = w.apart;
   rhs_values = w.rhs_values;
   ranges = w.ranges;
-  integers = λ q. either (has_name all.marked q) _ (has_column all q) (λ is. w.integers q (or_left (has_name all.marked q) _ is))
-      (either _ (has_name all.binaries q) (has_column all q)
-      (more_named (has_column all) q c tt all.integers k (λ is. w.integers q (or_right (has_name all.marked q) _ (or_left (has_name all.integers q) _ is))))
-      (λ is. w.integers q (or_right (has_name all.marked q) _ (or_right (has_name all.integers q) _ is))));
+  integers = λ q. either _ _ _ (λ is. w.integers q (or_left _ _ is))
+      (either _ _ _
+      (more_named (has_column all) q c tt _ k (λ is. w.integers q (or_right _ _ (or_left _ _ is))))
+      (λ is. w.integers q (or_right _ _ (or_right _ _ is))));
   semis = w.semis;
 }
 declared_names-with_declaration all (declare_binary c) w h k = record {
   apart = w.apart;
   rhs_values = w.rhs_values;
   ranges = w.ranges;
-  integers = λ q. either (has_name all.marked q) _ (has_column all q) (λ is. w.integers q (or_left (has_name all.marked q) _ is))
-      (either (has_name all.integers q) _ (has_column all q)
-      (λ is. w.integers q (or_right (has_name all.marked q) _ (or_left (has_name all.integers q) _ is)))
-      (more_named (has_column all) q c tt all.binaries k (λ is. w.integers q (or_right (has_name all.marked q) _ (or_right (has_name all.integers q) _ is)))));
+  integers = λ q. either _ _ _ (λ is. w.integers q (or_left _ _ is))
+      (either _ _ _
+      (λ is. w.integers q (or_right _ _ (or_left _ _ is)))
+      (more_named (has_column all) q c tt all.binaries k (λ is. w.integers q (or_right _ _ (or_right _ _ is)))));
   semis = w.semis;
 }
 declared_names-with_declaration all (declare_semi c) w h k = record {
@@ -95,7 +90,7 @@ declared_names-with_declaration all (declare_semi c) w h k = record {
   rhs_values = w.rhs_values;
   ranges = w.ranges;
   integers = w.integers;
-  semis = λ q there. more_named (has_column all) q c tt all.semis k (w.semis q) there;
+  semis = λ q there. more_named (has_column all) q c tt _ k (w.semis q) there;
 }
 declared_names-with_declaration all _ w h k = grind arith
 
@@ -140,21 +135,8 @@ abbrev kind_tests : Draft → List ℕ → Bool → Tests
 kind_tests all c other = (not (has_column all c), builds.UnknownColumn) ∷ (other, builds.SemiContinuous) ∷ []
 
 pub fine-from_none : (all : Draft) (d : Declaration) → HasDeclaredNames all → refusals all d ≡ [] → IsFine all d
-fine-from_none all (declare_sense s) w h = grind arith
-fine-from_none all (declare_objective name) w h = grind arith
-fine-from_none all (declare_constant v) w h = grind arith
-fine-from_none all (declare_row name (by_type type)) w h = grind arith
-fine-from_none all (declare_row name (by_limits l u)) w h = grind arith
-fine-from_none all (declare_rhs row v) w h = grind arith
-fine-from_none all (declare_range row v) w h = grind arith
-fine-from_none all (declare_column name) w h = grind arith
-fine-from_none all (declare_coefficient key v) w h = grind arith
-fine-from_none all (declare_lower column limit) w h = grind arith
-fine-from_none all (declare_upper column limit) w h = grind arith
-fine-from_none all (declare_marked c) w h = grind arith
-fine-from_none all (declare_integer c) w h = grind arith
-fine-from_none all (declare_binary c) w h = grind arith
 fine-from_none all (declare_semi c) w h = grind arith
+fine-from_none all _ w h = grind arith
 
 -- ---- the constant
 
@@ -192,17 +174,17 @@ one-with_declaration all _ w one h = one
 
 one-before : (before after : Draft) → Extends before after → has_one_constant after ≡ true → has_one_constant before ≡ true
 one-before before after e one =
-    so_not (is_some before.constant && has_objective_rhs before)
-    (back (is_some before.constant && has_objective_rhs before) (is_some after.constant && has_objective_rhs after)
-    (λ h. both_so (is_some after.constant) (has_objective_rhs after) (e.constant (first_so (is_some before.constant) (has_objective_rhs before) h)) (side_after (second_so (is_some before.constant) (has_objective_rhs before) h)))
-    (not_so (is_some after.constant && has_objective_rhs after) one))
+    so_not (is_some _ && has_objective_rhs before)
+    (back (is_some _ && has_objective_rhs before) (is_some _ && has_objective_rhs after)
+    (λ h. both_so (is_some _) _ (e.constant (first_so (is_some _) _ h)) (side_after (second_so (is_some _) _ h)))
+    (not_so (is_some _ && has_objective_rhs after) one))
   where
     side_from : (o : Option (List ℕ)) → before.objective ≡ o → option_map_or (has_name before.rhs_values) o false ≡ true → has_objective_rhs after ≡ true
     side_from None is h = cc
-    side_from (Some name) is h = ap (λ (o : Option (List ℕ)). option_map_or (has_name after.rhs_values) o false) (e.objective name is) ∙ e.right_side name h
+    side_from (Some name) is h = ap (λ o. option_map_or (has_name after.rhs_values) o false) (e.objective _ is) ∙ e.right_side _ h
 
     side_after : has_objective_rhs before ≡ true → has_objective_rhs after ≡ true
-    side_after h = side_from before.objective refl h
+    side_after h = side_from _ refl h
 
 -- a right-hand side of the objective excludes a constant
 free_of_constant : (all : Draft) (row : List ℕ) (v : Number) → has_one_constant (with_declaration all (declare_rhs row v)) ≡ true → (is_objective all row && is_some all.constant) ≡ false
@@ -223,20 +205,11 @@ allowed-before before after (declare_semi c) e h = grind arith
 allowed-before before after _ e h = refl
 
 pub none-from_fine : (all : Draft) (d : Declaration) → IsFine all d → has_one_constant (with_declaration all d) ≡ true → refusals all d ≡ []
-none-from_fine all (declare_sense s) f one = grind arith
-none-from_fine all (declare_objective name) f one = grind arith
-none-from_fine all (declare_constant v) f one = grind arith
 none-from_fine all (declare_row name definition) f one = grind (arith, pass, not_so)
 none-from_fine all (declare_rhs row v) f one = grind (arith, nor, one_slot_of, pass, both_false, free_of_constant)
-none-from_fine all (declare_range row v) f one = grind arith
 none-from_fine all (declare_column name) f one = refl
 none-from_fine all (declare_coefficient key v) f one = grind (arith, pass, one_slot_of)
-none-from_fine all (declare_lower c limit) f one = grind arith
-none-from_fine all (declare_upper c limit) f one = grind arith
-none-from_fine all (declare_marked c) f one = grind arith
-none-from_fine all (declare_integer c) f one = grind arith
-none-from_fine all (declare_binary c) f one = grind arith
-none-from_fine all (declare_semi c) f one = grind arith
+none-from_fine all _ f one = grind arith
 
 -- ---- the lemmas
 
@@ -265,10 +238,10 @@ put_there : (c : List ℕ) (es : List (List ℕ × Unit {0})) → has_name (put 
 put_there c es = grind (arith, has-put, or_left, itself_named)
 
 said : (all : Draft) (d : Declaration) → says_kind (with_declaration all d) d ≡ true
-said all (declare_marked c) = or_left _ (has_name all.integers c || has_name all.binaries c) (put_there c all.marked)
-said all (declare_integer c) = or_right (has_name all.marked c) _ (or_left _ (has_name all.binaries c) (put_there c all.integers))
-said all (declare_binary c) = or_right (has_name all.marked c) _ (or_right (has_name all.integers c) _ (put_there c all.binaries))
-said all (declare_semi c) = put_there c all.semis
+said all (declare_marked c) = or_left _ _ (put_there c _)
+said all (declare_integer c) = or_right _ _ (or_left _ _ (put_there c _))
+said all (declare_binary c) = or_right _ _ (or_right _ _ (put_there c all.binaries))
+said all (declare_semi c) = put_there c _
 said all _ = refl
 
 said-after : (before after : Draft) (d : Declaration) → Extends before after → says_kind before d ≡ true → says_kind after d ≡ true
@@ -297,18 +270,18 @@ pub none-fine : (declarations : Declarations) (before : Draft) → HasDeclaredNa
     → AreFineInTurn before declarations
 none-fine [] before w apart one h = grind arith
 none-fine (d ∷ more) before w apart one h =
-    let f = fine-from_none before d w (left_none (refusals before d) (refusals_in_turn (with_declaration before d) more) h) in
-    let w' = declared_names-with_declaration before d w f.fresh f.known in
-    let apart' = kinds_apart-with_declaration before d apart f.allowed in
-    let r = none-fine more (with_declaration before d) w' apart' (one-with_declaration before d w one (left_none (refusals before d) (refusals_in_turn (with_declaration before d) more) h)) (right_none (refusals before d) (refusals_in_turn (with_declaration before d) more) h) in
-    let fresh = both_so (are_fresh before (slots_of d)) (are_fresh_in_turn (with_declaration before d) more) f.fresh r.fresh in
-    let after = with_declarations (with_declaration before d) more in
-    let e = extends-in_turn (d ∷ more) before fresh in
-    let stated = said-after (with_declaration before d) after d (extends-in_turn more (with_declaration before d) r.fresh) (said before d) in
+    let f = fine-from_none _ d w (left_none _ _ h) in
+    let w' = declared_names-with_declaration _ d w f.fresh f.known in
+    let apart' = kinds_apart-with_declaration _ d apart f.allowed in
+    let r = none-fine more (with_declaration _ d) w' apart' (one-with_declaration _ d w one (left_none _ _ h)) (right_none _ (refusals_in_turn _ more) h) in
+    let fresh = both_so _ _ f.fresh r.fresh in
+    let after = with_declarations (with_declaration _ d) more in
+    let e = extends-in_turn (d ∷ more) _ fresh in
+    let stated = said-after (with_declaration _ d) after d (extends-in_turn more (with_declaration _ d) r.fresh) (said _ d) in
     record {
       fresh = fresh;
-      known = both_so (is_known after d) (list_all (is_known after) more) (known-after before after d e f.known) r.known;
-      allowed = both_so (is_allowed after d) (list_all (is_allowed after) more) (allowed-after before after d e r.declared_names r.kinds_apart stated f.known f.allowed) r.allowed;
+      known = both_so _ _ (known-after _ _ d e f.known) r.known;
+      allowed = both_so _ _ (allowed-after _ _ d e r.declared_names r.kinds_apart stated f.known f.allowed) r.allowed;
       one_constant = r.one_constant;
       declared_names = r.declared_names;
       kinds_apart = r.kinds_apart;
@@ -328,10 +301,10 @@ all_fresh (slot ∷ slots) = grind (arith, both_so, is_filled, are_fresh, empty_
 -- Declarations that are not rejected in turn are consistent.
 pub consistent-from_none : (declarations : Declarations) → has_objective declarations ≡ true → refusals_in_turn empty_draft declarations ≡ [] → AreConsistent declarations
 consistent-from_none declarations objective h =
-    let f = none-fine declarations empty_draft empty_declared_names empty_kinds_apart refl h in
+    let f = none-fine declarations _ empty_declared_names empty_kinds_apart refl h in
     record {
       objective = objective;
-      once = second_so (are_fresh empty_draft (all_slots declarations)) (are_distinct same_slot (all_slots declarations)) (sym (fresh_in_turn-is declarations empty_draft) ∙ f.fresh);
+      once = second_so _ _ (sym (fresh_in_turn-is declarations _) ∙ f.fresh);
       one_constant = f.one_constant;
       known = f.known;
       allowed = f.allowed;
@@ -341,18 +314,18 @@ pub none-from_fine_in_turn : (declarations : Declarations) (before : Draft) → 
     → list_all (is_allowed (with_declarations before declarations)) declarations ≡ true → has_one_constant (with_declarations before declarations) ≡ true → refusals_in_turn before declarations ≡ []
 none-from_fine_in_turn [] before fresh known allowed one = refl
 none-from_fine_in_turn (d ∷ more) before fresh known allowed one =
-    let after = with_declarations (with_declaration before d) more in
-    let fresh_here = first_so (are_fresh before (slots_of d)) (are_fresh_in_turn (with_declaration before d) more) fresh in
-    let fresh_then = second_so (are_fresh before (slots_of d)) (are_fresh_in_turn (with_declaration before d) more) fresh in
-    let e = extends-in_turn (d ∷ more) before fresh in
+    let after = with_declarations (with_declaration _ d) more in
+    let fresh_here = first_so _ _ fresh in
+    let fresh_then = second_so _ _ fresh in
+    let e = extends-in_turn (d ∷ more) _ fresh in
     let f : IsFine before d = record {
       fresh = fresh_here;
-      known = first_so (is_known before d) (are_known_in_turn (with_declaration before d) more) known;
-      allowed = allowed-before before after d e (first_so (is_allowed after d) (list_all (is_allowed after) more) allowed);
+      known = first_so _ _ known;
+      allowed = allowed-before _ after d e (first_so _ _ allowed);
     } in
-    join_none (refusals before d) (refusals_in_turn (with_declaration before d) more)
-    (none-from_fine before d f (one-before (with_declaration before d) after (extends-in_turn more (with_declaration before d) fresh_then) one))
-    (none-from_fine_in_turn more (with_declaration before d) fresh_then (second_so (is_known before d) (are_known_in_turn (with_declaration before d) more) known) (second_so (is_allowed after d) (list_all (is_allowed after) more) allowed) one)
+    join_none _ _
+    (none-from_fine _ d f (one-before (with_declaration _ d) _ (extends-in_turn more (with_declaration _ d) fresh_then) one))
+    (none-from_fine_in_turn more (with_declaration _ d) fresh_then (second_so _ _ known) (second_so _ _ allowed) one)
 
 -- Consistent declarations are not rejected in turn, if each name is used after its declaration.
 pub none-from_consistent : (declarations : Declarations) → AreConsistent declarations → are_known_in_turn empty_draft declarations ≡ true → refusals_in_turn empty_draft declarations ≡ []

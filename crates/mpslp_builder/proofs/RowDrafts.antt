@@ -1,31 +1,15 @@
 -- How the draft of tables changes with the objective, and with a row that is added or written.
-use Rattle.std.proofs.Common.{◌≡◌, refl, sym, ap, ◌∙◌, ℕ, zero, suc, List, [], ◌∷◌, ◌++◌, Bool, true, false, cond, inl, inr, ◌<◌, arith, length-append}
-use Rattle.std.specs.Prelude.{Option, Some, None, is_some, slice_get, length, ◌||◌, ◌⊎◌}
-use Rattle.std.specs.List.{list_all}
-use Rattle.std.specs.Option.{option_map, option_map_or}
-use Rattle.std.specs.Ordering.{eq_by_cmp}
-use Rattle.std.specs.Cmp.{second_so}
-use Rattle.std.specs.Cmp.Lexicographic.{nat_list_eq_equiv}
-use Rattle.std.specs.FinMap.{find, put}
-use Rattle.indexmap.specs.IndexMap.{set_value_at}
-use Rattle.mpslp_decimal.specs.Decimal.{Number}
-use Rattle.mpslp_types.specs.Name.{same_bytes, bytes_cmp}
-use Rattle.mpslp_types.specs.declared.kinds.Sense.{Sense}
-use Rattle.mpslp_types.proofs.BoolLemmas.{both_so}
-use Rattle.mpslp_model_core.specs.Model.{key_cmp}
-use Rattle.mpslp_model_core.specs.Limits.{RowDefinition}
-use Rattle.mpslp_model_core.specs.Numbered.{sorted_of, each_part, given_parts, column_cells, all_cells, all_named, IsOnce}
-use Rattle.mpslp_model_core.proofs.KeyLemmas.{bytes_total, tied_names}
-use Rattle.mpslp_model_core.proofs.SortedLemmas.{sorted_of-put, sorted_of-append}
-use Rattle.mpslp_model_core.proofs.PutsLemmas.{equal_from}
-use Rattle.mpslp_model_core.proofs.CellLemmas.{or_else, find-two}
-use Rattle.mpslp_builder.specs.Declaration.{Draft, with_declaration, declare_objective, declare_row, declare_rhs, declare_range, is_objective, has_name, has_row}
-use Rattle.mpslp_builder.specs.Tables.{definition_of, rhs_of, range_of, name_of_objective, objective_rhs, name_of_row_key, cells_by_name, draft_from, AreNumbered}
-use Rattle.mpslp_builder_parts.specs.declared.parts.ObjectiveParts.{ObjectiveParts}
-use Rattle.mpslp_builder_parts.specs.RowParts.{RowParts}
-use Rattle.mpslp_builder_parts.specs.declared.parts.ColumnParts.{ColumnParts}
-use Rattle.mpslp_builder.proofs.NameLemmas.{there_found, once_too, names-more, old_or_last}
-use Rattle.mpslp_builder.proofs.PartLemmas.{each_part-append, each_part-kept, given_parts-without, given_parts-kept, find-given_any, absent-each_part}
+use Rattle.mpslp_builder.proofs.Prelude
+use Prelude.{◌≡◌, refl, sym, ap, ◌∙◌, ℕ, zero, suc, List, [], ◌∷◌, ◌++◌, Bool, true, false, cond, inl, inr, ◌<◌, arith, length-append}
+use Prelude.{Option, Some, None, is_some, slice_get, length, ◌||◌, ◌⊎◌, list_all, option_map, option_map_or, eq_by_cmp, second_so}
+use Prelude.{nat_list_eq_equiv, find, put, set_value_at, Number, same_bytes, bytes_cmp, Sense, both_so, key_cmp, RowDefinition, sorted_of}
+use Prelude.{each_part, given_parts, column_cells, all_cells, all_named, IsOnce, bytes_total, tied_names, sorted_of-put, sorted_of-append}
+use Prelude.{equal_from, or_else, find-two, Draft, with_declaration, declare_objective, declare_row, declare_rhs, declare_range}
+use Prelude.{is_objective, has_name, has_row, definition_of, rhs_of, range_of, name_of_objective, objective_rhs, name_of_row_key}
+use Prelude.{cells_by_name, draft_from, AreNumbered, ObjectiveParts, RowParts, ColumnParts}
+use Rattle.mpslp_builder.proofs.NameLemmas.{name_kept, there_found, once_too, names-more, old_or_last}
+use Rattle.mpslp_builder.proofs.PartLemmas.{each_part-append, each_part-kept, given_parts-without, given_parts-kept, find-given_any}
+use Rattle.mpslp_builder.proofs.PartLemmas.{absent-each_part}
 
 -- ---- numbers that still name what they named
 
@@ -139,16 +123,9 @@ module _ (sense : Option Sense) (constant : Option Number) (objective : Option O
   -- ---- a row that is written
 
   module _ (i : ℕ) (k : List ℕ) (v w : RowParts) (row : slice_get rows i ≡ Some (k, v)) where
-    same_names : (rows : List (List ℕ × RowParts)) (i j : ℕ) → option_map (λ (e : List ℕ × RowParts). e.0) (slice_get (set_value_at rows i w) j) ≡ option_map (λ e. e.0) (slice_get rows j)
-    same_names [] i j = refl
-    same_names (e ∷ es) zero zero = refl
-    same_names (e ∷ es) zero (suc j) = refl
-    same_names (e ∷ es) (suc i) zero = refl
-    same_names (e ∷ es) (suc i) (suc j) = same_names es i j
-
     same_name_at : (n : ℕ) → name_of_row_key objective (set_value_at rows i w) n ≡ name_of_row_key objective rows n
     same_name_at zero = refl
-    same_name_at (suc j) = same_names rows i j
+    same_name_at (suc j) = name_kept rows i j w
 
     same_length : (rows : List (List ℕ × RowParts)) (i : ℕ) → length (set_value_at rows i w) ≡ length rows
     same_length [] i = refl

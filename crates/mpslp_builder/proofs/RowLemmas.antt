@@ -1,18 +1,10 @@
 -- The limits of a row follow from its type, right-hand side and range.
-use Rattle.std.proofs.Common.{arith, ◌≡◌, refl, Bool, true, false, cond}
-use Rattle.std.specs.Prelude.{Option, Some, None, unwrap_or, ◌&&◌, if◌then◌else◌}
-use Rattle.std.specs.Option.{option_map_or}
-use Rattle.std.specs.Cmp.{second_so}
-use Rattle.mpslp_decimal.specs.Decimal.{Number, IsDecimal, is_zero, zero_number, size_of, difference_of, have_same_value}
-use Rattle.mpslp_types.specs.Limit.{are_sides, is_at_most, is_bounded_decimal, has_bounded_distance}
-use Rattle.mpslp_model_core.specs.Limits.{limits_of, plain_limits}
-use Rattle.mpslp_builder.specs.Declaration.{by_type}
-use Rattle.mpslp_types.specs.declared.kinds.Limit.{Limit}
-use Rattle.mpslp_types.specs.declared.kinds.Limit.TheVariants.{MinusInf, Finite, PlusInf}
-use Rattle.mpslp_types.specs.declared.kinds.RowType.{RowType}
-use Rattle.mpslp_types.specs.declared.kinds.RowType.TheVariants.{Free, AtMost, AtLeast, Equal}
-use Rattle.mpslp_decimal.proofs.ScaleLemmas.{sum-difference}
-use Rattle.mpslp_decimal.proofs.OrderLemmas.{same_decimal, difference_size}
+use Rattle.mpslp_builder.proofs.Prelude
+use Prelude.{arith, ◌≡◌, refl, Bool, true, false, cond, Option, Some, None, unwrap_or, ◌&&◌, if◌then◌else◌, option_map_or, second_so}
+use Prelude.{Number, IsDecimal, is_zero, zero_number, size_of, difference_of, have_same_value, are_sides, is_at_most, is_bounded_decimal}
+use Prelude.{has_bounded_distance, limits_of, plain_limits, by_type, Limit, MinusInf, Finite, PlusInf, RowType, Free, AtMost, AtLeast}
+use Prelude.{sum-difference, same_decimal, difference_size}
+use Rattle.mpslp_types.specs.declared.kinds.RowType.TheVariants.{Equal}
 
 abbrev pub printed_type : Limit → Limit → RowType
 printed_type (Finite a) (Finite b) = if have_same_value a b then Equal else AtLeast
@@ -47,13 +39,13 @@ row_back MinusInf (Finite b) h w = grind arith
 row_back MinusInf PlusInf h w = refl
 row_back (Finite a) MinusInf h w = grind (arith)
 row_back (Finite a) PlusInf h w = grind arith
-row_back (Finite a) (Finite b) h w = by (have_same_value a b) refl
+row_back (Finite a) (Finite b) h w = by _ refl
   where
     good_a : is_bounded_decimal a ≡ true
     good_a = grind arith
 
     rest : (is_bounded_decimal b && is_at_most (Finite a) (Finite b)) ≡ true
-    rest = second_so (is_bounded_decimal a) (is_bounded_decimal b && is_at_most (Finite a) (Finite b)) h
+    rest = second_so (is_bounded_decimal a) _ h
 
     dec_a : IsDecimal a
     dec_a = grind arith
@@ -63,5 +55,5 @@ row_back (Finite a) (Finite b) h w = by (have_same_value a b) refl
 
     by : (t : Bool) → have_same_value a b ≡ t → limits_of (by_type (cond t Equal AtLeast)) a (cond t None (difference_of b a)) ≡ Some (record { lower = Finite a; upper = Finite b })
     by true e = same_values a b e good_a (same_decimal a b dec_a dec_b e)
-    by false e = apart_values a b (difference_of b a) refl w dec_a dec_b (λ d is. difference_size a b d (second_so (is_bounded_decimal b) (is_at_most (Finite a) (Finite b)) rest) is)
+    by false e = apart_values a b (difference_of b a) refl w dec_a dec_b (λ d is. difference_size a b d (second_so (is_bounded_decimal b) _ rest) is)
 row_back _ _ h w = cc

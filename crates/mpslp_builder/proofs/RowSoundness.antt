@@ -1,18 +1,11 @@
 -- A row has no whole-file error if and only if its limits are well-formed.
-use Rattle.std.proofs.Common.{arith, ◌≡◌, refl, Bool, true, false, not, cond}
-use Rattle.std.specs.Prelude.{◌&&◌, ◌+ℤ◌, Option, Some, None}
-use Rattle.std.specs.Option.{option_map_or}
-use Rattle.std.specs.Cmp.{first_so, second_so}
-use Rattle.mpslp_decimal.specs.Decimal.{Number, is_decimal, is_negative, size_of, decimal_of, scaled, at_scale, negated, sum_of, difference_of}
-use Rattle.mpslp_model_core.specs.Model.{Row}
-use Rattle.mpslp_types.specs.Limit.{is_at_most, is_lower_side, is_upper_side, are_sides, has_bounded_distance, is_given}
-use Rattle.mpslp_builder.specs.Declaration.{RowDefinition, by_type, by_limits, have_infinite_side}
-use Rattle.mpslp_model_core.specs.Limits.{sides, limits_of, has_infinite_rhs}
-use Rattle.mpslp_model_core.specs.WrongParts.{is_inexact, is_too_large, is_large_limit, is_crossed}
-use Rattle.mpslp_types.specs.declared.kinds.Limit.{Limit}
-use Rattle.mpslp_types.specs.declared.kinds.Limit.TheVariants.{MinusInf, Finite, PlusInf}
-use Rattle.mpslp_types.specs.declared.kinds.RowType.TheVariants.{Free, AtMost, AtLeast, Equal}
-use Rattle.mpslp_types.proofs.BoolLemmas.{both_so, nor}
+use Rattle.mpslp_builder.proofs.Prelude
+use Prelude.{arith, ◌≡◌, refl, Bool, true, false, not, cond, ◌&&◌, ◌+ℤ◌, Option, Some, None, option_map_or, first_so, second_so, Number}
+use Prelude.{is_decimal, is_negative, size_of, decimal_of, scaled, at_scale, negated, sum_of, difference_of, Row, is_at_most, is_lower_side}
+use Prelude.{is_upper_side, are_sides, has_bounded_distance, is_given, RowDefinition, by_type, by_limits, have_infinite_side, sides}
+use Prelude.{limits_of, has_infinite_rhs, is_inexact, is_too_large, is_large_limit, is_crossed, Limit, MinusInf, Finite, PlusInf, Free}
+use Prelude.{AtMost, AtLeast, both_so, nor}
+use Rattle.mpslp_types.specs.declared.kinds.RowType.TheVariants.{Equal}
 
 -- a definition with valid limits, neither of which excludes all values
 abbrev pub is_legal_form : RowDefinition → Bool
@@ -74,15 +67,12 @@ sides-of_form (by_type Free) b None f h k = refl
 sides-of_form (by_type Free) b (Some r) f h k = refl
 sides-of_form (by_type AtMost) b None f h k = grind arith
 sides-of_form (by_type AtLeast) b None f h k = grind (arith, lower_limit)
-sides-of_form (by_type Equal) b None f h k = grind arith
-sides-of_form (by_type AtMost) b (Some r) f h k = grind arith
-sides-of_form (by_type AtLeast) b (Some r) f h k = grind arith
 sides-of_form (by_type Equal) b (Some r) f h k =
     elim (is_negative r) as (λ (n : Bool). may_have_sides (cond n (sides (difference_of b (size_of r)) (Some b)) (sides (Some b) (sum_of b (size_of r)))) ≡ true) [
       | true ↦ sides_of (difference_of b (size_of r)) (Some b) (computed (at_scale (scaled b +ℤ scaled (negated (size_of r))))) h
       | false ↦ sides_of (Some b) (sum_of b (size_of r)) h (computed (at_scale (scaled b +ℤ scaled (size_of r))))
     ]
-sides-of_form (by_limits l u) b r f h k = grind arith
+sides-of_form _ b _ f h k = grind arith
 
 -- without an error, the limits are well-formed
 pub record IsSoundForm (limits : Option Row) : Type 0 where
@@ -94,9 +84,9 @@ pub record IsSoundForm (limits : Option Row) : Type 0 where
 from_limits : (limits : Option Row) → may_have_sides limits ≡ true → is_inexact limits ≡ false → is_too_large limits ≡ false → is_crossed limits ≡ false → IsSoundForm limits
 from_limits None m a b c = cc
 from_limits (Some row) m a b c =
-    let s = limits-from_tests row.lower row.upper (first_so (may_be_lower row.lower) (may_be_upper row.upper) m) (second_so (may_be_lower row.lower) (may_be_upper row.upper) m) a b c in
+    let s = limits-from_tests row.lower _ (first_so _ _ m) (second_so _ _ m) a b c in
     record { row = row; is = refl; sides = s.sides; distance = s.distance }
 
 pub sound-from_no_fault : (definition : RowDefinition) (b : Number) (r : Option Number) → is_legal_form definition ≡ true → is_decimal b ≡ true → has_infinite_rhs definition b r ≡ false
     → is_inexact (limits_of definition b r) ≡ false → is_too_large (limits_of definition b r) ≡ false → is_crossed (limits_of definition b r) ≡ false → IsSoundForm (limits_of definition b r)
-sound-from_no_fault definition b r f h k = from_limits (limits_of definition b r) (sides-of_form definition b r f h k)
+sound-from_no_fault definition b r f h k = from_limits _ (sides-of_form definition b r f h k)

@@ -1,44 +1,35 @@
 -- Slots that are free before each declaration are filled only once.
-use Rattle.std.proofs.Common.{arith, rules, ◌≡◌, refl, sym, ap, ◌∙◌, ℕ, List, [], ◌∷◌, ◌++◌, Bool, true, false, not, cond}
-use Rattle.std.proofs.Math.Bool.{and_comm}
-use Rattle.std.specs.Prelude.{◌&&◌, ◌||◌, Option, Some, is_some}
-use Rattle.std.specs.Option.{option_map_or}
-use Rattle.std.specs.List.{list_any, list_all}
-use Rattle.std.specs.Ordering.{eq_by_cmp}
-use Rattle.std.specs.Cmp.{both_tied}
-use Rattle.std.specs.Cmp.Lexicographic.{texts_ties, nat_list_cmp_total, same_text}
-use Rattle.std.specs.FinMap.{find, put}
-use Rattle.std.specs.FinMap.Entries.{find-put}
-use Rattle.std.proofs.lemmas.List.Folds.{list_any-append, list_all-append}
-use Rattle.mpslp_types.specs.Name.{same_bytes, bytes_cmp}
-use Rattle.mpslp_model_core.specs.Model.{CoefficientKey, key_cmp}
-use Rattle.mpslp_model_core.specs.KeyOrder.{key_total}
-use Rattle.mpslp_builder.specs.Declaration.{RowDefinition, by_type, by_limits, Declaration, declare_sense, declare_objective, declare_constant, declare_row, declare_rhs, declare_range, declare_column, declare_coefficient, declare_lower, declare_upper, declare_marked, declare_integer, declare_binary, declare_semi, Declarations, Draft, with_declaration, at_name, has_name, has_row, has_coefficient, is_definition_by_limits, is_row_by_limits}
-use Rattle.mpslp_types.specs.Lists.{are_distinct}
-use Rattle.mpslp_builder.specs.Consistency.{Slot, sense_slot, objective_slot, constant_slot, row_slot, rhs_slot, range_slot, coefficient_slot, lower_slot, upper_slot, same_slot, slots_of, all_slots}
-use Rattle.mpslp_types.proofs.BoolLemmas.{or_end, all_true, mixed, mixed_more}
+use Rattle.mpslp_builder.proofs.Prelude
+use Prelude.{arith, rules, ◌≡◌, refl, sym, ap, ◌∙◌, ℕ, List, [], ◌∷◌, ◌++◌, Bool, true, false, not, cond, and_comm, ◌&&◌, ◌||◌, Option}
+use Prelude.{Some, is_some, option_map_or, list_any, list_all, eq_by_cmp, both_tied, texts_ties, nat_list_cmp_total, same_text, find, put}
+use Prelude.{find-put, list_any-append, list_all-append, same_bytes, bytes_cmp, CoefficientKey, key_cmp, key_total, RowDefinition, by_type}
+use Prelude.{by_limits, Declaration, declare_sense, declare_objective, declare_constant, declare_row, declare_rhs, declare_range}
+use Prelude.{declare_column, declare_coefficient, declare_lower, declare_upper, declare_marked, declare_integer, declare_binary}
+use Prelude.{declare_semi, Declarations, Draft, with_declaration, at_name, has_name, has_row, has_coefficient, is_definition_by_limits}
+use Prelude.{is_row_by_limits, are_distinct, Slot, sense_slot, objective_slot, constant_slot, row_slot, rhs_slot, range_slot}
+use Prelude.{coefficient_slot, lower_slot, upper_slot, same_slot, slots_of, all_slots, or_end, all_true, mixed, mixed_more}
 
 -- ---- one more entry
 
 pub at-put : {X : Type 0} (q k : List ℕ) (v : X) (es : List (List ℕ × X)) → at_name (put bytes_cmp k v es) q ≡ cond (same_bytes q k) (Some v) (at_name es q)
-at-put {X} q k v es = find-put bytes_cmp nat_list_cmp_total q k v es ∙ ap (λ (b : Bool). cond b (Some v) (find bytes_cmp q es)) (sym (texts_ties q k))
+at-put {X} q k v es = find-put _ nat_list_cmp_total q k v es ∙ ap (λ b. cond b (Some v) (find bytes_cmp q es)) (sym (texts_ties q k))
 
 is_some-cond : {X : Type 0} (b : Bool) (v : X) (o : Option X) → is_some (cond b (Some v) o) ≡ (b || is_some o)
 is_some-cond b v o = grind arith
 
 pub has-put : {X : Type 0} (q k : List ℕ) (v : X) (es : List (List ℕ × X)) → has_name (put bytes_cmp k v es) q ≡ (same_bytes q k || has_name es q)
-has-put q k v es = ap is_some (at-put q k v es) ∙ is_some-cond (same_bytes q k) v (at_name es q)
+has-put q k v es = ap is_some (at-put q k v es) ∙ is_some-cond _ v _
 
 pub key_ties : (a b : CoefficientKey) → (same_bytes a.row b.row && same_bytes a.column b.column) ≡ eq_by_cmp key_cmp a b
 key_ties a b =
-    and_comm (same_bytes a.row b.row) (same_bytes a.column b.column)
-    ∙ both_tied _ _ (bytes_cmp a.column b.column) (bytes_cmp a.row b.row) (texts_ties a.column b.column) (texts_ties a.row b.row)
+    and_comm (same_bytes _ b.row) (same_bytes _ b.column)
+    ∙ both_tied _ _ _ _ (texts_ties a.column _) (texts_ties a.row _)
 
 pub has-put_key : {X : Type 0} (q k : CoefficientKey) (v : X) (es : List (CoefficientKey × X))
     → is_some (find key_cmp q (put key_cmp k v es)) ≡ ((same_bytes q.row k.row && same_bytes q.column k.column) || is_some (find key_cmp q es))
 has-put_key q k v es =
-    ap is_some (find-put key_cmp key_total q k v es)
-    ∙ is_some-cond (eq_by_cmp key_cmp q k) v (find key_cmp q es) ∙ ap (λ (b : Bool). b || is_some (find key_cmp q es)) (sym (key_ties q k))
+    ap is_some (find-put _ key_total q k v es)
+    ∙ is_some-cond _ v _ ∙ ap (λ b. b || is_some (find key_cmp q es)) (sym (key_ties q k))
 
 -- ---- filled slots
 
@@ -84,7 +75,7 @@ by_limits_after : (here r was : Bool) → (r || cond here true was) ≡ ((here |
 by_limits_after here r was = grind arith
 
 limits_at : (all : Draft) (n name : List ℕ) (definition : RowDefinition) → is_row_by_limits (with_declaration all (declare_row name definition)) n ≡ cond (same_bytes n name) (is_definition_by_limits definition) (is_row_by_limits all n)
-limits_at all n name definition = ap (λ (o : Option RowDefinition). option_map_or is_definition_by_limits o false) (at-put n name definition all.rows) ∙ limits_of_cond (same_bytes n name) definition (at_name all.rows n)
+limits_at all n name definition = ap (λ o. option_map_or is_definition_by_limits o false) (at-put n _ _ _) ∙ limits_of_cond _ _ _
 
 pub same_name : (a b : List ℕ) → same_bytes a b ≡ true → a ≡ b
 same_name a b h = same_text a b (sym h)
@@ -106,9 +97,9 @@ filled-with_declaration all (declare_row name (by_type type)) _ h = refl
 filled-with_declaration all (declare_row name (by_limits l u)) _ h = refl
 filled-with_declaration all (declare_rhs row v) (rhs_slot n) h = grind (arith, has-put, after_or)
 filled-with_declaration all (declare_range row v) (range_slot n) h = grind (arith, has-put, after_or)
-filled-with_declaration all (declare_coefficient key v) (coefficient_slot p) h = has-put_key p key v all.coefficients ∙ or_end (same_bytes p.row key.row && same_bytes p.column key.column) (has_coefficient all p)
-filled-with_declaration all (declare_lower name v) (lower_slot n) h = has-put n name v all.lowers ∙ or_end (same_bytes n name) (has_name all.lowers n)
-filled-with_declaration all (declare_upper name v) (upper_slot n) h = has-put n name v all.uppers ∙ or_end (same_bytes n name) (has_name all.uppers n)
+filled-with_declaration all (declare_coefficient key v) (coefficient_slot p) h = has-put_key p key v all.coefficients ∙ or_end _ (has_coefficient all p)
+filled-with_declaration all (declare_lower name v) (lower_slot n) h = has-put n _ v _ ∙ or_end _ (has_name _ n)
+filled-with_declaration all (declare_upper name v) (upper_slot n) h = has-put n _ v _ ∙ or_end _ (has_name _ n)
 filled-with_declaration all (declare_sense x) sense_slot h = refl
 filled-with_declaration all (declare_constant x) sense_slot h = refl
 filled-with_declaration all (declare_column x) sense_slot h = refl
@@ -129,7 +120,7 @@ apart-cons x xs [] = refl
 apart-cons x xs (y ∷ later) = grind (arith, apart-cons x xs later)
 
 pub are_distinct-append : (earlier later : List Slot) → are_distinct same_slot (earlier ++ later) ≡ (are_distinct same_slot earlier && (are_apart earlier later && are_distinct same_slot later))
-are_distinct-append [] later = ap (λ (b : Bool). b && are_distinct same_slot later) (sym (all_true later))
+are_distinct-append [] later = ap (λ b. b && are_distinct same_slot later) (sym (all_true later))
 are_distinct-append (x ∷ xs) later = grind (arith, list_any-append, mixed_more, apart-cons, are_distinct-append xs later)
 
 distinct_own : (d : Declaration) → are_distinct same_slot (slots_of d) ≡ true
@@ -162,7 +153,7 @@ fresh_in_turn-is (d ∷ more) before =
           ∙ ap (λ (b : Bool). are_fresh before rest && (b && (are_apart mine rest && are_distinct same_slot rest))) (sym (distinct_own d))
           ∙ ap (λ (b : Bool). are_fresh before rest && b) (sym (are_distinct-append mine rest))
     ] refl
-    ∙ ap (λ (b : Bool). b && are_distinct same_slot (mine ++ rest)) (sym (list_all-append (λ slot. not (is_filled before slot)) mine rest))
+    ∙ ap (λ (b : Bool). b && are_distinct same_slot (mine ++ rest)) (sym (list_all-append _ mine rest))
   where
     swapped : (a b c : Bool) → ((a && b) && c) ≡ (b && (a && c))
     swapped a b c = grind arith

@@ -1,18 +1,13 @@
 -- Each map of a draft holds its entries in the order of their keys.
-use Rattle.std.proofs.Common.{sym, subst, ℕ, List, arith}
-use Rattle.std.specs.List.{flat_map}
-use Rattle.std.specs.FinMap.{is_sorted}
-use Rattle.std.proofs.Math.Dec.{T}
-use Rattle.mpslp_decimal.specs.Decimal.{Number}
-use Rattle.mpslp_model_core.specs.Model.{CoefficientKey, key_cmp}
-use Rattle.mpslp_types.specs.Name.{bytes_cmp}
-pub use Rattle.mpslp_model_core.proofs.KeyLemmas.{bytes_total, tied_names, key_total}
-use Rattle.mpslp_builder.specs.Declaration.{RowDefinition, Declarations, Draft, empty_draft, with_declarations, draft_of}
-use Rattle.mpslp_builder.specs.Made.{IsMade}
-use Rattle.mpslp_types.specs.declared.kinds.Limit.{Limit}
+use Rattle.mpslp_builder.proofs.Prelude
+use Prelude.{sym, subst, ℕ, List, arith, flat_map, is_sorted, T, Number, CoefficientKey, key_cmp, bytes_cmp, RowDefinition, Declarations}
+use Prelude.{Draft, empty_draft, with_declarations, draft_of, IsMade, Limit, is_sorted-puts}
 use Rattle.mpslp_builder.proofs.DraftEntries.{same_key}
-use Rattle.mpslp_builder.proofs.DraftLemmas.{row_part, rows-all, rhs_part, rhs_values-all, range_part, ranges-all, column_part, columns-all, coefficient_part, coefficients-all, lower_part, lowers-all, upper_part, uppers-all, marked_part, marked-all, integer_part, integers-all, binary_part, binaries-all, semi_part, semis-all}
-use Rattle.mpslp_model_core.proofs.PutsLemmas.{is_sorted-puts}
+use Rattle.mpslp_builder.proofs.DraftLemmas.{row_part, rows-all, rhs_part, rhs_values-all, range_part, ranges-all, column_part, columns-all}
+use Rattle.mpslp_builder.proofs.DraftLemmas.{coefficient_part, coefficients-all, lower_part, lowers-all, upper_part, uppers-all}
+use Rattle.mpslp_builder.proofs.DraftLemmas.{marked_part, marked-all, integer_part, integers-all, binary_part, binaries-all, semi_part}
+use Rattle.mpslp_builder.proofs.DraftLemmas.{semis-all}
+pub use Rattle.mpslp_model_core.proofs.KeyLemmas.{bytes_total, tied_names, key_total}
 
 -- ---- sorted maps
 

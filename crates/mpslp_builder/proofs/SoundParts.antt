@@ -1,18 +1,9 @@
 -- What a well-formed row or column implies for its name and its limits, and names that differ.
-use Rattle.std.proofs.Common.{arith, ◌≡◌, List, [], ◌∷◌, ℕ, true, false}
-use Rattle.std.specs.Prelude.{◌&&◌}
-use Rattle.std.specs.Ordering.{is_lt}
-use Rattle.std.specs.Cmp.{first_so, second_so}
-use Rattle.std.specs.FinMap.Entries.{below_all}
-use Rattle.mpslp_decimal.specs.Decimal.{Number, IsDecimal}
-use Rattle.mpslp_types.specs.Name.{is_mps_name, same_bytes, marker, bytes_cmp}
-use Rattle.mpslp_model_core.specs.Model.{Row, Column, suits, is_sound_row, is_sound_column}
-use Rattle.mpslp_types.specs.Limit.{limit_of, is_bounded_decimal, is_lower_side, is_upper_side, is_at_most, are_sides, has_bounded_distance}
-use Rattle.mpslp_types.specs.declared.kinds.Limit.{Limit}
-use Rattle.mpslp_types.specs.declared.kinds.Limit.TheVariants.{Finite}
-use Rattle.mpslp_types.proofs.EachLemmas.{Each}
-use Rattle.mpslp_builder.proofs.SlotLemmas.{same_name}
-use Rattle.mpslp_builder.proofs.SortedDrafts.{bytes_total}
+use Rattle.mpslp_builder.proofs.Prelude
+use Prelude.{arith, ◌≡◌, List, [], ◌∷◌, ℕ, true, false, ◌&&◌, is_lt, first_so, second_so, below_all, Number, IsDecimal, is_mps_name}
+use Prelude.{same_bytes, marker, bytes_cmp, Row, Column, suits, is_sound_row, is_sound_column, limit_of, is_bounded_decimal, is_lower_side}
+use Prelude.{is_upper_side, is_at_most, are_sides, has_bounded_distance, Limit, Finite, Each}
+use Rattle.mpslp_builder.proofs.{SlotLemmas.{same_name}, SortedDrafts.{bytes_total}}
 
 pub row_named : (row : List ℕ × Row) → is_sound_row row ≡ true → is_mps_name row.0 ≡ true
 row_named row h = grind arith

@@ -1,43 +1,16 @@
 -- Terms of a row: how they are kept, and what each step of their declarations does to the tables.
-use Rattle.std.proofs.Common.{rules, ◌≡◌, refl, sym, ap, ◌∙◌, ℕ, zero, suc, List, [], ◌∷◌, ◌++◌, Bool, true, false, length, drop, get_or, not, inl, inr, ◌+◌, ◌<◌, ◌≤◌, arith}
-use Rattle.std.specs.Prelude.{◌≢◌, Option, Some, None, is_some, slice_get, insert, ◌||◌, Result, Ok, Err, IfOk, ◌-◌}
-use Rattle.std.specs.declared.alloc.AllocError.{AllocError}
-use Rattle.std.specs.Option.{option_map_or}
-use Rattle.std.specs.List.{list_any, flat_map}
-use Rattle.std.specs.Result.{IsErrAnd}
-use Rattle.std.specs.Map.{lookup}
-use Rattle.std.specs.Ordering.{nat_cmp, is_gt}
-use Rattle.std.specs.FinMap.{find, is_sorted}
-use Rattle.std.proofs.lemmas.Option.{slice_get_read}
-use Rattle.std.proofs.lemmas.List.Concat.{flat_map-append}
-use Rattle.std.proofs.lemmas.List.Edits.{insert_end}
-use Rattle.std.proofs.lemmas.List.Folds.{list_any-append}
-use Rattle.mpslp_decimal.specs.Decimal.{Number, is_decimal}
-use Rattle.mpslp_types.specs.Name.{same_bytes, bytes_cmp}
-use Rattle.mpslp_types.specs.declared.kinds.Sense.{Sense}
-use Rattle.mpslp_types.specs.declared.faults.BuildFault.{BuildFault}
-use Rattle.mpslp_types.specs.declared.faults.BuildFault.TheVariants.{OutOfMemory, UnknownRow, DuplicateEntry}
-use Rattle.mpslp_maps.proofs.PutKeyLemmas.{put-insert}
-use Rattle.mpslp_maps.proofs.SearchLemmas.{found_nowhere, place_after, sorted-put}
-use Rattle.mpslp_types.specs.Lists.{head_of}
-use Rattle.mpslp_model_core.proofs.CellLemmas.{at}
-use Rattle.mpslp_model_core.proofs.SortedLemmas.{is_sorted-sorted_of}
-use Rattle.mpslp_builder.specs.Answer.{Answer}
-use Rattle.mpslp_builder.specs.Declaration.{Draft, Declarations, with_declarations, declare_column, declare_coefficient, has_row}
-use Rattle.mpslp_builder.specs.Refusal.{refusals, refusals_in_turn}
-use Rattle.mpslp_builder.specs.Tables.{no_part, draft, IsNumbered}
-use Rattle.mpslp_builder.specs.Calls.{row_name, column_name, cells_at, with_cell, IsOnceEach, HasColumnChanged}
-use Rattle.mpslp_builder.specs.LineTables.{AreDeclared, Follows}
-use Rattle.mpslp_builder.specs.RowTerms.{term_declared, DeclaresInTurn}
-use Rattle.mpslp_builder.specs.TermTables.{HasColumn, AreDeclaredUnless}
-use Rattle.mpslp_builder.specs.declared.tables.Tables.{Tables}
-use Rattle.mpslp_builder.proofs.AnswerLemmas.{put_again}
-use Rattle.mpslp_builder.proofs.MadeDrafts.{refusals_in_turn-append}
-use Rattle.mpslp_builder.proofs.SortedDrafts.{bytes_total}
-use Rattle.mpslp_builder.proofs.ReadingLemmas.{number_there}
-use Rattle.mpslp_builder.proofs.TestLemmas.{cell_stated}
-use Rattle.mpslp_builder.proofs.NamedEntries.{any-name, one_of-names}
-use Rattle.mpslp_builder.proofs.LineLemmas.{laid_none, laid_then, cell_follows, cell_others}
+use Rattle.mpslp_builder.proofs.Prelude
+use Prelude.{◌≡◌, refl, sym, ap, ◌∙◌, ℕ, zero, suc, List, [], ◌∷◌, ◌++◌, Bool, true, false, length, drop, get_or, not, inl, inr, ◌+◌, ◌<◌}
+use Prelude.{◌≤◌, arith, ◌≢◌, Option, Some, None, is_some, slice_get, insert, ◌||◌, Result, Ok, Err, IfOk, ◌-◌, AllocError, option_map_or}
+use Prelude.{list_any, flat_map, IsErrAnd, lookup, nat_cmp, is_gt, find, is_sorted, slice_get_read, flat_map-append, insert_end}
+use Prelude.{list_any-append, Number, is_decimal, same_bytes, bytes_cmp, Sense, BuildFault, OutOfMemory, UnknownRow, DuplicateEntry}
+use Prelude.{put-insert, found_nowhere, place_after, sorted-put, head_of, at, is_sorted-sorted_of, Answer, Draft, Declarations}
+use Prelude.{with_declarations, declare_column, declare_coefficient, has_row, refusals, refusals_in_turn, no_part, draft, IsNumbered}
+use Prelude.{row_name, column_name, cells_at, with_cell, IsOnceEach, HasColumnChanged, AreDeclared, Follows, term_declared, DeclaresInTurn}
+use Prelude.{HasColumn, AreDeclaredUnless, Tables}
+use Rattle.mpslp_builder.proofs.{AnswerLemmas.{put_again}, MadeDrafts.{refusals_in_turn-append}, SortedDrafts.{bytes_total}}
+use Rattle.mpslp_builder.proofs.{ReadingLemmas.{number_there}, TestLemmas.{cell_stated}, NamedEntries.{any-name, one_of-names}}
+use Rattle.mpslp_builder.proofs.LineLemmas.{row_there, laid_none, laid_then, cell_follows, cell_others}
 
 -- ---- the terms that are kept
 
@@ -121,13 +94,6 @@ head-first faults more fault h = grind arith
 pub unless_err : (t u v : Tables) (ds es : Declarations) (fault : BuildFault) → AreDeclaredUnless t ds (Err fault) u → AreDeclaredUnless t (ds ++ es) (Err fault) v
 unless_err t u v ds es fault h = grind (arith, inl, inr, refusals_in_turn-append, head-first)
 
-or_true : (b : Bool) → true ≡ (b || true)
-or_true b = grind arith
-
--- a row, or the objective, with a number is declared
-row_there : (constant : Option Number) (t : Tables) (n : ℕ) (r : List ℕ) → row_name t n ≡ Some r → true ≡ has_row (draft None constant t) r
-row_there constant t n r is = search (rules, or_true, number_there)
-
 -- the coefficient is declared already
 pub taken_place : (t u v : Tables) (once : IsOnceEach u) (numbered : IsNumbered u) (n i : ℕ) (r c : List ℕ) (x : Number) → HasColumn t c i u → row_name u n ≡ Some r
     → true ≡ is_some (find nat_cmp n (cells_at u i)) → AreDeclaredUnless t (term_declared r (c, x)) (Err DuplicateEntry) v
@@ -135,7 +101,7 @@ taken_place t u v once numbered n i r c x column row stated =
     inr (λ sense constant.
     ap (λ (all : Draft). head_of (refusals all (declare_coefficient (at r c) x) ++ [])) (sym (column.declared.declared sense constant))
     ∙ ap (λ (faults : List BuildFault). head_of (faults ++ []))
-    (cell_stated constant u once i c column.named (number_there no_part u.columns.entries i c column.named) n r true numbered row (row_there constant u n r row) stated))
+    (cell_stated constant u once i c column.named (number_there no_part u.columns.entries i c column.named) n r true numbered row (row_there None constant u n r row) stated))
 
 -- a coefficient of any row that there is
 pub cell_follows_there : (t u : Tables) → IsNumbered t → IsOnceEach t → (i n : ℕ) → is_some (row_name t n) ≡ true → (x : Number) → HasColumnChanged t i (with_cell n x) u

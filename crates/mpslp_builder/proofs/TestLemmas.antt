@@ -1,25 +1,13 @@
 -- The result of a query of tables is the first error of the declaration.
-use Rattle.std.proofs.Common.{arith, ◌≡◌, sym, ap, ◌∙◌, ℕ, List, [], ◌∷◌, Bool, true, false, not}
-use Rattle.std.specs.Prelude.{Option, Some, None, is_some, ◌||◌, ◌&&◌}
-use Rattle.std.specs.Option.{option_map_or}
-use Rattle.std.specs.Ordering.{nat_cmp}
-use Rattle.std.specs.FinMap.{find}
-use Rattle.mpslp_decimal.specs.Decimal.{Number, is_infinite_size}
-use Rattle.mpslp_types.specs.Limit.{is_plus_infinite, is_minus_infinite}
-use Rattle.mpslp_types.specs.declared.kinds.Limit.{Limit}
-use Rattle.mpslp_types.specs.declared.faults.BuildFault.TheVariants.{UnknownRow, UnknownColumn, DuplicateRhs, DuplicateRange, RangeOnFree, InfiniteValue, DuplicateEntry, DuplicateBound, SemiContinuous}
-use Rattle.mpslp_types.specs.Lists.{those_of}
-use Rattle.mpslp_model_core.specs.Limits.{is_free_definition, is_definition_by_limits}
-use Rattle.mpslp_model_core.proofs.CellLemmas.{at}
-use Rattle.mpslp_builder.specs.Declaration.{declare_range, has_row, has_column}
-use Rattle.mpslp_builder.specs.Refusal.{rhs_tests, coefficient_tests, integer_tests, semi_tests, refusals, bounds_refusals}
-use Rattle.mpslp_builder.specs.Tables.{draft, lower_of, upper_of, IsNumbered}
-use Rattle.mpslp_builder.specs.Calls.{row_key_of, row_name, column_name, row_satisfies, has_limits, column_satisfies, cells_at, is_objective_ref, IsOnceEach}
-use Rattle.mpslp_builder_parts.specs.RowParts.{RowParts}
-use Rattle.mpslp_builder_parts.specs.declared.parts.ObjectiveParts.{ObjectiveParts}
-use Rattle.mpslp_builder.specs.declared.tables.RowRef.{RowRef}
-use Rattle.mpslp_builder.specs.declared.tables.Tables.{Tables}
-use Rattle.mpslp_builder.proofs.ReadingLemmas.{entry_at, part_at, flag_at, integer_at, cell_at, objective_at, free_at, has_range_at, has_rhs_at}
+use Rattle.mpslp_builder.proofs.Prelude
+use Prelude.{arith, ◌≡◌, sym, ap, ◌∙◌, ℕ, List, [], ◌∷◌, Bool, true, false, not, Option, Some, None, is_some, ◌||◌, ◌&&◌, option_map_or}
+use Prelude.{nat_cmp, find, Number, is_infinite_size, is_plus_infinite, is_minus_infinite, Limit, UnknownRow, UnknownColumn, DuplicateRhs}
+use Prelude.{DuplicateRange, RangeOnFree, InfiniteValue, DuplicateEntry, DuplicateBound, SemiContinuous, those_of, is_free_definition}
+use Prelude.{is_definition_by_limits, at, declare_range, has_row, has_column, rhs_tests, coefficient_tests, integer_tests, semi_tests}
+use Prelude.{refusals, bounds_refusals, draft, lower_of, upper_of, IsNumbered, row_key_of, row_name, column_name, row_satisfies, has_limits}
+use Prelude.{column_satisfies, cells_at, is_objective_ref, IsOnceEach, RowParts, ObjectiveParts, RowRef, Tables}
+use Rattle.mpslp_builder.proofs.ReadingLemmas.{entry_at, part_at, flag_at, integer_at, cell_at, objective_at, free_at, has_range_at}
+use Rattle.mpslp_builder.proofs.ReadingLemmas.{has_rhs_at}
 
 module _ (constant : Option Number) (t : Tables) (once : IsOnceEach t) where
   -- ---- columns

@@ -1,23 +1,17 @@
 -- The draft of consistent, legal declarations is well-formed.
-use Rattle.std.proofs.Common.{arith, rules, ◌≡◌, refl, ℕ, List, [], ◌∷◌, true, false, not}
-use Rattle.std.specs.Prelude.{is_some}
-use Rattle.std.specs.List.{list_all}
-use Rattle.std.specs.Cmp.{first_so, second_so}
-use Rattle.mpslp_builder.specs.Declaration.{Declaration, declare_objective, Declarations, Draft, empty_draft, with_declaration, with_declarations, draft_of, has_name, is_objective}
-use Rattle.mpslp_types.specs.Lists.{are_distinct}
-use Rattle.mpslp_builder.specs.Consistency.{slots_of, has_objective, AreConsistent, all_slots, same_slot}
-use Rattle.mpslp_builder.specs.Made.{is_legal}
-use Rattle.mpslp_types.proofs.BoolLemmas.{both_so, or_left, or_right, not_so, back}
-use Rattle.mpslp_builder.proofs.SlotLemmas.{has-put, same_name, are_fresh, are_fresh_in_turn, fresh_in_turn-is}
-use Rattle.mpslp_builder.proofs.RefusalLemmas.{all_fresh}
+use Rattle.mpslp_builder.proofs.Prelude
+use Prelude.{arith, rules, ◌≡◌, refl, ℕ, List, [], ◌∷◌, true, false, is_some, list_all, first_so, second_so, Declaration, declare_objective}
+use Prelude.{Declarations, Draft, empty_draft, with_declaration, with_declarations, draft_of, has_name, is_objective, are_distinct}
+use Prelude.{slots_of, has_objective, AreConsistent, all_slots, same_slot, is_legal, both_so, or_left, or_right, not_so, back}
+use Rattle.mpslp_builder.proofs.{SlotLemmas.{has-put, same_name, are_fresh, are_fresh_in_turn, fresh_in_turn-is}, RefusalLemmas.{all_fresh}}
 use Rattle.mpslp_builder.proofs.DraftEntries.{IsGood, good-with_declarations, empty_good}
 
 -- ---- the objective
 
 has_objective-stays : (declarations : Declarations) (b : Draft) → is_some b.objective ≡ true → is_some (with_declarations b declarations).objective ≡ true
 has_objective-stays [] b h = h
-has_objective-stays (declare_objective name ∷ more) b h = has_objective-stays more (with_declaration b (declare_objective name)) refl
-has_objective-stays (d ∷ more) b h = has_objective-stays more (with_declaration b d) h
+has_objective-stays (declare_objective name ∷ more) b h = has_objective-stays more _ refl
+has_objective-stays (d ∷ more) b h = has_objective-stays more _ h
 
 has_objective-drafted : (declarations : Declarations) (b : Draft) → has_objective declarations ≡ true → is_some (with_declarations b declarations).objective ≡ true
 has_objective-drafted [] b h = cc

@@ -1,27 +1,17 @@
 -- Worked examples: declarations, the calls of a builder, and the models that they mean, by computation.
-use Rattle.std.proofs.Common.{◌≡◌, refl, cond}
-use Rattle.std.specs.Prelude.{map, ℕ, pos, negsuc, Option, Some, None, List, [], ◌∷◌, codes}
-use Rattle.std.specs.FinMap as maps
-use Rattle.mpslp_decimal.specs.Decimal.{Number, trailing_zeros}
-use Rattle.mpslp_model_core.specs.Model.{CoefficientKey, key_cmp}
-use Rattle.mpslp_types.specs.Name.{bytes_cmp}
-use Rattle.mpslp_types.specs.Limit.{limit_of}
-use Rattle.mpslp_builder.specs.Declaration.{by_type, by_limits, Declaration, declare_sense, declare_objective, declare_constant, declare_row, declare_rhs, declare_range, declare_column, declare_coefficient, declare_lower, declare_upper, declare_marked, declare_integer, declare_binary, declare_semi, Declarations, Draft, empty_draft, with_declaration, with_declarations, draft_of, rhs_declared, bounds_declared}
-use Rattle.mpslp_builder.specs.Bounds.{zero_limit, one_limit}
-use Rattle.mpslp_builder.specs.Meaning.{column_of, model_of}
-use Rattle.mpslp_types.specs.Lists.{is_nonempty, head_of}
-use Rattle.mpslp_builder.specs.Refusal.{refusals, refusals_in_turn, bounds_refusals}
-use Rattle.mpslp_builder.specs.FileFault.{whole_fault, file_fault}
-use Rattle.mpslp_types.specs.declared.kinds.Sense.TheVariants.{Maximize}
-use Rattle.mpslp_types.specs.declared.kinds.Kind.TheVariants.{Continuous, Integer, Semi}
-use Rattle.mpslp_types.specs.declared.kinds.Limit.{Limit}
-use Rattle.mpslp_types.specs.declared.kinds.Limit.TheVariants.{MinusInf, Finite, PlusInf}
-use Rattle.mpslp_types.specs.declared.kinds.RowType.TheVariants.{Free, AtMost, AtLeast}
-use Rattle.mpslp_types.specs.declared.faults.BuildFault.{BuildFault}
-use Rattle.mpslp_types.specs.declared.faults.BuildFault.TheVariants as builds
-use Rattle.mpslp_types.specs.declared.faults.Fault.{Fault}
-use Rattle.mpslp_types.specs.declared.faults.FaultKind.TheVariants as kinds
+use Rattle.mpslp_builder.proofs.Prelude
+use Prelude.{◌≡◌, refl, cond, map, ℕ, pos, negsuc, Option, Some, None, List, [], ◌∷◌, codes, Number, CoefficientKey, key_cmp, bytes_cmp}
+use Prelude.{limit_of, by_type, by_limits, Declaration, declare_sense, declare_objective, declare_constant, declare_row, declare_rhs}
+use Prelude.{declare_range, declare_column, declare_coefficient, declare_lower, declare_upper, declare_marked, declare_integer}
+use Prelude.{declare_binary, declare_semi, Declarations, Draft, empty_draft, with_declaration, with_declarations, draft_of, rhs_declared}
+use Prelude.{bounds_declared, zero_limit, one_limit, column_of, model_of, is_nonempty, head_of, refusals, refusals_in_turn, bounds_refusals}
+use Prelude.{whole_fault, file_fault, Maximize, Continuous, Integer, Semi, Limit, MinusInf, Finite, PlusInf, Free, AtMost, AtLeast}
+use Prelude.{BuildFault, Fault, Column}
+use Rattle.mpslp_decimal.specs.Decimal.{trailing_zeros}
 use Rattle.mpslp_builder.proofs.WorkedRows.{number, whole}
+use Rattle.std.specs.FinMap as maps
+use Rattle.mpslp_types.specs.declared.faults.BuildFault.TheVariants as builds
+use Rattle.mpslp_types.specs.declared.faults.FaultKind.TheVariants as kinds
 
 -- the result of each call in turn: success, or its first error, and then nothing is declared
 abbrev answers : Draft → Declarations → List (Option BuildFault)
@@ -75,25 +65,25 @@ first_answers = refl
 abbrev ranged : Draft
 ranged = after empty_draft first_calls
 
-one_side : bounds_refusals ranged x (Some MinusInf) None ≡ []
-one_side = refl
-
 abbrev bounded : Draft
 bounded = with_declarations ranged (bounds_declared x (Some MinusInf) None)
 
-a_side_again : bounds_refusals bounded x (Some zero_limit) (Some one_limit) ≡ builds.DuplicateBound ∷ []
-a_side_again = refl
+abbrev bound_calls : List (List BuildFault × List BuildFault)
+bound_calls =
+    (bounds_refusals ranged x (Some MinusInf) None, []) ∷
+    (bounds_refusals bounded x (Some zero_limit) (Some one_limit), builds.DuplicateBound ∷ []) ∷
+    -- no bound is given, but the column is still looked up
+    (bounds_refusals bounded x None None, []) ∷
+    (bounds_refusals bounded y None None, builds.UnknownColumn ∷ []) ∷
+    -- each error of a call is checked for both bounds: the duplicate upper bound comes before the infinite lower one
+    (
+      bounds_refusals (with_declaration ranged (declare_upper x one_limit)) x (Some PlusInf) (Some one_limit),
+      builds.DuplicateBound ∷ builds.InfiniteValue ∷ [],
+    ) ∷
+    []
 
--- no bound is given, but the column is still looked up
-no_side : bounds_refusals bounded x None None ≡ []
-no_side = refl
-
-no_side_of_no_column : bounds_refusals bounded y None None ≡ builds.UnknownColumn ∷ []
-no_side_of_no_column = refl
-
--- each error of a call is checked for both bounds: the duplicate upper bound comes before the infinite lower one
-both_sides : bounds_refusals (with_declaration ranged (declare_upper x one_limit)) x (Some PlusInf) (Some one_limit) ≡ builds.DuplicateBound ∷ builds.InfiniteValue ∷ []
-both_sides = refl
+pub bound_calls-right : map (λ row. row.0) bound_calls ≡ map (λ row. row.1) bound_calls
+bound_calls-right = refl
 
 abbrev last_calls : Declarations
 last_calls =
@@ -106,10 +96,6 @@ last_answers = refl
 
 abbrev finished : Draft
 finished = after bounded last_calls
-
-no_fault : file_fault finished ≡ None
-unfolding trailing_zeros
-no_fault = refl
 
 its_rows : maps.entries (model_of finished).rows
     ≡ (r, record { lower = Finite (whole (pos 2)); upper = Finite (whole (pos 4)) }) ∷ (s, record { lower = one_limit; upper = one_limit }) ∷ []
@@ -159,68 +145,59 @@ bounded_by bounds = draft_of (declare_objective f ∷ declare_column x ∷ bound
 abbrev minus_one : Limit
 minus_one = Finite (whole (negsuc 0))
 
-no_bounds : column_of (bounded_by []) x ≡ record { kind = Continuous; lower = zero_limit; upper = PlusInf }
-no_bounds = refl
-
-marked_only : column_of (bounded_by (declare_marked x ∷ [])) x ≡ record { kind = Integer; lower = zero_limit; upper = one_limit }
-marked_only = refl
-
-marked_with_side : column_of (bounded_by (declare_marked x ∷ declare_lower x one_limit ∷ [])) x ≡ record { kind = Integer; lower = one_limit; upper = PlusInf }
-marked_with_side = refl
-
-binary_with_side : column_of (bounded_by (declare_binary x ∷ declare_lower x one_limit ∷ [])) x ≡ record { kind = Integer; lower = one_limit; upper = one_limit }
-binary_with_side = refl
-
-free_by_size : column_of (bounded_by (declare_lower x (limit_of (number (negsuc 0) (pos 30))) ∷ declare_upper x (limit_of (number (pos 1) (pos 30))) ∷ [])) x
-    ≡ record { kind = Continuous; lower = MinusInf; upper = PlusInf }
-free_by_size = refl
-
-fixed_binary : file_fault (bounded_by (declare_lower x one_limit ∷ declare_upper x one_limit ∷ declare_binary x ∷ [])) ≡ None
-fixed_binary = refl
-
--- ---- semi-continuous columns
-
-semi_calls : answers (bounded_by []) (declare_semi y ∷ declare_semi x ∷ declare_semi x ∷ declare_integer x ∷ declare_marked x ∷ declare_binary x ∷ [])
-    ≡ Some builds.UnknownColumn ∷ None ∷ None ∷ Some builds.SemiContinuous ∷ Some builds.SemiContinuous ∷ Some builds.SemiContinuous ∷ []
-semi_calls = refl
-
-semi_after_integer : answers (bounded_by (declare_integer x ∷ [])) (declare_semi x ∷ []) ≡ Some builds.SemiContinuous ∷ []
-semi_after_integer = refl
-
-semi_after_marked : answers (bounded_by (declare_marked x ∷ [])) (declare_semi x ∷ []) ≡ Some builds.SemiContinuous ∷ []
-semi_after_marked = refl
-
-semi_after_binary : answers (bounded_by (declare_binary x ∷ [])) (declare_semi x ∷ []) ≡ Some builds.SemiContinuous ∷ []
-semi_after_binary = refl
-
 abbrev four : Limit
 four = Finite (whole (pos 4))
 
--- the bounds are declared before or after, and the lower one is 0 if none is declared
-semi_target : column_of (bounded_by (declare_semi x ∷ declare_upper x four ∷ [])) x ≡ record { kind = Semi; lower = zero_limit; upper = four }
-semi_target = refl
+-- the bounds are declared before or after the type
+abbrev bounded_columns : List (Declarations × Column)
+bounded_columns =
+    ([], record { kind = Continuous; lower = zero_limit; upper = PlusInf }) ∷
+    (declare_marked x ∷ [], record { kind = Integer; lower = zero_limit; upper = one_limit }) ∷
+    (declare_marked x ∷ declare_lower x one_limit ∷ [], record { kind = Integer; lower = one_limit; upper = PlusInf }) ∷
+    (declare_binary x ∷ declare_lower x one_limit ∷ [], record { kind = Integer; lower = one_limit; upper = one_limit }) ∷
+    (
+      declare_lower x (limit_of (number (negsuc 0) (pos 30))) ∷ declare_upper x (limit_of (number (pos 1) (pos 30))) ∷ [],
+      record { kind = Continuous; lower = MinusInf; upper = PlusInf },
+    ) ∷
+    (declare_semi x ∷ declare_upper x four ∷ [], record { kind = Semi; lower = zero_limit; upper = four }) ∷
+    (declare_upper x four ∷ declare_lower x one_limit ∷ declare_semi x ∷ [], record { kind = Semi; lower = one_limit; upper = four }) ∷
+    []
 
-semi_with_both_sides : column_of (bounded_by (declare_upper x four ∷ declare_lower x one_limit ∷ declare_semi x ∷ [])) x ≡ record { kind = Semi; lower = one_limit; upper = four }
-semi_with_both_sides = refl
+pub bounded_columns-right : map (λ row. column_of (bounded_by row.0) x) bounded_columns ≡ map (λ row. row.1) bounded_columns
+bounded_columns-right = refl
 
-semi_below_zero : file_fault (bounded_by (declare_semi x ∷ declare_upper x minus_one ∷ [])) ≡ Some (whole_fault kinds.NegativeUpper (Some x))
-semi_below_zero = refl
+-- a column that is semi-continuous has no other type
+abbrev types : List (Declarations × Declarations × List (Option BuildFault))
+types =
+    (
+      [],
+      declare_semi y ∷ declare_semi x ∷ declare_semi x ∷ declare_integer x ∷ declare_marked x ∷ declare_binary x ∷ [],
+      Some builds.UnknownColumn ∷ None ∷ None ∷ Some builds.SemiContinuous ∷ Some builds.SemiContinuous ∷ Some builds.SemiContinuous ∷ [],
+    ) ∷
+    (declare_integer x ∷ [], declare_semi x ∷ [], Some builds.SemiContinuous ∷ []) ∷
+    (declare_marked x ∷ [], declare_semi x ∷ [], Some builds.SemiContinuous ∷ []) ∷
+    (declare_binary x ∷ [], declare_semi x ∷ [], Some builds.SemiContinuous ∷ []) ∷
+    []
+
+pub types-right : map (λ row. answers (bounded_by row.0) row.1) types ≡ map (λ row. row.2) types
+types-right = refl
 
 -- ---- whole-file errors
-
-nothing : file_fault empty_draft ≡ Some (whole_fault kinds.NoColumns None)
-nothing = refl
 
 -- the first kind, with its least name in byte order: an error of a row comes before one of a column
 abbrev crossed : List ℕ → Declaration
 crossed name = declare_row name (by_limits one_limit zero_limit)
 
-least_name : file_fault (bounded_by (declare_upper x minus_one ∷ crossed (codes "b") ∷ crossed (codes "B") ∷ crossed (codes "ab") ∷ [])) ≡ Some (whole_fault kinds.LimitsCrossed (Some (codes "B")))
-unfolding trailing_zeros
-least_name = refl
-
 abbrev faulty_drafts : List (Draft × Option Fault)
 faulty_drafts =
+    (empty_draft, Some (whole_fault kinds.NoColumns None)) ∷
+    (finished, None) ∷
+    (
+      bounded_by (declare_upper x minus_one ∷ crossed (codes "b") ∷ crossed (codes "B") ∷ crossed (codes "ab") ∷ []),
+      Some (whole_fault kinds.LimitsCrossed (Some (codes "B"))),
+    ) ∷
+    (bounded_by (declare_lower x one_limit ∷ declare_upper x one_limit ∷ declare_binary x ∷ []), None) ∷
+    (bounded_by (declare_semi x ∷ declare_upper x minus_one ∷ []), Some (whole_fault kinds.NegativeUpper (Some x))) ∷
     (bounded_by (declare_upper x zero_limit ∷ []), None) ∷
     (bounded_by (declare_upper x minus_one ∷ []), Some (whole_fault kinds.NegativeUpper (Some x))) ∷
     (bounded_by (declare_upper x minus_one ∷ declare_lower x MinusInf ∷ []), None) ∷

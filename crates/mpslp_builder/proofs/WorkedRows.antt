@@ -1,14 +1,9 @@
 -- Worked examples: limits of rows, by computation.
-use Rattle.std.proofs.Common.{◌≡◌, refl, true, false}
-use Rattle.std.specs.Prelude.{ℤ, pos, negsuc, Option, Some, None}
-use Rattle.mpslp_decimal.specs.Decimal.{Number, trailing_zeros}
-use Rattle.mpslp_model_core.specs.Model.{Row}
-use Rattle.mpslp_builder.specs.Declaration.{by_type, by_limits}
-use Rattle.mpslp_model_core.specs.Limits.{limits_of, has_infinite_rhs}
-use Rattle.mpslp_model_core.specs.WrongParts.{is_inexact, is_too_large, is_crossed}
-use Rattle.mpslp_types.specs.declared.kinds.Limit.{Limit}
-use Rattle.mpslp_types.specs.declared.kinds.Limit.TheVariants.{MinusInf, Finite, PlusInf}
-use Rattle.mpslp_types.specs.declared.kinds.RowType.TheVariants.{Free, AtMost, AtLeast, Equal}
+use Rattle.mpslp_builder.proofs.Prelude
+use Prelude.{◌≡◌, refl, Bool, true, false, ℤ, pos, negsuc, Option, Some, None, List, [], ◌∷◌, map, Number, Row, RowType, by_type, by_limits}
+use Prelude.{limits_of, has_infinite_rhs, is_inexact, is_too_large, is_crossed, Limit, MinusInf, Finite, PlusInf, Free, AtMost, AtLeast}
+use Rattle.mpslp_decimal.specs.Decimal.{trailing_zeros}
+use Rattle.mpslp_types.specs.declared.kinds.RowType.TheVariants.{Equal}
 
 abbrev pub number : ℤ → ℤ → Number
 number m e = record { mantissa = m; exponent = e }
@@ -19,92 +14,52 @@ whole m = record { mantissa = m; exponent = pos 0 }
 abbrev row : Limit → Limit → Option Row
 row lower upper = Some (record { lower = lower; upper = upper })
 
--- ---- without a range
+abbrev between : Number → Number → Option Row
+between lower upper = row (Finite lower) (Finite upper)
 
-free : limits_of (by_type Free) (whole (pos 7)) None ≡ row MinusInf PlusInf
-free = refl
+abbrev ten : Number
+ten = number (pos 1) (pos 1)
 
-at_most : limits_of (by_type AtMost) (whole (pos 7)) None ≡ row MinusInf (Finite (whole (pos 7)))
-at_most = refl
+-- the type of a row, its right-hand side, its range and its limits
+abbrev limited : List (RowType × Number × Option Number × Option Row)
+limited =
+    (Free, whole (pos 7), None, row MinusInf PlusInf) ∷
+    (AtMost, whole (pos 7), None, row MinusInf (Finite (whole (pos 7)))) ∷
+    (AtLeast, whole (pos 7), None, row (Finite (whole (pos 7))) PlusInf) ∷
+    (Equal, whole (pos 7), None, between (whole (pos 7)) (whole (pos 7))) ∷
+    (Equal, ten, Some (whole (pos 3)), between ten (whole (pos 13))) ∷
+    (Equal, ten, Some (whole (negsuc 2)), between (whole (pos 7)) ten) ∷
+    (Equal, ten, Some (whole (pos 0)), between ten ten) ∷
+    (AtLeast, ten, Some (whole (negsuc 1)), between ten (whole (pos 12))) ∷
+    (AtMost, ten, Some (whole (negsuc 1)), between (whole (pos 8)) ten) ∷
+    -- right-hand sides of infinite magnitude, and the greatest that is finite
+    (AtMost, number (pos 1) (pos 20), None, row MinusInf PlusInf) ∷
+    (AtMost, number (pos 99) (pos 18), None, row MinusInf (Finite (number (pos 99) (pos 18)))) ∷
+    (AtLeast, number (negsuc 0) (pos 20), None, row MinusInf PlusInf) ∷
+    []
 
-at_least : limits_of (by_type AtLeast) (whole (pos 7)) None ≡ row (Finite (whole (pos 7))) PlusInf
-at_least = refl
-
-equal : limits_of (by_type Equal) (whole (pos 7)) None ≡ row (Finite (whole (pos 7))) (Finite (whole (pos 7)))
-equal = refl
-
--- ---- with a range: the right-hand side is 1, and 10 is one with exponent 1
-
-equal_more : limits_of (by_type Equal) (number (pos 1) (pos 1)) (Some (whole (pos 3))) ≡ row (Finite (number (pos 1) (pos 1))) (Finite (whole (pos 13)))
+pub limited-right : map (λ row. limits_of (by_type row.0) row.1 row.2) limited ≡ map (λ row. row.3) limited
 unfolding trailing_zeros
-equal_more = refl
+limited-right = refl
 
-equal_less : limits_of (by_type Equal) (number (pos 1) (pos 1)) (Some (whole (negsuc 2))) ≡ row (Finite (whole (pos 7))) (Finite (number (pos 1) (pos 1)))
+abbrev tested : List (Bool × Bool)
+tested =
+    -- an infinite right-hand side may be that of a row that it does not limit, and that has no range
+    (has_infinite_rhs (by_type AtMost) (number (pos 1) (pos 20)) None, false) ∷
+    (has_infinite_rhs (by_type AtMost) (number (pos 1) (pos 20)) (Some (whole (pos 1))), true) ∷
+    (has_infinite_rhs (by_type AtMost) (number (negsuc 0) (pos 20)) None, true) ∷
+    (has_infinite_rhs (by_type AtLeast) (number (pos 1) (pos 20)) None, true) ∷
+    (has_infinite_rhs (by_type Equal) (number (negsuc 0) (pos 20)) None, true) ∷
+    -- limits that no model has, and some that it may have
+    (is_inexact (between (number (pos 1) (negsuc 9)) (number (pos 1) (pos 19))), false) ∷
+    (is_inexact (between (number (pos 1) (negsuc 19)) (number (pos 1) (pos 19))), true) ∷
+    (is_inexact (limits_of (by_type AtLeast) (number (pos 1) (pos 19)) (Some (number (pos 1) (negsuc 19)))), true) ∷
+    (is_too_large (between (number (negsuc 8) (pos 19)) (number (pos 9) (pos 19))), true) ∷
+    (is_too_large (limits_of (by_type AtLeast) (number (pos 9) (pos 19)) (Some (number (pos 9) (pos 19)))), true) ∷
+    (is_crossed (limits_of (by_limits (Finite (whole (pos 5))) (Finite (whole (pos 3)))) (whole (pos 0)) None), true) ∷
+    (is_crossed (between (whole (pos 3)) (whole (pos 3))), false) ∷
+    []
+
+pub tested-right : map (λ test. test.0) tested ≡ map (λ test. test.1) tested
 unfolding trailing_zeros
-equal_less = refl
-
-equal_none : limits_of (by_type Equal) (number (pos 1) (pos 1)) (Some (whole (pos 0))) ≡ row (Finite (number (pos 1) (pos 1))) (Finite (number (pos 1) (pos 1)))
-unfolding trailing_zeros
-equal_none = refl
-
-at_least_range : limits_of (by_type AtLeast) (number (pos 1) (pos 1)) (Some (whole (negsuc 1))) ≡ row (Finite (number (pos 1) (pos 1))) (Finite (whole (pos 12)))
-unfolding trailing_zeros
-at_least_range = refl
-
-at_most_range : limits_of (by_type AtMost) (number (pos 1) (pos 1)) (Some (whole (negsuc 1))) ≡ row (Finite (whole (pos 8))) (Finite (number (pos 1) (pos 1)))
-unfolding trailing_zeros
-at_most_range = refl
-
--- ---- right-hand sides of infinite magnitude
-
-least_infinite : limits_of (by_type AtMost) (number (pos 1) (pos 20)) None ≡ row MinusInf PlusInf
-least_infinite = refl
-
-most_finite : limits_of (by_type AtMost) (number (pos 99) (pos 18)) None ≡ row MinusInf (Finite (number (pos 99) (pos 18)))
-most_finite = refl
-
-free_from_below : limits_of (by_type AtLeast) (number (negsuc 0) (pos 20)) None ≡ row MinusInf PlusInf
-free_from_below = refl
-
-may_be_infinite : has_infinite_rhs (by_type AtMost) (number (pos 1) (pos 20)) None ≡ false
-may_be_infinite = refl
-
-not_beside_a_range : has_infinite_rhs (by_type AtMost) (number (pos 1) (pos 20)) (Some (whole (pos 1))) ≡ true
-not_beside_a_range = refl
-
-not_below_a_row : has_infinite_rhs (by_type AtMost) (number (negsuc 0) (pos 20)) None ≡ true
-not_below_a_row = refl
-
-not_above_a_row : has_infinite_rhs (by_type AtLeast) (number (pos 1) (pos 20)) None ≡ true
-not_above_a_row = refl
-
-not_of_an_equal_row : has_infinite_rhs (by_type Equal) (number (negsuc 0) (pos 20)) None ≡ true
-not_of_an_equal_row = refl
-
--- ---- limits that no model has
-
-long_distance : is_inexact (row (Finite (number (pos 1) (negsuc 9))) (Finite (number (pos 1) (pos 19)))) ≡ false
-unfolding trailing_zeros
-long_distance = refl
-
-inexact_distance : is_inexact (row (Finite (number (pos 1) (negsuc 19))) (Finite (number (pos 1) (pos 19)))) ≡ true
-unfolding trailing_zeros
-inexact_distance = refl
-
-inexact_side : is_inexact (limits_of (by_type AtLeast) (number (pos 1) (pos 19)) (Some (number (pos 1) (negsuc 19)))) ≡ true
-unfolding trailing_zeros
-inexact_side = refl
-
-large_distance : is_too_large (row (Finite (number (negsuc 8) (pos 19))) (Finite (number (pos 9) (pos 19)))) ≡ true
-unfolding trailing_zeros
-large_distance = refl
-
-large_side : is_too_large (limits_of (by_type AtLeast) (number (pos 9) (pos 19)) (Some (number (pos 9) (pos 19)))) ≡ true
-unfolding trailing_zeros
-large_side = refl
-
-crossed : is_crossed (limits_of (by_limits (Finite (whole (pos 5))) (Finite (whole (pos 3)))) (whole (pos 0)) None) ≡ true
-crossed = refl
-
-touching : is_crossed (row (Finite (whole (pos 3))) (Finite (whole (pos 3)))) ≡ false
-touching = refl
+tested-right = refl

@@ -1,6 +1,4 @@
-use Rattle.std.proofs.Common.{◌≡◌, drop}
-use Rattle.mpslp_types.specs.Lists.{those_of}
-use Rattle.mpslp_builder.specs.Answer.{first_refusal}
+use Rattle.mpslp_builder.proofs.Prelude.{◌≡◌, drop, those_of, first_refusal}
 use Rattle.mpslp_builder.proofs.refusals.refuse.Given as goal
 
 -- the result is that of the remaining tests

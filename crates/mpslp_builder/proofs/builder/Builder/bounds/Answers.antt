@@ -1,12 +1,8 @@
-use Rattle.std.proofs.Common.{refl, sym, ap, subst, ◌∙◌}
-use Rattle.mpslp_builder.specs.Answer.{first_refusal}
-use Rattle.mpslp_builder.specs.Declaration.{Draft, with_declarations, bounds_declared}
-use Rattle.mpslp_builder.specs.Made.{IsMade}
-use Rattle.mpslp_builder.specs.Refusal.{bounds_refusals}
-use Rattle.mpslp_builder.specs.Tables.{draft}
+use Rattle.mpslp_builder.proofs.Prelude
+use Prelude.{refl, sym, ap, subst, ◌∙◌, first_refusal, Draft, with_declarations, bounds_declared, IsMade, bounds_refusals, draft}
+use Prelude.{with_bounds}
 use Rattle.mpslp_builder.proofs.AnswerLemmas.{none_refused, made_sides, declared, handed_on, want_of_memory}
 use Rattle.mpslp_builder.proofs.CallLemmas.{same_tables, sides_added, column_changed_numbered}
-use Rattle.mpslp_builder.specs.Calls.{with_bounds}
 use Rattle.mpslp_builder.proofs.builder.Builder.bounds.Goals as goal
 
 pub returns-in_err-number : goal.returns-in_err-number

@@ -1,13 +1,6 @@
-use Rattle.std.proofs.Common.{◌≡◌, refl, ap, ◌∙◌, false}
-use Rattle.std.specs.Prelude.{is_some}
-use Rattle.mpslp_model_core.proofs.CellLemmas.{at}
-use Rattle.mpslp_builder.specs.Answer.{first_refusal}
-use Rattle.mpslp_builder.specs.Declaration.{Draft, declare_coefficient, has_coefficient}
-use Rattle.mpslp_builder.specs.Refusal.{refusals}
-use Rattle.mpslp_builder.specs.Tables.{draft}
+use Rattle.mpslp_builder.proofs.Prelude.{refl, ap, ◌∙◌, at, first_refusal, Draft, declare_coefficient, refusals, draft}
 use Rattle.mpslp_builder.proofs.AnswerLemmas.{none_refused, made_after, answered, handed_on, want_of_memory}
 use Rattle.mpslp_builder.proofs.CallLemmas.{same_tables, cell_added, cell_added_numbered}
-use Rattle.mpslp_builder.proofs.ReadingLemmas.{entry_at, cell_at}
 use Rattle.mpslp_builder.proofs.builder.Builder.coefficient.Goals as goal
 
 pub returns-in_err-place : goal.returns-in_err-place
@@ -32,10 +25,7 @@ invariant_of-self-2 c =
     let at_column = c.in_ok-place.place.column in
     let d = declare_coefficient (at c.args.row.now c.args.column.now) c.args.value in
     let none = none_refused (refusals (draft b.sense b.constant b.tables) d) place.answer in
-    let s = entry_at b.tables.columns.entries at_column c.args.column.now place.column in
-    let absent : has_coefficient (draft b.sense b.constant b.tables) (at c.args.row.now c.args.column.now) ≡ false =
-    cell_at b.sense b.constant b.tables place.once at_column c.args.column.now s at_row c.args.row.now c.self.invariant.1 place.row ∙ ap is_some place.absent in
-    let after = cell_added b.sense b.constant b.tables c.put_cell.new.self place.once at_column c.args.column.now place.column c.self.invariant.1 at_row c.args.row.now place.row c.args.value c.in_ok-put_cell.ensures.ok absent in (
+    let after = cell_added b.sense b.constant b.tables c.put_cell.new.self place.once at_column c.args.column.now place.column c.self.invariant.1 at_row c.args.row.now place.row c.args.value c.in_ok-put_cell.ensures.ok place.absent in (
       made_after d after c.self.invariant.0 c.each_value_is_a_decimal.ensures none refl,
       cell_added_numbered b.sense b.constant b.tables c.put_cell.new.self place.once at_column c.args.column.now place.column c.self.invariant.1 at_row c.args.row.now place.row c.args.value c.in_ok-put_cell.ensures.ok,
     )
@@ -48,8 +38,5 @@ returns c =
     let at_column = c.in_ok-place.place.column in
     let d = declare_coefficient (at c.args.row.now c.args.column.now) c.args.value in
     let none = none_refused (refusals (draft b.sense b.constant b.tables) d) place.answer in
-    let s = entry_at b.tables.columns.entries at_column c.args.column.now place.column in
-    let absent : has_coefficient (draft b.sense b.constant b.tables) (at c.args.row.now c.args.column.now) ≡ false =
-    cell_at b.sense b.constant b.tables place.once at_column c.args.column.now s at_row c.args.row.now c.self.invariant.1 place.row ∙ ap is_some place.absent in
-    let after = cell_added b.sense b.constant b.tables c.put_cell.new.self place.once at_column c.args.column.now place.column c.self.invariant.1 at_row c.args.row.now place.row c.args.value c.in_ok-put_cell.ensures.ok absent in
+    let after = cell_added b.sense b.constant b.tables c.put_cell.new.self place.once at_column c.args.column.now place.column c.self.invariant.1 at_row c.args.row.now place.row c.args.value c.in_ok-put_cell.ensures.ok place.absent in
     answered d c.self.view_is after none

@@ -1,9 +1,6 @@
-use Rattle.std.proofs.Common.{◌≡◌, refl, sym, ap, ◌∙◌, ℕ, List, false}
-use Rattle.mpslp_types.specs.Name.{is_mps_name}
-use Rattle.mpslp_builder.specs.Declaration.{Draft, with_declaration, declare_column, has_column}
-use Rattle.mpslp_builder.specs.Tables.{draft}
-use Rattle.mpslp_builder.proofs.AnswerLemmas.{made_after, made_now, put_again}
-use Rattle.mpslp_builder.proofs.SortedDrafts.{sorted-from_made}
+use Rattle.mpslp_builder.proofs.Prelude
+use Prelude.{◌≡◌, refl, sym, ap, ◌∙◌, ℕ, List, false, is_mps_name, Draft, with_declaration, declare_column, has_column, draft}
+use Rattle.mpslp_builder.proofs.{AnswerLemmas.{made_after, made_now, put_again}, SortedDrafts.{sorted-from_made}}
 use Rattle.mpslp_builder.proofs.CallLemmas.{column_added, column_added_numbered}
 use Rattle.mpslp_builder.proofs.builder.Builder.column.Goals as goal
 

@@ -1,5 +1,4 @@
-use Rattle.std.proofs.Common.{sym, subst, ◌∙◌}
-use Rattle.mpslp_builder.specs.Made.{IsMade}
+use Rattle.mpslp_builder.proofs.Prelude.{sym, subst, ◌∙◌, IsMade}
 use Rattle.mpslp_builder.proofs.CallLemmas.{same_tables, same_numbered}
 use Rattle.mpslp_builder.proofs.builder.Builder.find_column.Goals as goal
 

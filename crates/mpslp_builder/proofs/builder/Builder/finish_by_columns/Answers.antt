@@ -1,10 +1,4 @@
-use Rattle.std.proofs.Common.{sym, ap, subst, ◌∙◌}
-use Rattle.std.specs.Prelude.{Some}
-use Rattle.std.specs.Option.{option_map}
-use Rattle.mpslp_builder.specs.Declaration.{Draft}
-use Rattle.mpslp_builder.specs.Meaning.{DraftMeans}
-use Rattle.mpslp_builder.specs.FileFault.{file_fault}
-use Rattle.mpslp_builder.specs.FaultFound.{fault_found}
+use Rattle.mpslp_builder.proofs.Prelude.{sym, ap, subst, ◌∙◌, Some, option_map, Draft, DraftMeans, file_fault, fault_found}
 use Rattle.mpslp_builder.proofs.builder.Builder.finish_by_columns.Goals as goal
 
 pub returns-in-Some : goal.returns-in-Some

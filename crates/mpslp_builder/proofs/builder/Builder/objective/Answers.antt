@@ -1,14 +1,7 @@
-use Rattle.std.proofs.Common.{◌≡◌, refl, sym, ap, ◌∙◌, ℕ, List, [], ◌∷◌, Bool, false}
-use Rattle.std.specs.Prelude.{is_some}
-use Rattle.mpslp_types.specs.Name.{is_mps_name}
-use Rattle.mpslp_types.specs.declared.faults.BuildFault.{BuildFault}
-use Rattle.mpslp_types.specs.declared.faults.BuildFault.TheVariants.{SecondObjective, DuplicateRow}
-use Rattle.mpslp_builder.specs.Answer.{first_refusal}
-use Rattle.mpslp_builder.specs.Declaration.{Draft, declare_objective, has_row}
-use Rattle.mpslp_builder.specs.Refusal.{refusals}
-use Rattle.mpslp_builder.specs.Tables.{draft}
-use Rattle.mpslp_builder.proofs.AnswerLemmas.{none_refused, made_after, answered}
-use Rattle.mpslp_builder.proofs.RefusalLemmas.{first_none, rest_none}
+use Rattle.mpslp_builder.proofs.Prelude
+use Prelude.{◌≡◌, refl, sym, ap, ◌∙◌, ℕ, List, [], ◌∷◌, Bool, false, is_some, is_mps_name, BuildFault, SecondObjective, DuplicateRow}
+use Prelude.{first_refusal, Draft, declare_objective, has_row, refusals, draft}
+use Rattle.mpslp_builder.proofs.{AnswerLemmas.{none_refused, made_after, answered}, RefusalLemmas.{first_none, rest_none}}
 use Rattle.mpslp_builder.proofs.CallLemmas.{objective_absent, objective_named, objective_named_numbered}
 use Rattle.mpslp_builder.proofs.builder.Builder.objective.Goals as goal
 

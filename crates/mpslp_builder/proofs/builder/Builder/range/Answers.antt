@@ -1,9 +1,4 @@
-use Rattle.std.proofs.Common.{refl, ap, ◌∙◌}
-use Rattle.std.specs.Prelude.{Some}
-use Rattle.mpslp_builder.specs.Declaration.{Draft, declare_range}
-use Rattle.mpslp_builder.specs.Refusal.{refusals}
-use Rattle.mpslp_builder.specs.Answer.{first_refusal}
-use Rattle.mpslp_builder.specs.Tables.{draft}
+use Rattle.mpslp_builder.proofs.Prelude.{refl, ap, ◌∙◌, Some, Draft, declare_range, refusals, first_refusal, draft}
 use Rattle.mpslp_builder.proofs.AnswerLemmas.{none_refused, made_after, answered, handed_on}
 use Rattle.mpslp_builder.proofs.CallLemmas.{range_added, row_changed_numbered}
 use Rattle.mpslp_builder.proofs.builder.Builder.range.Goals as goal

@@ -1,13 +1,8 @@
-use Rattle.std.proofs.Common.{◌≡◌, refl, sym, ap, ◌∙◌, true, false, Bool, [], ◌∷◌}
-use Rattle.std.specs.Prelude.{is_some, ◌||◌, if◌then◌else◌}
-use Rattle.mpslp_builder.specs.Answer.{first_refusal}
-use Rattle.mpslp_builder.specs.Declaration.{Draft, declare_rhs, with_declarations, is_free_row}
-use Rattle.mpslp_builder.specs.Refusal.{refusals}
-use Rattle.mpslp_builder.specs.Tables.{draft}
+use Rattle.mpslp_builder.proofs.Prelude
+use Prelude.{◌≡◌, refl, sym, ap, ◌∙◌, true, false, Bool, [], ◌∷◌, is_some, ◌||◌, if◌then◌else◌, first_refusal, Draft, declare_rhs}
+use Prelude.{with_declarations, is_free_row, refusals, draft}
 use Rattle.mpslp_builder.proofs.AnswerLemmas.{none_refused, none_reported, made_after, made_now, declared, handed_on}
-use Rattle.mpslp_builder.proofs.MadeDrafts.{free_rhs-passes}
-use Rattle.mpslp_builder.proofs.CallLemmas.{rhs_added, rhs_added_numbered}
-use Rattle.mpslp_builder.proofs.ReadingLemmas.{free_at}
+use Rattle.mpslp_builder.proofs.{MadeDrafts.{free_rhs-passes}, CallLemmas.{rhs_added, rhs_added_numbered}, ReadingLemmas.{free_at}}
 use Rattle.mpslp_builder.proofs.TestLemmas.{typed_place}
 use Rattle.mpslp_builder.proofs.builder.Builder.rhs.Goals as goal
 

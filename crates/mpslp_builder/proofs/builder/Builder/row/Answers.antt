@@ -1,13 +1,7 @@
-use Rattle.std.proofs.Common.{◌≡◌, refl, sym, ap, ◌∙◌, ℕ, List, [], true, false}
-use Rattle.mpslp_types.specs.Name.{is_mps_name}
-use Rattle.mpslp_types.proofs.BoolLemmas.{both_so}
-use Rattle.mpslp_types.specs.declared.faults.BuildFault.TheVariants.{DuplicateRow}
-use Rattle.mpslp_builder.specs.Answer.{first_refusal}
-use Rattle.mpslp_builder.specs.Declaration.{Draft, with_declaration, by_type, declare_row, has_row}
-use Rattle.mpslp_builder.specs.Refusal.{refusals}
-use Rattle.mpslp_builder.specs.Tables.{draft}
-use Rattle.mpslp_builder.proofs.AnswerLemmas.{none_refused, made_after, answered}
-use Rattle.mpslp_builder.proofs.RefusalLemmas.{first_none}
+use Rattle.mpslp_builder.proofs.Prelude
+use Prelude.{◌≡◌, refl, sym, ap, ◌∙◌, ℕ, List, [], true, false, is_mps_name, both_so, DuplicateRow, first_refusal, Draft, with_declaration}
+use Prelude.{by_type, declare_row, has_row, refusals, draft}
+use Rattle.mpslp_builder.proofs.{AnswerLemmas.{none_refused, made_after, answered}, RefusalLemmas.{first_none}}
 use Rattle.mpslp_builder.proofs.CallLemmas.{row_added, row_added_numbered}
 use Rattle.mpslp_builder.proofs.builder.Builder.row.Goals as goal
 

@@ -1,16 +1,7 @@
-use Rattle.std.proofs.Common.{◌≡◌, refl, sym, ap, ◌∙◌, ℕ, List, Bool, false, [], ◌∷◌}
-use Rattle.std.specs.Prelude.{◌&&◌}
-use Rattle.mpslp_types.specs.Name.{is_mps_name}
-use Rattle.mpslp_types.specs.Limit.{is_given}
-use Rattle.mpslp_types.specs.declared.faults.BuildFault.{BuildFault}
-use Rattle.mpslp_types.specs.declared.faults.BuildFault.TheVariants.{DuplicateRow, InfiniteValue}
-use Rattle.mpslp_types.proofs.BoolLemmas.{both_so}
-use Rattle.mpslp_builder.specs.Answer.{first_refusal}
-use Rattle.mpslp_builder.specs.Declaration.{Draft, with_declaration, by_limits, declare_row, has_row, have_infinite_side}
-use Rattle.mpslp_builder.specs.Refusal.{refusals}
-use Rattle.mpslp_builder.specs.Tables.{draft}
-use Rattle.mpslp_builder.proofs.AnswerLemmas.{none_refused, made_after, answered, handed_on, want_of_memory}
-use Rattle.mpslp_builder.proofs.RefusalLemmas.{first_none}
+use Rattle.mpslp_builder.proofs.Prelude
+use Prelude.{◌≡◌, refl, sym, ap, ◌∙◌, ℕ, List, Bool, false, [], ◌∷◌, ◌&&◌, is_mps_name, is_given, BuildFault, DuplicateRow, InfiniteValue}
+use Prelude.{both_so, first_refusal, Draft, with_declaration, by_limits, declare_row, has_row, have_infinite_side, refusals, draft}
+use Rattle.mpslp_builder.proofs.{AnswerLemmas.{none_refused, made_after, answered, handed_on, want_of_memory}, RefusalLemmas.{first_none}}
 use Rattle.mpslp_builder.proofs.CallLemmas.{same_tables, row_added, row_added_numbered}
 use Rattle.mpslp_builder.proofs.builder.Builder.row_limits.Goals as goal
 

@@ -1,9 +1,5 @@
-use Rattle.std.proofs.Common.{refl, true}
-use Rattle.mpslp_builder.specs.Declaration.{declare_semi}
-use Rattle.mpslp_builder.specs.Refusal.{refusals}
-use Rattle.mpslp_builder.specs.Tables.{draft}
-use Rattle.mpslp_builder.proofs.AnswerLemmas.{none_refused, made_after, answered}
-use Rattle.mpslp_builder.proofs.CallLemmas.{semi_added, column_changed_numbered}
+use Rattle.mpslp_builder.proofs.Prelude.{refl, true, declare_semi, refusals, draft}
+use Rattle.mpslp_builder.proofs.{AnswerLemmas.{none_refused, made_after, answered}, CallLemmas.{semi_added, column_changed_numbered}}
 use Rattle.mpslp_builder.proofs.builder.Builder.semi.Goals as goal
 
 pub invariant_of-self : goal.invariant_of-self

@@ -1,6 +1,4 @@
-use Rattle.std.proofs.Common.{refl}
-use Rattle.mpslp_builder.specs.Declaration.{declare_sense}
-use Rattle.mpslp_builder.specs.Refusal.{refusals}
+use Rattle.mpslp_builder.proofs.Prelude.{refl, declare_sense, refusals}
 use Rattle.mpslp_builder.proofs.AnswerLemmas.{none_refused, made_next}
 use Rattle.mpslp_builder.proofs.builder.Builder.sense.Goals as goal
 

@@ -1,12 +1,7 @@
-use Rattle.std.proofs.Common.{◌≡◌, sym, ap, ◌∙◌, ◌++◌, [], ◌∷◌, true, false}
-use Rattle.std.specs.List.{flat_map}
-use Rattle.mpslp_types.specs.Lists.{when}
-use Rattle.mpslp_builder.specs.Declaration.{Draft, with_declarations, declare_column, declare_marked, has_column}
-use Rattle.mpslp_builder.specs.Refusal.{refusals_in_turn}
-use Rattle.mpslp_builder.specs.Tables.{draft}
-use Rattle.mpslp_builder.specs.ColumnLine.{listed, entry_declared, column_line}
-use Rattle.mpslp_builder.proofs.LineLemmas.{laid_then}
-use Rattle.mpslp_builder.proofs.LineRefusals.{rows_known}
+use Rattle.mpslp_builder.proofs.Prelude
+use Prelude.{◌≡◌, sym, ap, ◌∙◌, ◌++◌, [], ◌∷◌, true, false, flat_map, when, Draft, with_declarations, declare_column, declare_marked}
+use Prelude.{has_column, refusals_in_turn, draft, listed, entry_declared, column_line}
+use Rattle.mpslp_builder.proofs.{LineLemmas.{laid_then}, LineRefusals.{rows_known}}
 use Rattle.mpslp_builder.proofs.reader_builder.ReaderBuilder.first_line.Goals as goal
 
 pub invariant_of-draft : goal.invariant_of-draft

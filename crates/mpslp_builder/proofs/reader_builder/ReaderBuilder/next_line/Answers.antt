@@ -1,13 +1,7 @@
-use Rattle.std.proofs.Common.{◌≡◌, sym, ap, ◌∙◌, ◌++◌, List, ℕ, true}
-use Rattle.std.specs.List.{flat_map}
-use Rattle.mpslp_types.specs.Lists.{when}
-use Rattle.mpslp_builder.specs.Declaration.{Draft, with_declaration, with_declarations, declare_column, declare_marked, has_column}
-use Rattle.mpslp_builder.specs.Refusal.{refusals_in_turn}
-use Rattle.mpslp_builder.specs.Tables.{draft, no_part}
-use Rattle.mpslp_builder.specs.ColumnLine.{listed, entry_declared}
-use Rattle.mpslp_builder.proofs.AnswerLemmas.{made_now, put_again}
-use Rattle.mpslp_builder.proofs.SortedDrafts.{sorted-from_made}
-use Rattle.mpslp_builder.proofs.ReadingLemmas.{number_there}
+use Rattle.mpslp_builder.proofs.Prelude
+use Prelude.{◌≡◌, sym, ap, ◌∙◌, ◌++◌, List, ℕ, true, flat_map, when, Draft, with_declaration, with_declarations, declare_column}
+use Prelude.{declare_marked, has_column, refusals_in_turn, draft, no_part, listed, entry_declared}
+use Rattle.mpslp_builder.proofs.{AnswerLemmas.{made_now, put_again}, SortedDrafts.{sorted-from_made}, ReadingLemmas.{number_there}}
 use Rattle.mpslp_builder.proofs.LineLemmas.{taken_next}
 use Rattle.mpslp_builder.proofs.reader_builder.ReaderBuilder.next_line.Goals as goal
 

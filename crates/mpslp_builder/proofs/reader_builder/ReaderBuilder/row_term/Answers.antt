@@ -1,7 +1,4 @@
-use Rattle.std.proofs.Common.{subst}
-use Rattle.mpslp_builder.specs.Declaration.{Draft}
-use Rattle.mpslp_builder.specs.RowTerms.{term_declared, DeclaresInTurn}
-use Rattle.mpslp_builder.specs.Tables.{draft}
+use Rattle.mpslp_builder.proofs.Prelude.{subst, Draft, term_declared, DeclaresInTurn, draft}
 use Rattle.mpslp_builder.proofs.TermLemmas.{in_turn}
 use Rattle.mpslp_builder.proofs.reader_builder.ReaderBuilder.row_term.Goals as goal
 

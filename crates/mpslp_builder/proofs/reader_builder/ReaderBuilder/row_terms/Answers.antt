@@ -1,8 +1,5 @@
-use Rattle.std.proofs.Common.{◌≡◌, sym, ap, subst, ◌∙◌, false, inr}
-use Rattle.std.specs.List.{flat_map}
-use Rattle.mpslp_builder.specs.Declaration.{Draft, has_row}
-use Rattle.mpslp_builder.specs.RowTerms.{term_declared, DeclaresInTurn}
-use Rattle.mpslp_builder.specs.Tables.{draft}
+use Rattle.mpslp_builder.proofs.Prelude
+use Prelude.{◌≡◌, sym, ap, subst, ◌∙◌, false, inr, flat_map, Draft, has_row, term_declared, DeclaresInTurn, draft}
 use Rattle.mpslp_builder.proofs.TermLemmas.{in_turn, rows_unknown}
 use Rattle.mpslp_builder.proofs.reader_builder.ReaderBuilder.row_terms.Goals as goal
 
