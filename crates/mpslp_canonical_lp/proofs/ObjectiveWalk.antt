@@ -13,7 +13,6 @@ use Rattle.mpslp_canonical_lp.proofs.TerminalLemmas.{at, line_terminals_in, all_
 use Rattle.mpslp_canonical_lp.proofs.PhraseLemmas.{Walks, walks-none, walks-then, point_at, sense_opens, start-walks, first-term-walks}
 use Rattle.mpslp_canonical_lp.proofs.PhraseLemmas.{term-walks}
 use Rattle.mpslp_lp_tokens.specs.declared.words.Section.TheVariants as sections
-use Rattle.mpslp_lp_tokens.specs.declared.words.SectionWord.TheVariants as section_words
 pub use Rattle.mpslp_canonical_lp.specs.PrintedDeclarations.{constant_declared}
 
 -- ---- lists of lines

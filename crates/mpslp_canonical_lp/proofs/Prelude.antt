@@ -77,7 +77,7 @@ pub use Rattle.mpslp_lp_grammar.specs.{declared.sections_seen.SectionsSeen.{Sect
 pub use Rattle.mpslp_lp_grammar.specs.{declared.signs.Sign.TheVariants.{Minus, Plus}, declared.states.Place.{Place}}
 pub use Rattle.mpslp_lp_grammar.specs.declared.states.Place.TheVariants.{InBounds, BeforeItems, InObjective, BetweenRows, AtStart, InRow}
 pub use Rattle.mpslp_lp_grammar.specs.declared.states.Place.TheVariants.{InGenerals, InSemis}
-pub use Rattle.mpslp_lp.proofs.{ModelOrFault.{lp_names-declared, model-or_fault}, WorkedFiles.{Passes, declares-from_passes, draft_in}}
+pub use Rattle.mpslp_lp.proofs.{ModelOrFault.{lp_names-declared, model-or_fault}, WorkedFiles.{Passes, declares-from_passes}}
 pub use Rattle.mpslp_lp.specs.Laws.{has_lp_name, has_legal_bytes}
 pub use Rattle.mpslp_lp.specs.LpText.{DeclaresLp, numbered_lines, first_own_fault, outcome, is_finished, declarations_of, sound_terminals}
 pub use Rattle.mpslp_lp.specs.LpText.{is_lp_text}

@@ -17,7 +17,6 @@ use Rattle.mpslp_decimal.proofs.CutLemmas.{Each-weaker, Each-append}
 use Rattle.mpslp_lp_tokens.proofs.WordLemmas.{word_class-name}
 use Rattle.mpslp_canonical_lp.proofs.{TokenTexts.{name-word}, LexemeLemmas.{IsGoodWord, IsGoodName, IsPrintable}}
 use Rattle.mpslp_canonical_lp.proofs.LineLemmas.{IsPrintableLine}
-use Rattle.mpslp_types.specs.declared.faults.FaultKind.TheVariants as faults
 use Rattle.mpslp_types.specs.declared.faults.NameAt.TheVariants as places
 use Rattle.mpslp_lp_tokens.specs.declared.tokens.TokenKind.TheVariants as kinds
 
