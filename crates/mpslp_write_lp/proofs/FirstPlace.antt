@@ -1,9 +1,7 @@
 -- The first element of a list that passes a test, found by checking one after another.
-use Rattle.std.proofs.Common.{◌≡◌, refl, sym, ap, ◌∙◌, ℕ, zero, suc, ◌+◌, ◌≤◌, Bool, true, false, not, cond, List, [], ◌∷◌, length, arith}
-use Rattle.std.specs.Prelude.{Option, Some, None, slice_get, position}
-use Rattle.std.specs.List.{position_or_len}
-use Rattle.std.proofs.lemmas.Bool.{le-ltb, lt-ltb}
-use Rattle.std.proofs.lemmas.Option.{slice_get_within}
+use Rattle.mpslp_write_lp.proofs.Prelude
+use Prelude.{◌≡◌, refl, sym, ap, ◌∙◌, ℕ, zero, suc, ◌+◌, ◌≤◌, Bool, true, false, not, cond, List, [], ◌∷◌, length, arith, Option, Some}
+use Prelude.{None, slice_get, position, position_or_len, le-ltb, lt-ltb, slice_get_within}
 
 module _ {X : Type 0} (p : X → Bool) where
   nothing_at : (x : X) → ◌≡◌ {A = Option X} None (Some x) → ⊥

@@ -1,3 +1,4 @@
+pub mod Prelude
 pub mod LpLineTexts
 pub mod LpTerms
 pub mod FirstPlace

@@ -1,17 +1,13 @@
 -- The pieces of a line of LP, one after another, are its text; and a text is not empty.
-use Rattle.std.proofs.Common.{◌≡◌, refl, sym, ap, ◌∙◌, ℕ, ◌<◌, List, [], ◌∷◌, ◌++◌, Bool, true, false, length, append_assoc, append-nil, arith}
-use Rattle.std.specs.Prelude.{codes, replicate}
-use Rattle.std.specs.List.{flat_map}
-use Rattle.std.specs.Fmt.{digits}
-use Rattle.mpslp_decimal.specs.Decimal.{Number, is_negative, size_of, trailing_zeros}
-use Rattle.mpslp_decimal.specs.NumberText.{number_text}
-use Rattle.mpslp_model_core.specs.Model.{LinearModel}
-use Rattle.mpslp_types.specs.declared.kinds.Sense.{Sense}
-use Rattle.mpslp_types.specs.declared.kinds.Sense.TheVariants.{Minimize, Maximize}
-use Rattle.mpslp_lp_grammar.specs.declared.relations.Relation.TheVariants.{AtLeast}
-use Rattle.mpslp_canonical_lp.specs.Printed.{Lexeme, lexeme_text, line_text, sign, sign_bytes, label, number}
-use Rattle.mpslp_canonical_lp.specs.CanonicalLp.{Lines, heading, under_heading, semi_heading, under_semi_heading, long_line, label_line, signed_lexemes, right_line, minus_large, canonical_lp}
+use Rattle.mpslp_decimal.specs.Decimal.{trailing_zeros}
+use Rattle.mpslp_write_lp.proofs.Prelude
+use Prelude.{◌≡◌, refl, sym, ap, ◌∙◌, ℕ, ◌<◌, List, [], ◌∷◌, ◌++◌, Bool, true, false, length, append_assoc, append-nil, arith, codes}
+use Prelude.{replicate, flat_map, Number, is_negative, size_of, number_text, LinearModel, AtLeast, Lexeme, lexeme_text}
+use Prelude.{line_text, sign, sign_bytes, label, number, Lines, heading, under_heading, semi_heading, under_semi_heading, long_line}
+use Prelude.{label_line, signed_lexemes, right_line, minus_large, canonical_lp}
 use Rattle.mpslp_output.specs.TextBuffer.{text_by, text_under}
+use Rattle.mpslp_types.specs.{declared.kinds.Sense.{Sense}, declared.kinds.Sense.TheVariants.{Minimize, Maximize}}
+use Rattle.std.specs.Fmt.{digits}
 
 -- ---- one line
 

@@ -1,30 +1,19 @@
 -- Terms of the objective and of rows, as the accessors of a model return them.
-use Rattle.std.proofs.Common.{◌≡◌, refl, sym, ap, subst, ◌∙◌, ℕ, ◌+◌, ◌<◌, ◌≤◌, Bool, true, false, not, cond, List, [], ◌∷◌, ◌++◌, length, map, get_or, arith}
-use Rattle.std.specs.Prelude.{Option, Some, None, is_some, unwrap_or, filter, filter_map, slice_get, ◌&&◌, ◌||◌, if◌then◌else◌}
-use Rattle.std.specs.List.{All, flat_map, list_any, cons_option, range_with_len}
-use Rattle.std.specs.Option.{option_map}
-use Rattle.std.specs.Ordering.{is_eq, eq_by_cmp}
-use Rattle.std.specs.Cmp.{second_so, tied_itself}
-use Rattle.std.specs.Cmp.Lexicographic.{nat_list_eq_equiv}
-use Rattle.std.specs.FinMap.{find, entries}
-use Rattle.std.proofs.lemmas.List.{length-map}
-use Rattle.std.proofs.lemmas.List.Elements.{All-filter, filter_passes}
-use Rattle.std.proofs.lemmas.List.FromFn.{length-range_with_len, get_or-range_with_len}
-use Rattle.std.proofs.lemmas.Option.{slice_get_within, slice_get-get_or, get_or_from_slice_get}
-use Rattle.mpslp_decimal.specs.Decimal.{Number, is_zero, zero_number}
-use Rattle.mpslp_types.specs.Name.{same_bytes}
-use Rattle.mpslp_model_core.specs.Model.{LinearModel, CoefficientKey, Column, key_cmp, IsSound, Listing, listing_of}
-use Rattle.mpslp_model_core.specs.Views.{num_columns, column_name, coefficient_at, column_elements, has_coefficient, row_columns}
-use Rattle.mpslp_types.proofs.BoolLemmas.{or_left, or_right, both_false}
-use Rattle.mpslp_builder.proofs.DraftEntries.{same_key}
-use Rattle.mpslp_model_core.proofs.PutsLemmas.{equal_from}
-use Rattle.mpslp_builder.proofs.SlotLemmas.{same_name}
-use Rattle.mpslp_builder.proofs.SortedDrafts.{key_total}
+use Rattle.mpslp_write_lp.proofs.Prelude
+use Prelude.{◌≡◌, refl, sym, ap, subst, ◌∙◌, ℕ, ◌+◌, ◌<◌, ◌≤◌, Bool, true, false, not, cond, List, [], ◌∷◌, ◌++◌, length, map, get_or}
+use Prelude.{arith, Option, Some, None, is_some, unwrap_or, filter, filter_map, slice_get, ◌&&◌, ◌||◌, if◌then◌else◌, All, flat_map}
+use Prelude.{list_any, cons_option, range_with_len, option_map, find, entries, length-map, slice_get_within, slice_get-get_or}
+use Prelude.{get_or_from_slice_get, Number, is_zero, zero_number, LinearModel, CoefficientKey, Column, key_cmp, IsSound, Listing}
+use Prelude.{listing_of, num_columns, column_name, coefficient_at, column_elements, has_coefficient, row_columns, Lines, Term, term_line}
+use Prelude.{some_term, term_lines, row_term_lines, numbered_term_lines, has_lines, coefficient-not_zero, named-lines, flat_map-all}
+use Prelude.{flat_map-kept, flat_map-numbers}
+use Rattle.mpslp_builder.proofs.{DraftEntries.{same_key}, SlotLemmas.{same_name}, SortedDrafts.{key_total}}
 use Rattle.mpslp_canonical_mps.proofs.CoefficientMap.{place_at}
-use Rattle.mpslp_canonical_lp.specs.CanonicalLp.{Lines, Term, term_line, some_term}
-use Rattle.mpslp_write_lp.specs.LpLinesAt.{term_lines, row_term_lines, numbered_term_lines, has_lines}
-use Rattle.mpslp_write_mps.proofs.ColumnLemmas.{coefficient-not_zero, named-lines}
-use Rattle.mpslp_output.proofs.LinesAtLemmas.{flat_map-all, flat_map-kept, flat_map-numbers}
+use Rattle.mpslp_model_core.proofs.PutsLemmas.{equal_from}
+use Rattle.mpslp_types.proofs.BoolLemmas.{or_left, or_right, both_false}
+use Rattle.mpslp_types.specs.Name.{same_bytes}
+use Rattle.std.proofs.{lemmas.List.Elements.{All-filter, filter_passes}, lemmas.List.FromFn.{length-range_with_len, get_or-range_with_len}}
+use Rattle.std.specs.{Cmp.{second_so, tied_itself}, Cmp.Lexicographic.{nat_list_eq_equiv}, Ordering.{is_eq, eq_by_cmp}}
 
 abbrev Coefficients : Type 0
 Coefficients = List (CoefficientKey × Number)

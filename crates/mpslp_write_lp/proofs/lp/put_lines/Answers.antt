@@ -1,7 +1,5 @@
-use Rattle.std.proofs.Common.{refl, [], ◌∷◌}
-use Rattle.std.specs.Prelude.{codes}
-use Rattle.mpslp_canonical_lp.specs.CanonicalLp.{heading}
-use Rattle.mpslp_output.proofs.OutputLemmas.{section_then, section_text}
+use Rattle.mpslp_write_lp.proofs.Prelude
+use Prelude.{refl, [], ◌∷◌, codes, heading, section_then, section_text}
 use Rattle.mpslp_write_lp.proofs.lp.put_lines.Goals as goal
 
 pub returns : goal.returns

@@ -1,11 +1,8 @@
-use Rattle.std.proofs.Common.{◌≡◌, rules, sym, ◌∙◌, []}
-use Rattle.std.specs.Prelude.{Option, Some, None}
-use Rattle.mpslp_types.specs.declared.faults.NameAt.{NameAt}
-use Rattle.mpslp_canonical_lp.specs.CanonicalLp.{canonical_lp}
-use Rattle.mpslp_canonical_lp.specs.Unfit.{unfit}
+use Rattle.mpslp_write_lp.proofs.Prelude
+use Prelude.{◌≡◌, rules, sym, ◌∙◌, [], Option, Some, None, canonical_lp, unfit}
 use Rattle.mpslp_output.proofs.BufferLemmas.{taken-written, taken-succeeds}
-use Rattle.mpslp_write_lp.proofs.FirstPlace.{none-left}
-use Rattle.mpslp_write_lp.proofs.LpLineTexts.{canonical_lp-some}
+use Rattle.mpslp_types.specs.declared.faults.NameAt.{NameAt}
+use Rattle.mpslp_write_lp.proofs.{FirstPlace.{none-left}, LpLineTexts.{canonical_lp-some}}
 use Rattle.mpslp_write_lp.proofs.lp.write_lp.Goals as goal
 
 no_place : (place : NameAt) → ◌≡◌ {A = Option NameAt} None (Some place) → ⊥

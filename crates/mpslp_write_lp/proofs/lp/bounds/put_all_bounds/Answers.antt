@@ -1,7 +1,5 @@
-use Rattle.std.proofs.Common.{rules, arith}
-use Rattle.std.specs.FinMap.{entries}
-use Rattle.mpslp_canonical_lp.specs.CanonicalLp.{bound_lines}
-use Rattle.mpslp_output.proofs.EachLemmas.{prints_each}
+use Rattle.mpslp_write_lp.proofs.Prelude
+use Prelude.{rules, arith, entries, bound_lines, prints_each}
 use Rattle.mpslp_write_lp.proofs.lp.bounds.put_all_bounds.Goals as goal
 
 pub returns : goal.returns

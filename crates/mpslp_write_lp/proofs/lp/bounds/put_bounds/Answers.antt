@@ -1,12 +1,6 @@
-use Rattle.std.proofs.Common.{◌∙◌, List, ℕ}
-use Rattle.std.specs.Prelude.{slice_get}
-use Rattle.std.specs.FinMap.{entries}
-use Rattle.mpslp_types.specs.declared.kinds.Limit.{Limit}
-use Rattle.mpslp_model_core.specs.Model.{Column}
-use Rattle.mpslp_model_core.specs.Views.{columns_of}
-use Rattle.mpslp_canonical_lp.specs.CanonicalLp.{Lines, bound_lexemes, line_of_some}
-use Rattle.mpslp_output.proofs.LinesAtLemmas.{both_seen, lines_seen}
-use Rattle.mpslp_output.proofs.OutputLemmas.{prints_same}
+use Rattle.mpslp_write_lp.proofs.Prelude
+use Prelude.{◌∙◌, List, ℕ, slice_get, entries, Limit, Column, columns_of, Lines, bound_lexemes, line_of_some, both_seen, lines_seen}
+use Prelude.{prints_same}
 use Rattle.mpslp_write_lp.proofs.lp.bounds.put_bounds.Goals as goal
 
 pub returns : goal.returns

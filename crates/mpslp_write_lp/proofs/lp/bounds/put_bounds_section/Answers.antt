@@ -1,7 +1,6 @@
-use Rattle.std.proofs.Common.{refl}
-use Rattle.std.specs.Prelude.{codes}
+use Rattle.mpslp_write_lp.proofs.Prelude
+use Prelude.{refl, codes, section_under}
 use Rattle.mpslp_write_lp.proofs.LpLineTexts.{under-heading}
-use Rattle.mpslp_output.proofs.OutputLemmas.{section_under}
 use Rattle.mpslp_write_lp.proofs.lp.bounds.put_bounds_section.Goals as goal
 
 pub returns : goal.returns

@@ -1,6 +1,5 @@
-use Rattle.std.proofs.Common.{sym, ap, ◌∙◌, not, arith}
-use Rattle.mpslp_model_core.specs.Views.{column_names}
-use Rattle.mpslp_canonical_lp.specs.Unfit.{is_no_lp_name}
+use Rattle.mpslp_write_lp.proofs.Prelude
+use Prelude.{sym, ap, ◌∙◌, not, arith, column_names, is_no_lp_name}
 use Rattle.mpslp_write_lp.proofs.FirstPlace.{first-after, first-here, first-nowhere}
 use Rattle.mpslp_write_lp.proofs.lp.fit.first_unfit_column.Goals as goal
 

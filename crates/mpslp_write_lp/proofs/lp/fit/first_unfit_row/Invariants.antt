@@ -1,7 +1,5 @@
-use Rattle.std.proofs.Common.{◌≤◌}
-use Rattle.std.specs.List.{position_or_len}
-use Rattle.mpslp_model_core.specs.Views.{row_names}
-use Rattle.mpslp_canonical_lp.specs.Unfit.{is_no_lp_name}
+use Rattle.mpslp_write_lp.proofs.Prelude
+use Prelude.{◌≤◌, position_or_len, row_names, is_no_lp_name}
 use Rattle.mpslp_write_lp.proofs.lp.fit.first_unfit_row.Given as goal
 
 -- the names so far are LP names

@@ -1,12 +1,7 @@
-use Rattle.std.proofs.Common.{sym, ap, ◌∙◌, List, ℕ, Bool, cond, [], ◌∷◌}
-use Rattle.std.specs.FinMap.{entries}
+use Rattle.mpslp_write_lp.proofs.Prelude
+use Prelude.{sym, ap, ◌∙◌, List, ℕ, Bool, cond, [], ◌∷◌, entries, Column, word, Lines, short_line, is_of_section, lines_seen, nothing_seen}
+use Prelude.{prints_nothing, prints_same}
 use Rattle.mpslp_types.specs.declared.kinds.Kind.{Kind}
-use Rattle.mpslp_model_core.specs.Model.{Column}
-use Rattle.mpslp_canonical_lp.specs.Printed.{word}
-use Rattle.mpslp_canonical_lp.specs.CanonicalLp.{Lines, short_line}
-use Rattle.mpslp_write_lp.specs.LpLinesAt.{is_of_section}
-use Rattle.mpslp_output.proofs.LinesAtLemmas.{lines_seen, nothing_seen}
-use Rattle.mpslp_output.proofs.OutputLemmas.{prints_nothing, prints_same}
 use Rattle.mpslp_write_lp.proofs.lp.kinds.put_name.Goals as goal
 
 pub returns-then-is_of_section : goal.returns-then-is_of_section

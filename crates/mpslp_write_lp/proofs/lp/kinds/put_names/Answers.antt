@@ -1,7 +1,5 @@
-use Rattle.std.proofs.Common.{rules, arith}
-use Rattle.std.specs.FinMap.{entries}
-use Rattle.mpslp_write_lp.specs.LpLinesAt.{name_lines}
-use Rattle.mpslp_output.proofs.EachLemmas.{prints_each}
+use Rattle.mpslp_write_lp.proofs.Prelude
+use Prelude.{rules, arith, entries, name_lines, prints_each}
 use Rattle.mpslp_write_lp.proofs.lp.kinds.put_names.Goals as goal
 
 pub returns : goal.returns

@@ -1,10 +1,7 @@
-use Rattle.std.proofs.Common.{refl, ◌∙◌, [], ◌∷◌}
-use Rattle.std.specs.Prelude.{codes, filter}
-use Rattle.std.specs.FinMap.{entries}
-use Rattle.mpslp_canonical_lp.specs.CanonicalLp.{name_line, is_semi_column}
+use Rattle.mpslp_write_lp.proofs.Prelude
+use Prelude.{refl, ◌∙◌, [], ◌∷◌, codes, filter, entries, name_line, is_semi_column, map-flat_map, flat_map-filter, prints_same}
+use Prelude.{section_under}
 use Rattle.mpslp_write_lp.proofs.LpLineTexts.{under-semi-heading}
-use Rattle.mpslp_output.proofs.LinesAtLemmas.{map-flat_map, flat_map-filter}
-use Rattle.mpslp_output.proofs.OutputLemmas.{prints_same, section_under}
 use Rattle.mpslp_write_lp.proofs.lp.kinds.put_semis_section.Goals as goal
 
 pub returns : goal.returns

@@ -1,8 +1,6 @@
-use Rattle.std.proofs.Common.{[], ◌∷◌}
-use Rattle.mpslp_lp_grammar.specs.declared.relations.Relation.TheVariants.{AtMost}
-use Rattle.mpslp_canonical_lp.specs.Printed.{number, sense}
+use Rattle.mpslp_write_lp.proofs.Prelude
+use Prelude.{[], ◌∷◌, AtMost, number, sense, puts_then, prints_line}
 use Rattle.mpslp_write_lp.proofs.LpLineTexts.{line-text}
-use Rattle.mpslp_output.proofs.OutputLemmas.{puts_then, prints_line}
 use Rattle.mpslp_write_lp.proofs.lp.lines.put_at_most_line.Goals as goal
 
 pub returns : goal.returns

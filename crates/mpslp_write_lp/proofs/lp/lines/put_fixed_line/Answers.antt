@@ -1,8 +1,6 @@
-use Rattle.std.proofs.Common.{[], ◌∷◌}
-use Rattle.mpslp_lp_grammar.specs.declared.relations.Relation.TheVariants.{EqualTo}
-use Rattle.mpslp_canonical_lp.specs.Printed.{word, number, sense}
+use Rattle.mpslp_write_lp.proofs.Prelude
+use Prelude.{[], ◌∷◌, EqualTo, word, number, sense, puts_then, prints_line}
 use Rattle.mpslp_write_lp.proofs.LpLineTexts.{line-text}
-use Rattle.mpslp_output.proofs.OutputLemmas.{puts_then, prints_line}
 use Rattle.mpslp_write_lp.proofs.lp.lines.put_fixed_line.Goals as goal
 
 pub returns : goal.returns

@@ -1,8 +1,6 @@
-use Rattle.std.proofs.Common.{[], ◌∷◌}
-use Rattle.std.specs.Prelude.{codes}
-use Rattle.mpslp_canonical_lp.specs.Printed.{word}
+use Rattle.mpslp_write_lp.proofs.Prelude
+use Prelude.{[], ◌∷◌, codes, word, puts_then, prints_line}
 use Rattle.mpslp_write_lp.proofs.LpLineTexts.{line-text}
-use Rattle.mpslp_output.proofs.OutputLemmas.{puts_then, prints_line}
 use Rattle.mpslp_write_lp.proofs.lp.lines.put_free_column_line.Goals as goal
 
 pub returns : goal.returns

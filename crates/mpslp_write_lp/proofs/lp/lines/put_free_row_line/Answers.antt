@@ -1,5 +1,6 @@
+use Rattle.mpslp_write_lp.proofs.Prelude
+use Prelude.{prints_line}
 use Rattle.mpslp_write_lp.proofs.LpLineTexts.{unlimited-text}
-use Rattle.mpslp_output.proofs.OutputLemmas.{prints_line}
 use Rattle.mpslp_write_lp.proofs.lp.lines.put_free_row_line.Goals as goal
 
 pub returns : goal.returns

@@ -1,5 +1,6 @@
+use Rattle.mpslp_write_lp.proofs.Prelude
+use Prelude.{puts_then, prints_line}
 use Rattle.mpslp_write_lp.proofs.LpLineTexts.{label-text}
-use Rattle.mpslp_output.proofs.OutputLemmas.{puts_then, prints_line}
 use Rattle.mpslp_write_lp.proofs.lp.lines.put_label_line.Goals as goal
 
 pub returns : goal.returns

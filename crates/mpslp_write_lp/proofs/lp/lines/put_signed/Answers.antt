@@ -1,8 +1,5 @@
-use Rattle.std.proofs.Common.{ap, ◌∙◌, ◌++◌}
-use Rattle.std.specs.Prelude.{codes}
-use Rattle.mpslp_decimal.specs.NumberText.{number_text}
-use Rattle.mpslp_canonical_lp.specs.Printed.{sign_bytes}
-use Rattle.mpslp_output.proofs.OutputLemmas.{puts_then, puts_same}
+use Rattle.mpslp_write_lp.proofs.Prelude
+use Prelude.{ap, ◌∙◌, ◌++◌, codes, number_text, sign_bytes, puts_then, puts_same}
 use Rattle.mpslp_write_lp.proofs.lp.lines.put_signed.Goals as goal
 
 pub returns : goal.returns

@@ -1,7 +1,6 @@
-use Rattle.std.proofs.Common.{[], ◌∷◌}
-use Rattle.mpslp_canonical_lp.specs.Printed.{word}
+use Rattle.mpslp_write_lp.proofs.Prelude
+use Prelude.{[], ◌∷◌, word, puts_then, prints_line}
 use Rattle.mpslp_write_lp.proofs.LpLineTexts.{signed-text}
-use Rattle.mpslp_output.proofs.OutputLemmas.{puts_then, prints_line}
 use Rattle.mpslp_write_lp.proofs.lp.lines.put_term_line.Goals as goal
 
 pub returns : goal.returns

@@ -1,6 +1,5 @@
-use Rattle.std.proofs.Common.{ap, Bool, cond, [], ◌∷◌}
-use Rattle.mpslp_canonical_lp.specs.CanonicalLp.{long_line, signed_lexemes}
-use Rattle.mpslp_output.proofs.OutputLemmas.{prints_same, prints_nothing}
+use Rattle.mpslp_write_lp.proofs.Prelude
+use Prelude.{ap, Bool, cond, [], ◌∷◌, long_line, signed_lexemes, prints_same, prints_nothing}
 use Rattle.mpslp_write_lp.proofs.lp.objective.put_constant.Goals as goal
 
 pub returns-then-not-is_zero : goal.returns-then-not-is_zero

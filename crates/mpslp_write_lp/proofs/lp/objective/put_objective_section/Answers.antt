@@ -1,10 +1,7 @@
-use Rattle.std.proofs.Common.{◌∙◌, ◌++◌, ◌∷◌}
-use Rattle.std.specs.FinMap.{entries}
-use Rattle.mpslp_model_core.specs.Model.{listing_of}
-use Rattle.mpslp_canonical_lp.specs.CanonicalLp.{label_line, constant_lines, objective_term}
-use Rattle.mpslp_write_lp.specs.LpLinesAt.{sense_lines}
+use Rattle.mpslp_write_lp.proofs.Prelude
+use Prelude.{◌∙◌, ◌++◌, ◌∷◌, entries, listing_of, label_line, constant_lines, objective_term, sense_lines, section_of, section_then}
+use Prelude.{section_same}
 use Rattle.mpslp_write_lp.proofs.LpTerms.{terms-joined}
-use Rattle.mpslp_output.proofs.OutputLemmas.{section_of, section_then, section_same}
 use Rattle.mpslp_write_lp.proofs.lp.objective.put_objective_section.Goals as goal
 
 pub returns : goal.returns

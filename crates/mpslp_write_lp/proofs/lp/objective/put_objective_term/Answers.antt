@@ -1,14 +1,9 @@
-use Rattle.std.proofs.Common.{◌≡◌, sym, ◌∙◌, [], ◌∷◌, arith}
-use Rattle.std.specs.FinMap.{entries}
-use Rattle.std.proofs.lemmas.Option.{get_or_from_slice_get}
-use Rattle.mpslp_decimal.specs.Decimal.{is_zero}
-use Rattle.mpslp_model_core.specs.Views.{column_name, column_names, coefficient_at}
-use Rattle.mpslp_model_core.specs.Model.{listing_of}
-use Rattle.mpslp_canonical_lp.specs.CanonicalLp.{term_line}
-use Rattle.mpslp_write_mps.proofs.ColumnLemmas.{named-lines}
+use Rattle.mpslp_write_lp.proofs.Prelude
+use Prelude.{◌≡◌, sym, ◌∙◌, [], ◌∷◌, arith, entries, get_or_from_slice_get, is_zero, column_name, column_names, coefficient_at, listing_of}
+use Prelude.{term_line, named-lines, prints_same, prints_nothing}
 use Rattle.mpslp_write_lp.proofs.LpTerms.{objective_lines_of, objective-needed, objective-only, objective-left}
-use Rattle.mpslp_output.proofs.OutputLemmas.{prints_same, prints_nothing}
-use Rattle.mpslp_write_lp.proofs.lp.objective.put_objective_term.Goals.{else-is_zero-via-then-is_zero+else-column_len-gt0, else-is_zero-via-else-is_zero}
+use Rattle.mpslp_write_lp.proofs.lp.objective.put_objective_term.Goals.{else-is_zero-via-then-is_zero+else-column_len-gt0}
+use Rattle.mpslp_write_lp.proofs.lp.objective.put_objective_term.Goals.{else-is_zero-via-else-is_zero}
 use Rattle.mpslp_write_lp.proofs.lp.objective.put_objective_term.Goals as goal
 
 pub returns-then-column_len-gt0 : goal.returns-then-column_len-gt0

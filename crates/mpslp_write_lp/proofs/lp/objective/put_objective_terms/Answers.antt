@@ -1,8 +1,5 @@
-use Rattle.std.proofs.Common.{rules, arith}
-use Rattle.std.specs.FinMap.{entries}
-use Rattle.mpslp_model_core.specs.Model.{listing_of}
-use Rattle.mpslp_write_lp.specs.LpLinesAt.{objective_term_lines}
-use Rattle.mpslp_output.proofs.EachLemmas.{prints_each}
+use Rattle.mpslp_write_lp.proofs.Prelude
+use Prelude.{rules, arith, entries, listing_of, objective_term_lines, prints_each}
 use Rattle.mpslp_write_lp.proofs.lp.objective.put_objective_terms.Goals as goal
 
 pub returns : goal.returns

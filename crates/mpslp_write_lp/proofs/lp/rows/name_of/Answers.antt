@@ -1,5 +1,5 @@
-use Rattle.std.proofs.Common.{◌+◌, ◌<◌, length, arith}
-use Rattle.mpslp_model_core.specs.Views.{row_name, row_columns}
+use Rattle.mpslp_write_lp.proofs.Prelude
+use Prelude.{◌+◌, ◌<◌, length, arith, row_name, row_columns}
 use Rattle.mpslp_model_core.proofs.ByRowLemmas.{column_below}
 use Rattle.mpslp_write_lp.proofs.lp.rows.name_of.Goals as goal
 

@@ -1,8 +1,6 @@
-use Rattle.std.proofs.Common.{◌≡◌, subst, ◌+◌, ◌<◌, ℕ, zero, suc, List, [], ◌∷◌, length, arith, Bor}
-use Rattle.std.specs.Prelude.{Some, slice_get, slice_index_or}
-use Rattle.std.proofs.lemmas.List.{get_or_default}
-use Rattle.mpslp_decimal.specs.Decimal.{Number}
-use Rattle.mpslp_model_core.specs.Views.{row_name, row_columns, column_names}
+use Rattle.mpslp_write_lp.proofs.Prelude
+use Prelude.{◌≡◌, subst, ◌+◌, ◌<◌, ℕ, zero, suc, List, [], ◌∷◌, length, arith, Bor, Some, slice_get, slice_index_or, get_or_default, Number}
+use Prelude.{row_name, row_columns, column_names}
 use Rattle.mpslp_write_lp.proofs.lp.rows.names_of.Goals as goal
 
 pub returns : goal.returns

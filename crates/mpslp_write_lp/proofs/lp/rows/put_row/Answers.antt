@@ -1,13 +1,6 @@
-use Rattle.std.proofs.Common.{◌∙◌, List, ℕ, [], ◌∷◌, ◌++◌, map}
-use Rattle.std.specs.Prelude.{slice_get}
-use Rattle.std.specs.FinMap.{entries}
-use Rattle.std.proofs.lemmas.Option.{get_or_from_slice_get}
-use Rattle.mpslp_types.specs.declared.kinds.Limit.{Limit}
-use Rattle.mpslp_model_core.specs.Model.{Row, listing_of}
-use Rattle.mpslp_model_core.specs.Views.{row_names, rows_of}
-use Rattle.mpslp_canonical_lp.specs.CanonicalLp.{Lines, label_line, left_lines, term_line, row_terms, last_line}
-use Rattle.mpslp_output.proofs.LinesAtLemmas.{both_seen, lines_seen}
-use Rattle.mpslp_output.proofs.OutputLemmas.{prints_then, prints_same}
+use Rattle.mpslp_write_lp.proofs.Prelude
+use Prelude.{◌∙◌, List, ℕ, [], ◌∷◌, ◌++◌, map, slice_get, entries, get_or_from_slice_get, Limit, Row, listing_of, row_names, rows_of, Lines}
+use Prelude.{label_line, left_lines, term_line, row_terms, last_line, both_seen, lines_seen, prints_then, prints_same}
 use Rattle.mpslp_write_lp.proofs.lp.rows.put_row.Goals as goal
 
 pub returns : goal.returns

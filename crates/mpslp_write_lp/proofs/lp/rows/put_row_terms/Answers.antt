@@ -1,11 +1,6 @@
-use Rattle.std.proofs.Common.{sym, ap, ◌∙◌, ◌++◌, ◌∷◌, [], arith}
-use Rattle.std.specs.Prelude.{filter_map}
-use Rattle.mpslp_model_core.specs.Views.{row_name}
-use Rattle.mpslp_model_core.specs.Model.{listing_of}
-use Rattle.mpslp_canonical_lp.specs.CanonicalLp.{term_in, term_line}
-use Rattle.mpslp_write_lp.specs.LpLinesAt.{has_lines}
+use Rattle.mpslp_write_lp.proofs.Prelude
+use Prelude.{sym, ap, ◌∙◌, ◌++◌, ◌∷◌, [], arith, filter_map, row_name, listing_of, term_in, term_line, has_lines, prints_then, prints_same}
 use Rattle.mpslp_write_lp.proofs.LpTerms.{terms-listed, some-listed, none-listed, terms-joined, some-terms, no-terms}
-use Rattle.mpslp_output.proofs.OutputLemmas.{prints_then, prints_same}
 use Rattle.mpslp_write_lp.proofs.lp.rows.put_row_terms.Goals as goal
 
 pub column_name-requires : goal.column_name-requires

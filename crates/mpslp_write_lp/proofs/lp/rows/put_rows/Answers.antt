@@ -1,8 +1,5 @@
-use Rattle.std.proofs.Common.{rules, arith}
-use Rattle.std.specs.FinMap.{entries}
-use Rattle.mpslp_model_core.specs.Model.{listing_of}
-use Rattle.mpslp_canonical_lp.specs.CanonicalLp.{row_lines}
-use Rattle.mpslp_output.proofs.EachLemmas.{prints_each}
+use Rattle.mpslp_write_lp.proofs.Prelude
+use Prelude.{rules, arith, entries, listing_of, row_lines, prints_each}
 use Rattle.mpslp_write_lp.proofs.lp.rows.put_rows.Goals as goal
 
 pub returns : goal.returns

@@ -1,12 +1,7 @@
-use Rattle.std.proofs.Common.{◌≡◌, sym, ap, ◌∙◌, ℕ, [], ◌∷◌}
-use Rattle.std.specs.Prelude.{Option}
-use Rattle.std.specs.Option.{option_map_or}
-use Rattle.std.proofs.lemmas.Option.{get_or_from_slice_get}
-use Rattle.mpslp_model_core.specs.Views.{row_name, column_name, column_names}
-use Rattle.mpslp_canonical_lp.specs.CanonicalLp.{term_line}
-use Rattle.mpslp_write_lp.specs.LpLinesAt.{numbered_term_lines}
+use Rattle.mpslp_write_lp.proofs.Prelude
+use Prelude.{◌≡◌, sym, ap, ◌∙◌, ℕ, [], ◌∷◌, Option, option_map_or, get_or_from_slice_get, row_name, column_name, column_names, term_line}
+use Prelude.{numbered_term_lines, prints_same}
 use Rattle.mpslp_write_lp.proofs.LpTerms.{term-listed}
-use Rattle.mpslp_output.proofs.OutputLemmas.{prints_same}
 use Rattle.mpslp_write_lp.proofs.lp.rows.put_term.Goals as goal
 
 pub returns : goal.returns

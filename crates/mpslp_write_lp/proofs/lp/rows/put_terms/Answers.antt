@@ -1,13 +1,8 @@
-use Rattle.std.proofs.Common.{◌≡◌, sym, subst, ◌+◌, ◌-◌, ◌<◌, ◌≤◌, ℕ, List, [], arith, Bor}
-use Rattle.std.specs.Prelude.{slice_index_or}
-use Rattle.mpslp_decimal.specs.Decimal.{Number}
-use Rattle.mpslp_model_core.specs.Model.{LinearModel}
-use Rattle.mpslp_model_core.specs.Views.{row_name, row_columns}
-use Rattle.mpslp_write_lp.specs.LpLinesAt.{IsTerm, AreTerms, AreNamesOf, numbered_term_lines}
-use Rattle.mpslp_output.proofs.LinesAtLemmas.{flat_map-next}
-use Rattle.mpslp_output.proofs.OutputLemmas.{prints_then, prints_same}
-use Rattle.mpslp_write_lp.proofs.lp.rows.put_terms.Goals as goal
+use Rattle.mpslp_write_lp.proofs.Prelude
+use Prelude.{◌≡◌, sym, subst, ◌+◌, ◌-◌, ◌<◌, ◌≤◌, ℕ, List, [], arith, Bor, slice_index_or, Number, LinearModel, row_name, row_columns}
+use Prelude.{IsTerm, AreTerms, AreNamesOf, numbered_term_lines, flat_map-next, prints_then, prints_same}
 use Rattle.mpslp_write_lp.proofs.lp.rows.put_terms.Goals.{then-k-from-eq-AHEAD, else-k-from-eq-AHEAD}
+use Rattle.mpslp_write_lp.proofs.lp.rows.put_terms.Goals as goal
 
 -- the terms from `from` on are known with the names of their columns, and term `k` is one of them
 record IsNear (m : LinearModel) (i k from : ℕ) (terms : List (ℕ × Number)) (names : List (Bor (List ℕ))) : Type 0 where

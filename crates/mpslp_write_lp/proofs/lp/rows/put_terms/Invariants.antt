@@ -1,8 +1,5 @@
-use Rattle.std.proofs.Common.{take, ◌≤◌, ◌-◌}
-use Rattle.std.specs.List.{flat_map}
-use Rattle.mpslp_model_core.specs.Views.{row_name, row_columns}
-use Rattle.mpslp_canonical_lp.specs.Printed.{line_text}
-use Rattle.mpslp_write_lp.specs.LpLinesAt.{AreTerms, AreNamesOf, numbered_term_lines}
+use Rattle.mpslp_write_lp.proofs.Prelude
+use Prelude.{take, ◌≤◌, ◌-◌, flat_map, row_name, row_columns, line_text, AreTerms, AreNamesOf, numbered_term_lines}
 use Rattle.mpslp_output.specs.Printing.{Prints}
 use Rattle.mpslp_write_lp.proofs.lp.rows.put_terms.Given as goal
 

@@ -1,9 +1,6 @@
-use Rattle.std.proofs.Common.{◌≡◌, sym, subst, ◌∙◌, ◌+◌, ◌<◌, ℕ, length, inl, inr, arith, set}
-use Rattle.std.specs.Prelude.{slice_index_or}
-use Rattle.std.proofs.lemmas.Bool.{cases_lt}
-use Rattle.std.proofs.lemmas.List.{length-set, get_or-set_same, get_or-set_other}
-use Rattle.mpslp_decimal.specs.Decimal.{Number}
-use Rattle.mpslp_write_lp.specs.LpLinesAt.{IsTerm}
+use Rattle.mpslp_write_lp.proofs.Prelude
+use Prelude.{◌≡◌, sym, subst, ◌∙◌, ◌+◌, ◌<◌, ℕ, length, inl, inr, arith, set, slice_index_or, cases_lt, length-set, get_or-set_same}
+use Prelude.{get_or-set_other, Number, IsTerm}
 use Rattle.mpslp_write_lp.proofs.lp.rows.terms_from.Goals as goal
 
 pub loop-n-preserved : goal.loop-n-preserved

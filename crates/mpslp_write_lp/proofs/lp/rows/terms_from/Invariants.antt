@@ -1,8 +1,5 @@
-use Rattle.std.proofs.Common.{◌≡◌, ◌+◌, ◌<◌, ℕ, length}
-use Rattle.std.specs.Prelude.{slice_index_or}
-use Rattle.mpslp_decimal.specs.Decimal.{Number}
-use Rattle.mpslp_model_core.specs.Views.{row_name, row_columns}
-use Rattle.mpslp_write_lp.specs.LpLinesAt.{IsTerm}
+use Rattle.mpslp_write_lp.proofs.Prelude
+use Prelude.{◌≡◌, ◌+◌, ◌<◌, ℕ, length, slice_index_or, Number, row_name, row_columns, IsTerm}
 use Rattle.mpslp_write_lp.proofs.lp.rows.terms_from.Given as goal
 
 -- the terms so far are known
