@@ -154,8 +154,7 @@ bounded_columns =
     ([], record { kind = Continuous; lower = zero_limit; upper = PlusInf }) ∷
     (declare_marked x ∷ [], record { kind = Integer; lower = zero_limit; upper = one_limit }) ∷
     (declare_marked x ∷ declare_lower x one_limit ∷ [], record { kind = Integer; lower = one_limit; upper = PlusInf }) ∷
-    (declare_binary x ∷ declare_lower x one_limit ∷ [], record { kind = Integer; lower = one_limit; upper = one_limit }) ∷
-    (
+    (declare_binary x ∷ declare_lower x one_limit ∷ [], record { kind = Integer; lower = one_limit; upper = one_limit }) ∷ (
       declare_lower x (limit_of (number (negsuc 0) (pos 30))) ∷ declare_upper x (limit_of (number (pos 1) (pos 30))) ∷ [],
       record { kind = Continuous; lower = MinusInf; upper = PlusInf },
     ) ∷
@@ -168,12 +167,11 @@ bounded_columns-right = refl
 
 -- a column that is semi-continuous has no other type
 abbrev types : List (Declarations × Declarations × List (Option BuildFault))
-types =
-    (
-      [],
-      declare_semi y ∷ declare_semi x ∷ declare_semi x ∷ declare_integer x ∷ declare_marked x ∷ declare_binary x ∷ [],
-      Some builds.UnknownColumn ∷ None ∷ None ∷ Some builds.SemiContinuous ∷ Some builds.SemiContinuous ∷ Some builds.SemiContinuous ∷ [],
-    ) ∷
+types = (
+  [],
+  declare_semi y ∷ declare_semi x ∷ declare_semi x ∷ declare_integer x ∷ declare_marked x ∷ declare_binary x ∷ [],
+  Some builds.UnknownColumn ∷ None ∷ None ∷ Some builds.SemiContinuous ∷ Some builds.SemiContinuous ∷ Some builds.SemiContinuous ∷ [],
+) ∷
     (declare_integer x ∷ [], declare_semi x ∷ [], Some builds.SemiContinuous ∷ []) ∷
     (declare_marked x ∷ [], declare_semi x ∷ [], Some builds.SemiContinuous ∷ []) ∷
     (declare_binary x ∷ [], declare_semi x ∷ [], Some builds.SemiContinuous ∷ []) ∷
@@ -191,8 +189,7 @@ crossed name = declare_row name (by_limits one_limit zero_limit)
 abbrev faulty_drafts : List (Draft × Option Fault)
 faulty_drafts =
     (empty_draft, Some (whole_fault kinds.NoColumns None)) ∷
-    (finished, None) ∷
-    (
+    (finished, None) ∷ (
       bounded_by (declare_upper x minus_one ∷ crossed (codes "b") ∷ crossed (codes "B") ∷ crossed (codes "ab") ∷ []),
       Some (whole_fault kinds.LimitsCrossed (Some (codes "B"))),
     ) ∷

@@ -1,39 +1,17 @@
 -- The tokens of a line with an illegal byte are never accepted: one of them is unknown, and no rule accepts it.
-use Rattle.std.proofs.Common.{◌≡◌, refl, sym, subst, ◌∙◌, ℕ, List, [], ◌∷◌, Bool, true, false, map}
-use Rattle.std.specs.Prelude.{Option, Some, None, Err, not, ◌&&◌, if◌then◌else◌}
-use Rattle.std.specs.List.{list_all}
-use Rattle.mpslp_types.specs.FaultOrder.{least_kind}
-use Rattle.mpslp_types.specs.declared.faults.BuildFault.{BuildFault}
-use Rattle.mpslp_types.specs.declared.faults.FaultKind.{FaultKind}
-use Rattle.mpslp_types.specs.declared.faults.FaultKind.TheVariants.{LineTooLong, BadByte}
-use Rattle.mpslp_builder.specs.Declaration.{Declarations}
-use Rattle.mpslp_builder.specs.Refusal.{refusals_in_turn}
-use Rattle.mpslp_lines.specs.FaultTests.{first_held, has_legal_length}
-use Rattle.mpslp_lines.specs.declared.errors.LineError.{LineError}
-use Rattle.mpslp_lines.specs.declared.errors.LineError.TheVariants.{Fault}
-use Rattle.mpslp_lp_tokens.specs.Token.{Token, tokens}
-use Rattle.mpslp_lp_tokens.specs.declared.tokens.TokenKind.{TokenKind}
-use Rattle.mpslp_lp_tokens.specs.declared.tokens.TokenKind.TheVariants as kinds
-use Rattle.mpslp_lp_grammar.specs.Terminal.{Terminal, terminal_of}
-use Rattle.mpslp_lp_grammar.specs.TerminalToken.{as_terminal, terminals}
-use Rattle.mpslp_lp_grammar.specs.Terminal.Terminal.{Other}
-use Rattle.mpslp_lp_grammar.specs.AfterToken.{AfterToken, with_made, take_after_declarations, Goes, Refuses}
-use Rattle.mpslp_lp_grammar.specs.FirstToken.{begin}
-use Rattle.mpslp_lp_grammar.specs.Rows.{objective_declared, first_item_declared, default_objective}
-use Rattle.mpslp_lp_grammar.specs.Items.{apply_sign}
-use Rattle.mpslp_lp_grammar.specs.TokenStep.{begin_after, take_after_lone_number, take}
-use Rattle.mpslp_lp_grammar.specs.Declares.{TakesToken}
-use Rattle.mpslp_decimal.specs.Decimal.{Number as Decimal}
-use Rattle.mpslp_lp_grammar.specs.declared.context.Context.{Context}
-use Rattle.mpslp_lp_grammar.specs.declared.states.Place.{Place}
-use Rattle.mpslp_lp_grammar.specs.declared.states.Place.TheVariants.{AtStart, BeforeItems, InObjective, BetweenRows, InRow, InBounds, InGenerals, InBinaries, InSemis}
-use Rattle.mpslp_lp_grammar.specs.declared.states.ItemOwner.{ItemOwner}
-use Rattle.mpslp_lp_grammar.specs.declared.states.ItemOwner.TheVariants.{OfObjective, OfRow}
-use Rattle.mpslp_lp_grammar.specs.declared.states.State.{State}
-use Rattle.mpslp_lp_grammar.specs.declared.states.State.TheVariants.{Between, AtObjective, ObjectiveName, AtLastWord, AtSemi, Signs, ItemNumber, RowName, RowLabel, RowSign, RowNumber, RowLeft, RowLeftRelation, BoundName, BoundSign, BoundLeft, BoundLeftRelation, AtSide, SideSign, AfterEnd}
-use Rattle.mpslp_lp.specs.LineByLine.{take_all, token_faults, take_tokens, take_line}
-use Rattle.mpslp_lp.specs.Laws.{has_legal_bytes, is_known}
+use Rattle.mpslp_lp.proofs.Prelude
+use Prelude.{◌≡◌, refl, sym, subst, ◌∙◌, ℕ, List, [], ◌∷◌, Bool, true, false, map, Option, Some, None, Err, not, ◌&&◌, if◌then◌else◌}
+use Prelude.{list_all, least_kind, BuildFault, FaultKind, LineTooLong, BadByte, Declarations, refusals_in_turn, first_held}
+use Prelude.{has_legal_length, LineError, Fault, Token, tokens, TokenKind, Terminal, terminal_of, as_terminal, terminals, Other, AfterToken}
+use Prelude.{with_made, take_after_declarations, Goes, Refuses, begin, objective_declared, first_item_declared, default_objective}
+use Prelude.{apply_sign, begin_after, take_after_lone_number, take, TakesToken, Decimal, Context, Place, AtStart, BeforeItems, InObjective}
+use Prelude.{BetweenRows, InRow, InBounds, InGenerals, InBinaries, InSemis, OfObjective, OfRow, State, Between, AtObjective, ObjectiveName}
+use Prelude.{AtLastWord, AtSemi, Signs, ItemNumber, RowName, RowLabel, RowSign, RowNumber, RowLeft, RowLeftRelation, BoundName, BoundSign}
+use Prelude.{BoundLeft, BoundLeftRelation, AtSide, SideSign, AfterEnd, take_all, token_faults, take_tokens, take_line, has_legal_bytes}
+use Prelude.{is_known}
 use Rattle.mpslp_lp.proofs.LegalTokens.{legal-known}
+use Rattle.mpslp_lp_grammar.specs.declared.states.ItemOwner.{ItemOwner}
+use Rattle.mpslp_lp_tokens.specs.declared.tokens.TokenKind.TheVariants as kinds
 
 abbrev IsRefused : AfterToken → Type 0
 IsRefused (Goes after next) = ⊥

@@ -1,48 +1,32 @@
 -- The bytes of a line are legal if and only if none of its tokens is unknown.
-use Rattle.std.proofs.Common.{◌≡◌, refl, sym, ap, subst, ◌∙◌, List, [], ◌∷◌, length, take, ℕ, zero, suc, Bool, true, false, cond, arith, ◌<◌, ◌≤◌, ◌+◌, ◌-◌}
-use Rattle.std.specs.Prelude.{Option, Some, None, is_some, ◌&&◌, ◌||◌, not, ◌==◌, codes}
-use Rattle.std.specs.List.{list_all, list_any, find}
-use Rattle.std.specs.Option.{option_map}
-use Rattle.std.proofs.lemmas.Bool.{eqb-true}
-use Rattle.std.proofs.lemmas.Bool.Decides.{nat_tests}
-use Rattle.mpslp_decimal.specs.Literal.{is_digit, is_point, is_sign, is_exponent_mark}
-use Rattle.mpslp_decimal.proofs.GrammarLemmas.{before-here, before-past}
-use Rattle.mpslp_types.specs.Name.{is_letter, is_lp_symbol, same_bytes}
+use Rattle.mpslp_lp.proofs.Prelude
+use Prelude.{◌≡◌, refl, sym, ap, subst, ◌∙◌, List, [], ◌∷◌, length, ℕ, zero, suc, Bool, true, false, cond, arith, ◌<◌, ◌≤◌, ◌+◌, ◌-◌}
+use Prelude.{both_so, first_so, second_so, Option, Some, None, is_some, ◌&&◌, ◌||◌, not, ◌==◌, codes, list_all, list_any, find, option_map}
+use Prelude.{eqb-true, is_letter, is_lp_symbol, same_bytes, is_legal_byte, is_blank, begins_comment, is_period, begins_word, continues_word}
+use Prelude.{is_word, is_number, one_byte_operators, two_byte_operators, operator_kind, kind_of, Front, longest_within, longest_token}
+use Prelude.{token_at, Token, tokens_from, tokens, has_legal_bytes, is_known, front-kind, TokenKind}
 use Rattle.mpslp_builder.proofs.CoefficientLemmas.{same_bytes-true}
-use Rattle.mpslp_lines.specs.FaultTests.{is_legal_byte}
-use Rattle.mpslp_lp_tokens.specs.Token.{is_blank, begins_comment, is_period, begins_word, continues_word, is_word, is_number, one_byte_operators, two_byte_operators, operator_kind, kind_of, Front, longest_within, longest_token, token_at, Token, tokens_from, tokens}
-use Rattle.mpslp_lp.specs.Laws.{has_legal_bytes, is_known}
-use Rattle.mpslp_lp_tokens.proofs.NameTokens.{front-kind}
-use Rattle.mpslp_lp_tokens.proofs.SliceLemmas.{token-within}
+use Rattle.mpslp_types.proofs.BoolLemmas.{not_so}
+use Rattle.mpslp_decimal.proofs.GrammarLemmas.{before-here, before-past}
+use Rattle.mpslp_decimal.specs.Literal.{is_digit, is_point, is_sign, is_exponent_mark}
 use Rattle.mpslp_lp_tokens.proofs.NumberRun.{Stage, Class, class_of, next, accepts, Facts, facts, dead, number-takes}
-use Rattle.mpslp_lp_tokens.proofs.NumberRun.Stage.{Begin, Whole, Point, Fraction, Mark, Sign, Exponent, Dead}
 use Rattle.mpslp_lp_tokens.proofs.NumberRun.Class.{IsDigit, IsPoint, IsMark, IsSign, IsOther}
-use Rattle.mpslp_lp_tokens.specs.declared.tokens.TokenKind.{TokenKind}
+use Rattle.mpslp_lp_tokens.proofs.{NumberRun.Stage.{Begin, Dead}, SliceLemmas.{token-within}}
+use Rattle.std.proofs.{Common.{take}, lemmas.Bool.Decides.{nat_tests}}
 use Rattle.mpslp_lp_tokens.specs.declared.tokens.TokenKind.TheVariants as kinds
 
 -- a legal byte that does not begin a comment
 abbrev plain : ℕ → Bool
 plain b = is_legal_byte b && not (begins_comment b)
 
-both : (a b : Bool) → a ≡ true → b ≡ true → (a && b) ≡ true
-both a b h k = λ i. h i && k i
-
-left : (a b : Bool) → (a && b) ≡ true → a ≡ true
-left true b h = refl
-left false b h = cc
-
-right : (a b : Bool) → (a && b) ≡ true → b ≡ true
-right true b h = h
-right false b h = cc
-
 -- ---- words
 
 any-all : (p : ℕ → Bool) (symbols : List ℕ) (byte : ℕ) → list_all p symbols ≡ true → list_any (λ symbol. symbol == byte) symbols ≡ true → p byte ≡ true
 any-all p [] byte all any = cc
-any-all p (symbol ∷ symbols) byte all any = by (symbol == byte) refl any (any-all p symbols byte (right (p symbol) (list_all p symbols) all))
+any-all p (symbol ∷ symbols) byte all any = by (symbol == byte) refl any (any-all p symbols byte (second_so (p symbol) (list_all p symbols) all))
   where
     by : (b : Bool) → (symbol == byte) ≡ b → (b || list_any (λ s. s == byte) symbols) ≡ true → (list_any (λ s. s == byte) symbols ≡ true → p byte ≡ true) → p byte ≡ true
-    by true is h more = ap p (sym (eqb-true symbol byte is)) ∙ left (p symbol) (list_all p symbols) all
+    by true is h more = ap p (sym (eqb-true symbol byte is)) ∙ first_so (p symbol) (list_all p symbols) all
     by false is h more = more h
 
 letter-plain : (b : ℕ) → is_letter b ≡ true → plain b ≡ true
@@ -68,7 +52,7 @@ begins-plain b h = by (is_letter b) refl h
   where
     by : (x : Bool) → is_letter b ≡ x → (x || (is_lp_symbol b && not (is_period b))) ≡ true → plain b ≡ true
     by true e k = letter-plain b e
-    by false e k = symbol-plain b (left (is_lp_symbol b) (not (is_period b)) k)
+    by false e k = symbol-plain b (first_so (is_lp_symbol b) (not (is_period b)) k)
 
 continues-plain : (b : ℕ) → continues_word b ≡ true → plain b ≡ true
 continues-plain b h = by (is_letter b) (is_digit b) refl refl h
@@ -80,29 +64,22 @@ continues-plain b h = by (is_letter b) (is_digit b) refl refl h
 
 all-plain : (p : ℕ → Bool) → ((b : ℕ) → p b ≡ true → plain b ≡ true) → (t : List ℕ) → list_all p t ≡ true → list_all plain t ≡ true
 all-plain p f [] h = refl
-all-plain p f (b ∷ bs) h = both (plain b) (list_all plain bs) (f b (left (p b) (list_all p bs) h)) (all-plain p f bs (right (p b) (list_all p bs) h))
+all-plain p f (b ∷ bs) h = both_so (plain b) (list_all plain bs) (f b (first_so (p b) (list_all p bs) h)) (all-plain p f bs (second_so (p b) (list_all p bs) h))
 
 word-plain : (t : List ℕ) → is_word t ≡ true → list_all plain t ≡ true
 word-plain [] h = cc
 word-plain (b ∷ bs) h =
-    both (plain b) (list_all plain bs) (begins-plain b (left (begins_word b) (list_all continues_word bs) h))
-    (all-plain continues_word continues-plain bs (right (begins_word b) (list_all continues_word bs) h))
+    both_so (plain b) (list_all plain bs) (begins-plain b (first_so (begins_word b) (list_all continues_word bs) h))
+    (all-plain continues_word continues-plain bs (second_so (begins_word b) (list_all continues_word bs) h))
 
 -- ---- numbers
 
 other-dead : (s : Stage) → next s IsOther ≡ Dead
-other-dead Begin = refl
-other-dead Whole = refl
-other-dead Point = refl
-other-dead Fraction = refl
-other-dead Mark = refl
-other-dead Sign = refl
-other-dead Exponent = refl
-other-dead Dead = refl
+other-dead = grind arith
 
 takes-plain : (s : Stage) (t : List ℕ) → accepts s t ≡ true → list_all plain t ≡ true
 takes-plain s [] h = refl
-takes-plain s (b ∷ bs) h = both (plain b) (list_all plain bs) (by (class_of b) refl (facts b)) (takes-plain (next s (class_of b)) bs h)
+takes-plain s (b ∷ bs) h = both_so (plain b) (list_all plain bs) (by (class_of b) refl (facts b)) (takes-plain (next s (class_of b)) bs h)
   where
     by : (class : Class) → class_of b ≡ class → Facts b class → plain b ≡ true
     by IsDigit e f = digit-plain b f.0
@@ -119,7 +96,7 @@ found-plain : {X : Type 0} (good test : X → Bool) (table : List (X × TokenKin
     → option_map (λ (e : X × TokenKind). e.1) (find (λ (e : X × TokenKind). test e.0) table) ≡ Some kind → (x : X) × ((test x ≡ true) × (good x ≡ true) × (is_known kind ≡ true))
 found-plain good test [] kind all h = cc
 found-plain {X} good test (entry ∷ table) kind all h =
-    by (test entry.0) refl h (found-plain good test table kind (right (good entry.0 && is_known entry.1) (list_all (λ (e : X × TokenKind). good e.0 && is_known e.1) table) all))
+    by (test entry.0) refl h (found-plain good test table kind (second_so (good entry.0 && is_known entry.1) (list_all (λ (e : X × TokenKind). good e.0 && is_known e.1) table) all))
   where
     known_in : Option TokenKind → Bool
     known_in (Some k) = is_known k
@@ -129,15 +106,15 @@ found-plain {X} good test (entry ∷ table) kind all h =
         → (option_map (λ (e : X × TokenKind). e.1) (find (λ (e : X × TokenKind). test e.0) table) ≡ Some kind → (x : X) × ((test x ≡ true) × (good x ≡ true) × (is_known kind ≡ true)))
         → (x : X) × ((test x ≡ true) × (good x ≡ true) × (is_known kind ≡ true))
     by true e k more =
-        let here = left (good entry.0 && is_known entry.1) (list_all (λ (x : X × TokenKind). good x.0 && is_known x.1) table) all in
-        (entry.0, (e, left (good entry.0) (is_known entry.1) here, ap known_in (sym k) ∙ right (good entry.0) (is_known entry.1) here))
+        let here = first_so (good entry.0 && is_known entry.1) (list_all (λ (x : X × TokenKind). good x.0 && is_known x.1) table) all in
+        (entry.0, (e, first_so (good entry.0) (is_known entry.1) here, ap known_in (sym k) ∙ second_so (good entry.0) (is_known entry.1) here))
     by false e k more = more k
 
 operator-plain : (t : List ℕ) (kind : TokenKind) → operator_kind t ≡ Some kind → (list_all plain t ≡ true) × (is_known kind ≡ true)
 operator-plain [] kind h = cc
 operator-plain (a ∷ []) kind h =
     let r = found-plain plain (λ x. x == a) one_byte_operators kind refl h in
-    (both (plain a) true (ap plain (sym (eqb-true r.0 a r.1.0)) ∙ r.1.1) refl, r.1.2)
+    (both_so (plain a) true (ap plain (sym (eqb-true r.0 a r.1.0)) ∙ r.1.1) refl, r.1.2)
 operator-plain (a ∷ b ∷ []) kind h =
     let r = found-plain (λ (x : List ℕ). list_all plain x) (λ (x : List ℕ). same_bytes x (a ∷ b ∷ [])) two_byte_operators kind refl h in
     (ap (λ (x : List ℕ). list_all plain x) (sym (same_bytes-true r.0 (a ∷ b ∷ []) r.1.0)) ∙ r.1.1, r.1.2)
@@ -188,13 +165,13 @@ all_below (suc n) p = p n && all_below n p
 
 below : (n : ℕ) (p : ℕ → Bool) → all_below n p ≡ true → (m : ℕ) → m < n → p m ≡ true
 below zero p h m w = absurd (omega (arith, w))
-below (suc n) p h m w = by (m == n) refl (below n p (right (p n) (all_below n p) h) m)
+below (suc n) p h m w = by (m == n) refl (below n p (second_so (p n) (all_below n p) h) m)
   where
     not_same : (a b : ℕ) → (a == b) ≡ false → a < suc b → a < b
     not_same a b f e = grind arith
 
     by : (b : Bool) → (m == n) ≡ b → (m < n → p m ≡ true) → p m ≡ true
-    by true e later = ap p (eqb-true m n e) ∙ left (p n) (all_below n p) h
+    by true e later = ap p (eqb-true m n e) ∙ first_so (p n) (all_below n p) h
     by false e later = later (not_same m n e w)
 
 abbrev is_stated : ℕ → Bool
@@ -235,14 +212,10 @@ stated b bs k = by (longest_token (b ∷ bs)) refl
 
 -- ---- a line
 
-not-so : (a : Bool) → not a ≡ true → a ≡ false
-not-so true h = cc
-not-so false h = refl
-
 legal-plain : (b : ℕ) (bs : List ℕ) → plain b ≡ true → has_legal_bytes (b ∷ bs) ≡ has_legal_bytes bs
 legal-plain b bs h =
-    ap (list_all is_legal_byte) (before-past begins_comment b bs (not-so (begins_comment b) (right (is_legal_byte b) (not (begins_comment b)) h)))
-    ∙ ap (λ (x : Bool). x && has_legal_bytes bs) (left (is_legal_byte b) (not (begins_comment b)) h)
+    ap (list_all is_legal_byte) (before-past begins_comment b bs (not_so (begins_comment b) (second_so (is_legal_byte b) (not (begins_comment b)) h)))
+    ∙ ap (λ (x : Bool). x && has_legal_bytes bs) (first_so (is_legal_byte b) (not (begins_comment b)) h)
 
 legal-bad : (b : ℕ) (bs : List ℕ) → begins_comment b ≡ false → plain b ≡ false → has_legal_bytes (b ∷ bs) ≡ false
 legal-bad b bs c h = ap (list_all is_legal_byte) (before-past begins_comment b bs c) ∙ ap (λ (x : Bool). x && has_legal_bytes bs) (by (is_legal_byte b) refl)
@@ -260,7 +233,7 @@ all_known found = list_all (λ (token : Token). is_known token.kind) found
 legal-from : (bytes : List ℕ) (place taken : ℕ) → list_all plain (take taken bytes) ≡ true → has_legal_bytes bytes ≡ all_known (tokens_from place taken bytes)
 legal-from [] place taken h = refl
 legal-from (b ∷ bs) place (suc taken) h =
-    legal-plain b bs (left (plain b) (list_all plain (take taken bs)) h) ∙ legal-from bs (place + 1) taken (right (plain b) (list_all plain (take taken bs)) h)
+    legal-plain b bs (first_so (plain b) (list_all plain (take taken bs)) h) ∙ legal-from bs (place + 1) taken (second_so (plain b) (list_all plain (take taken bs)) h)
 legal-from (b ∷ bs) place zero h = by (begins_comment b) (is_blank b) refl refl (legal-from bs (place + 1))
   where
     take_none : (xs : List ℕ) → list_all plain (take 0 xs) ≡ true
@@ -289,7 +262,7 @@ legal-from (b ∷ bs) place zero h = by (begins_comment b) (is_blank b) refl ref
         known true zero e f t = absurd (omega (arith, f, (token-within b bs).0))
         known true (suc n) e f t =
             let all : (plain b && list_all plain (take n bs)) ≡ true = ap (λ (m : ℕ). list_all plain (take m (b ∷ bs))) (sym f) ∙ t in
-            legal-plain b bs (left (plain b) (list_all plain (take n bs)) all) ∙ more n (right (plain b) (list_all plain (take n bs)) all)
+            legal-plain b bs (first_so (plain b) (list_all plain (take n bs)) all) ∙ more n (second_so (plain b) (list_all plain (take n bs)) all)
             ∙ ap (λ (m : ℕ). all_known (tokens_from (place + 1) m bs)) (sym (less n) ∙ ap (λ (m : ℕ). m - 1) (sym f))
 
 pub legal-known : (line : List ℕ) → has_legal_bytes line ≡ all_known (tokens line)

@@ -1,43 +1,15 @@
 -- What a reader of lines returns for the next line, and at the end.
-use Rattle.std.proofs.Common.{◌≡◌, refl, sym, ap, subst, ◌∙◌, ℕ, ◌+◌, ◌-◌, ◌^◌, min, List, [], ◌∷◌, ◌++◌, Bool, true, false, append-nil, append_assoc, arith}
-use Rattle.std.specs.Prelude.{not, Option, Some, None, is_some, Result, Err}
-use Rattle.std.specs.List.{enumerate_from, list_all}
-use Rattle.std.specs.Str.Lines.{lines}
-use Rattle.mpslp_model_core.specs.Model.{LinearModel}
-use Rattle.mpslp_builder.specs.Finish.{Finishes}
-use Rattle.mpslp_builder.specs.FileFault.{whole_fault}
-use Rattle.mpslp_types.specs.FaultOrder.{least_kind}
-use Rattle.mpslp_types.specs.declared.faults.FaultKind.{FaultKind}
-use Rattle.mpslp_types.specs.declared.faults.FaultKind.TheVariants.{LineTooLong, BadByte, MissingEnd}
-use Rattle.mpslp_types.specs.declared.faults.ReadFault.{ReadFault}
-use Rattle.mpslp_lines.specs.FaultTests.{has_legal_length, is_legal_byte, first_held}
-use Rattle.mpslp_lines.specs.LineAnswer.{IsFaultOn}
-use Rattle.mpslp_lines.specs.LinesRead.{RefusesLines}
-use Rattle.mpslp_lines.specs.declared.errors.LineError.{LineError}
-use Rattle.mpslp_lines.specs.declared.errors.LineError.TheVariants.{Fault, OutOfMemory}
-use Rattle.mpslp_lp_grammar.specs.Rules.Outcome.{Finished, Open}
-use Rattle.mpslp_lp_tokens.specs.Token.{outside_comment, tokens}
-use Rattle.mpslp_lp_grammar.specs.TerminalToken.{terminals}
-use Rattle.mpslp_lp_grammar.specs.Phrase.{start}
-use Rattle.mpslp_lp_grammar.specs.Terminal.{lexical_fault}
-use Rattle.mpslp_lp_grammar.specs.AfterToken.{AfterToken, Goes, Refuses}
-use Rattle.mpslp_lp.specs.LineByLine.{take_all, token_faults, take_line, read_from}
-use Rattle.mpslp_lp_grammar.specs.TokenStep.{is_at_end}
-use Rattle.mpslp_lp.specs.ReadAnswer.{ReadsLp}
-use Rattle.mpslp_lp.specs.FirstFault.{fault_of, first_lp_fault}
-use Rattle.mpslp_lp_grammar.specs.Declares.{TakesToken}
-use Rattle.mpslp_lp.specs.Fed.{lines_outcome, IsFaultOfLines, LedTo, HasRead}
-use Rattle.mpslp_lp.specs.FedLaws.{ended-reads}
-use Rattle.mpslp_lp.specs.Laws.{FaultStaysWhenLinesFollow}
-use Rattle.mpslp_lp_grammar.specs.declared.context.Context.{Context}
+use Rattle.mpslp_lp.proofs.Prelude
+use Prelude.{◌≡◌, refl, sym, ap, subst, ◌∙◌, ℕ, ◌+◌, ◌-◌, ◌^◌, min, List, [], ◌∷◌, ◌++◌, Bool, true, false, append-nil, append_assoc, arith}
+use Prelude.{not, Option, Some, None, is_some, Result, Err, enumerate_from, list_all, lines, LinearModel, Finishes, whole_fault, least_kind}
+use Prelude.{FaultKind, LineTooLong, BadByte, MissingEnd, ReadFault, has_legal_length, is_legal_byte, first_held, LineError, Fault}
+use Prelude.{OutOfMemory, Finished, Open, outside_comment, tokens, terminals, start, lexical_fault, AfterToken, Goes, Refuses, take_all}
+use Prelude.{token_faults, take_line, read_from, is_at_end, ReadsLp, fault_of, first_lp_fault, TakesToken, lines_outcome, IsFaultOfLines}
+use Prelude.{LedTo, HasRead, ended-reads, FaultStaysWhenLinesFollow, Context, State, Between, AtStart}
+use Rattle.mpslp_lines.specs.{LineAnswer.{IsFaultOn}, LinesRead.{RefusesLines}}
+use Rattle.mpslp_lp.proofs.{LoopLemmas.{line-next, line-refused, none-left, refused-stays}, ModelOrFault.{named-at_end}}
+use Rattle.mpslp_lp.proofs.{ReadLemmas.{finished-reads}, ReadingLemmas.{lines-read}}
 use Rattle.mpslp_lp.specs.declared.line_reader.LineReader.{LineReader}
-use Rattle.mpslp_lp_grammar.specs.declared.states.State.{State}
-use Rattle.mpslp_lp_grammar.specs.declared.states.State.TheVariants.{Between}
-use Rattle.mpslp_lp_grammar.specs.declared.states.Place.TheVariants.{AtStart}
-use Rattle.mpslp_lp.proofs.ReadingLemmas.{lines-read}
-use Rattle.mpslp_lp.proofs.LoopLemmas.{line-next, line-refused, none-left, refused-stays}
-use Rattle.mpslp_lp.proofs.ModelOrFault.{named-at_end}
-use Rattle.mpslp_lp.proofs.ReadLemmas.{finished-reads}
 
 -- ---- no line
 

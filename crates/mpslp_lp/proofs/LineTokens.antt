@@ -1,21 +1,9 @@
 -- Tokens of a line, taken one after another, with the least of their lexical errors.
-use Rattle.std.proofs.Common.{◌≡◌, refl, sym, ap, ◌∙◌, List, [], ◌∷◌, map}
-use Rattle.std.specs.Prelude.{Option, Some, None, Err}
-use Rattle.std.specs.List.{cons_option}
-use Rattle.mpslp_types.specs.FaultOrder.{least_kind}
-use Rattle.mpslp_types.specs.declared.faults.FaultKind.{FaultKind}
-use Rattle.mpslp_lines.specs.declared.errors.LineError.{LineError}
-use Rattle.mpslp_lines.specs.declared.errors.LineError.TheVariants.{Fault, OutOfMemory}
+use Rattle.mpslp_lp.proofs.Prelude
+use Prelude.{◌≡◌, refl, sym, ap, ◌∙◌, List, [], ◌∷◌, map, Option, Some, None, Err, cons_option, least_kind, FaultKind, LineError, Fault}
+use Prelude.{OutOfMemory, Token, as_terminal, token_fault, Context, State, AfterToken, Goes, Refuses, take, take_all, token_faults}
+use Prelude.{take_tokens, TakesToken, error_before, lower_ranked_of, IsLeastError}
 use Rattle.mpslp_lines.proofs.LeastLemmas.{least-append}
-use Rattle.mpslp_lp_tokens.specs.Token.{Token}
-use Rattle.mpslp_lp_grammar.specs.TerminalToken.{as_terminal}
-use Rattle.mpslp_lp_grammar.specs.Terminal.{token_fault}
-use Rattle.mpslp_lp_grammar.specs.declared.context.Context.{Context}
-use Rattle.mpslp_lp_grammar.specs.declared.states.State.{State}
-use Rattle.mpslp_lp_grammar.specs.AfterToken.{AfterToken, Goes, Refuses}
-use Rattle.mpslp_lp_grammar.specs.TokenStep.{take}
-use Rattle.mpslp_lp.specs.LineByLine.{take_all, token_faults, take_tokens}
-use Rattle.mpslp_lp_grammar.specs.Declares.{TakesToken, error_before, lower_ranked_of, IsLeastError}
 
 -- ---- the least error, from the left
 

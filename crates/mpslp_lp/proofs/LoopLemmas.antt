@@ -1,20 +1,9 @@
 -- Lines read one after another: the outcome depends on the lines that are left.
-use Rattle.std.proofs.Common.{◌≡◌, ◌≤◌, refl, ap, ◌∙◌, ℕ, ◌+◌, ◌-◌, ◌^◌, min, List, [], ◌∷◌, ◌++◌, Bool, true, false, arith}
-use Rattle.std.specs.Prelude.{None}
-use Rattle.std.specs.List.{enumerate_from}
-use Rattle.mpslp_builder.specs.Declaration.{Draft}
+use Rattle.mpslp_lp.proofs.Prelude
+use Prelude.{◌≡◌, ◌≤◌, refl, ap, ◌∙◌, ℕ, ◌+◌, ◌-◌, ◌^◌, min, List, [], ◌∷◌, ◌++◌, Bool, true, false, arith, None, enumerate_from, Draft}
+use Prelude.{FaultKind, fault_on_line, Outcome, Finished, Refused, Open, Context, State, AfterEnd, AfterToken, Goes, Refuses, take_line}
+use Prelude.{read_from, is_at_end, never_refused}
 use Rattle.mpslp_types.specs.declared.faults.Fault.{Fault}
-use Rattle.mpslp_types.specs.declared.faults.FaultKind.{FaultKind}
-use Rattle.mpslp_lines.specs.FaultTests.{fault_on_line}
-use Rattle.mpslp_lp_grammar.specs.Rules.{Outcome}
-use Rattle.mpslp_lp_grammar.specs.Rules.Outcome.{Finished, Refused, Open}
-use Rattle.mpslp_lp_grammar.specs.declared.context.Context.{Context}
-use Rattle.mpslp_lp_grammar.specs.declared.states.State.{State}
-use Rattle.mpslp_lp_grammar.specs.declared.states.State.TheVariants.{AfterEnd}
-use Rattle.mpslp_lp_grammar.specs.AfterToken.{AfterToken, Goes, Refuses}
-use Rattle.mpslp_lp.specs.LineByLine.{take_line, read_from}
-use Rattle.mpslp_lp_grammar.specs.TokenStep.{is_at_end}
-use Rattle.mpslp_lp.specs.FedLaws.{never_refused}
 
 abbrev pub last_number : ℕ
 last_number = 2 ^ 64 - 1

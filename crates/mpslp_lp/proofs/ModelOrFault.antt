@@ -1,32 +1,17 @@
 -- Bytes declare a model or have a first error, and not both.
-use Rattle.std.proofs.Common.{◌≡◌, refl, sym, ap, subst, ◌∙◌, ℕ, List, [], ◌∷◌, true}
-use Rattle.std.specs.Prelude.{Option, Some, None, is_some}
-use Rattle.mpslp_model_core.specs.Model.{LinearModel}
-use Rattle.mpslp_builder.specs.Declaration.{Declaration, declare_sense, declare_objective, declare_constant, declare_row, declare_rhs, declare_range, declare_column, declare_coefficient, declare_lower, declare_upper, declare_marked, declare_integer, declare_binary, declare_semi, Draft, empty_draft, draft_of}
-use Rattle.mpslp_builder.specs.Meaning.{model_of}
-use Rattle.mpslp_builder.specs.FileFault.{file_fault}
-use Rattle.mpslp_types.specs.declared.faults.Fault.{Fault}
-use Rattle.mpslp_types.specs.declared.faults.FaultKind.{FaultKind}
-use Rattle.std.specs.List.{list_all}
-use Rattle.mpslp_builder.specs.Made.{are_given, is_legal}
-use Rattle.mpslp_types.specs.Name.{is_lp_name}
-use Rattle.std.specs.Cmp.{first_so}
-use Rattle.mpslp_types.proofs.EachLemmas.{imp_all}
-use Rattle.mpslp_builder.proofs.Acceptance.{means-from_none}
+use Rattle.mpslp_lp.proofs.Prelude
+use Prelude.{◌≡◌, refl, sym, ap, subst, ◌∙◌, ℕ, List, [], ◌∷◌, true, Option, Some, None, is_some, LinearModel, Declaration, declare_sense}
+use Prelude.{declare_objective, declare_constant, declare_row, declare_rhs, declare_range, declare_column, declare_coefficient}
+use Prelude.{declare_lower, declare_upper, declare_marked, declare_integer, declare_binary, declare_semi, Draft, empty_draft, draft_of}
+use Prelude.{model_of, file_fault, FaultKind, list_all, are_given, is_legal, is_lp_name, first_so, means-from_none, Outcome, Finished}
+use Prelude.{Refused, Open, start, fault_on_line, text_says, text_declares, lexical_fault, numbered_lines, sound_terminals, first_own_fault}
+use Prelude.{or_else, lines_say, outcome, is_finished, declarations_of, DeclaresLp, fault_of, first_lp_fault, has_lp_name, DeclareLpNames}
+use Prelude.{DeclareOrFail, DeclareUnlessFaulty, objective-declared}
 use Rattle.mpslp_builder.proofs.NoFaultFromMeaning.{no_fault-from_means}
-use Rattle.mpslp_lp_grammar.specs.Rules.{Outcome}
-use Rattle.mpslp_lp_grammar.specs.Rules.Outcome.{Finished, Refused, Open}
-use Rattle.mpslp_lp_grammar.specs.Phrase.{start}
-use Rattle.mpslp_lines.specs.FaultTests.{fault_on_line}
-use Rattle.mpslp_lp_grammar.specs.Grammar.{text_says, text_declares}
-use Rattle.mpslp_lp_grammar.specs.Terminal.{lexical_fault}
-use Rattle.mpslp_lp.specs.LpText.{numbered_lines, sound_terminals, first_own_fault, or_else, lines_say, outcome, is_finished, declarations_of, DeclaresLp}
-use Rattle.mpslp_lp.specs.FirstFault.{fault_of, first_lp_fault}
-use Rattle.mpslp_lp.specs.Laws.{has_lp_name, DeclareLpNames, DeclareOrFail, DeclareUnlessFaulty}
-use Rattle.mpslp_lp.proofs.SoundTokens.{text-sound}
-use Rattle.mpslp_lines.proofs.ObjectiveLemmas.{objective-declared}
+use Rattle.mpslp_lp.proofs.{PhraseFacts.{is_lp_legal, legal-from_lp}, SoundTokens.{text-sound}}
 use Rattle.mpslp_lp.proofs.TextFacts.{IsDraftAtEnd, IsFineText, text-fine}
-use Rattle.mpslp_lp.proofs.PhraseFacts.{is_lp_legal, legal-from_lp}
+use Rattle.mpslp_types.proofs.EachLemmas.{imp_all}
+use Rattle.mpslp_types.specs.declared.faults.Fault.{Fault}
 
 pub whole-fine : (bytes : List ℕ) → IsFineText empty_draft (declarations_of bytes) (text_says (sound_terminals (numbered_lines bytes)))
 whole-fine bytes = text-fine (sound_terminals (numbered_lines bytes)) 0 start (text-sound (numbered_lines bytes)) refl

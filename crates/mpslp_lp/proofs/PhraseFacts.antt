@@ -1,57 +1,35 @@
 -- What each phrase declares: legal declarations, none of which is rejected after those before it.
-use Rattle.std.proofs.Common.{◌⊎◌, inl, inr, ◌≡◌, refl, sym, ap, subst, ◌∙◌, ℕ, suc, ◌+◌, ◌-◌, ◌^◌, List, [], ◌∷◌, ◌++◌, Bool, true, false, length, arith, pos, negsuc, zero}
-use Rattle.std.specs.Prelude.{Option, Some, None, is_some, unwrap_or, ◌&&◌, ◌==◌, if◌then◌else◌, min}
-use Rattle.std.specs.List.{list_all, list_any, flat_map}
-use Rattle.std.specs.Option.{option_map_or}
-use Rattle.std.specs.Cmp.{first_so, second_so}
-use Rattle.std.proofs.lemmas.List.Folds.{list_all-append}
-use Rattle.std.proofs.Math.Nat.{min-le_right}
-use Rattle.mpslp_decimal.specs.Decimal.{Number as Decimal, is_decimal, negated}
-use Rattle.mpslp_types.specs.Name.{same_bytes, is_mps_name, is_lp_name}
+use Rattle.mpslp_lp.proofs.Prelude
+use Prelude.{◌⊎◌, inl, inr, ◌≡◌, refl, sym, ap, subst, ◌∙◌, ℕ, suc, ◌+◌, ◌-◌, ◌^◌, List, [], ◌∷◌, ◌++◌, Bool, true, false, length, arith}
+use Prelude.{pos, negsuc, zero, Option, Some, None, is_some, unwrap_or, ◌&&◌, ◌==◌, if◌then◌else◌, list_all, list_any, flat_map}
+use Prelude.{option_map_or, first_so, second_so, list_all-append, Decimal, is_decimal, negated, same_bytes, is_mps_name, is_lp_name}
+use Prelude.{draft_of, Declaration, declare_sense, declare_objective, declare_constant, declare_row, declare_rhs, declare_range}
+use Prelude.{declare_column, declare_coefficient, declare_lower, declare_upper, declare_marked, declare_integer, declare_binary}
+use Prelude.{declare_semi, Declarations, Draft, empty_draft, with_declarations, bounds_declared, refusals_in_turn, bounds_refusals}
+use Prelude.{are_given, is_legal, Limit, MinusInf, PlusInf, Sense, BuildFault, FaultKind, BadToken, both_so, refusals_in_turn-append}
+use Prelude.{bounds-in_turn, join_none, limit-given, named-after, SignOf, Plus, Minus, ◌>>=◌, next, ahead, Reads, Ends, section_of}
+use Prelude.{Terminal, TerminalAt, Opens, Name, Number, Sign, Compares, Colon, Infinity, Free, Other, Point, start, with_section}
+use Prelude.{section_fault, PhraseRule, Follows, fails, refuses, goes_to, unless_refused, declares, Context, PartialRow, Place, AtStart}
+use Prelude.{BeforeItems, InObjective, BetweenRows, InRow, InBounds, InGenerals, InBinaries, InSemis, Side, Limits, apply_sign, infinity}
+use Prelude.{unsigned_side, side_from, side, next_relation, fits_second, limits_by, flip, Item, one, product, number_item, signed_item}
+use Prelude.{item_from, colon, term_declared, objective_item, objective_declared, default_objective, first_item_declared, objective_named}
+use Prelude.{objective_from, objective, default_row, without_terms, row_item, row_first, row_after_left, row_number, row_signed, row_from}
+use Prelude.{row_named, row, fits_left, row_limits, row_declared, row_whole, row_end, bound_sides, no_limits, bound_right, bound_after}
+use Prelude.{bound_column, bound_left, bound, second_side, line_end, opened_by, is_last_word, last_word, semi_from, section_start}
+use Prelude.{section_from, may_begin_section, name_in_section, phrase, phrase_at, Relation}
+use Rattle.mpslp_lp.proofs.RuleFacts.{Holds, Gives, passed, then-gives, IsSoundToken, next-gives, ahead-gives}
+use Rattle.mpslp_lp.proofs.SoundTokens.{AreSound, IsSoundTerminal}
+use Rattle.mpslp_lp_grammar.proofs.NumberedNames.{numbered-name}
+use Rattle.mpslp_lp_grammar.specs.{Items.Item.{Term, Lone}, Rules.AfterPhrase.{Goes}}
+use Rattle.mpslp_lp_grammar.specs.{declared.relations.Relation.TheVariants.{AtMost, AtLeast, EqualTo}, declared.states.LastWord.{LastWord}}
+use Rattle.mpslp_lp_grammar.specs.declared.states.LastWord.TheVariants.{To, That, Continuous}
+use Rattle.mpslp_lp_tokens.specs.{declared.words.Section.TheVariants.{Objective}, declared.words.SectionWord.{SectionWord}}
 use Rattle.mpslp_types.proofs.NameLemmas.{mps_name-from_lp}
 use Rattle.mpslp_types.specs.Limit.{limit_of, is_given}
-use Rattle.mpslp_builder.specs.Declaration.{draft_of, Declaration, declare_sense, declare_objective, declare_constant, declare_row, declare_rhs, declare_range, declare_column, declare_coefficient, declare_lower, declare_upper, declare_marked, declare_integer, declare_binary, declare_semi, Declarations, Draft, empty_draft, with_declarations, bounds_declared}
-use Rattle.mpslp_builder.specs.Refusal.{refusals_in_turn, bounds_refusals}
-use Rattle.mpslp_builder.specs.Made.{are_given, is_legal}
-use Rattle.mpslp_types.specs.declared.kinds.Limit.{Limit}
-use Rattle.mpslp_types.specs.declared.kinds.Limit.TheVariants.{MinusInf, PlusInf}
-use Rattle.mpslp_types.specs.declared.kinds.Sense.{Sense}
+use Rattle.std.proofs.Math.Nat.{min-le_right}
+use Rattle.std.specs.Prelude.{min}
 use Rattle.mpslp_types.specs.declared.kinds.Sense.TheVariants as senses
-use Rattle.mpslp_types.specs.declared.faults.BuildFault.{BuildFault}
-use Rattle.mpslp_types.specs.declared.faults.FaultKind.{FaultKind}
-use Rattle.mpslp_types.specs.declared.faults.FaultKind.TheVariants.{BadToken}
-use Rattle.mpslp_types.proofs.BoolLemmas.{both_so}
-use Rattle.mpslp_builder.proofs.MadeDrafts.{refusals_in_turn-append, bounds-in_turn}
-use Rattle.mpslp_builder.proofs.RefusalLemmas.{join_none}
-use Rattle.mpslp_lines.proofs.FieldLemmas.{limit-given}
-use Rattle.mpslp_lines.proofs.ObjectiveLemmas.{named-after}
-use Rattle.mpslp_lp_grammar.specs.declared.signs.Sign.{Sign as SignOf}
-use Rattle.mpslp_lp_grammar.specs.declared.signs.Sign.TheVariants.{Plus, Minus}
-use Rattle.mpslp_lp_grammar.specs.Rules.{◌>>=◌, next, ahead}
-use Rattle.mpslp_lp_grammar.specs.Rules.Parsed.{Reads}
-use Rattle.mpslp_lp_grammar.specs.Rules.AfterPhrase.{Goes, Ends}
-use Rattle.mpslp_lp_tokens.specs.Token.{section_of}
-use Rattle.mpslp_lp_grammar.specs.Terminal.{Terminal, TerminalAt}
-use Rattle.mpslp_lp_grammar.specs.Terminal.Terminal.{Opens, Name, Number, Sign, Compares, Colon, Infinity, Free, Other}
-use Rattle.mpslp_lp_grammar.specs.Phrase.{Point, start, with_section, section_fault, PhraseRule, Follows, fails, refuses, goes_to, unless_refused, declares}
-use Rattle.mpslp_lp_grammar.specs.declared.context.Context.{Context}
-use Rattle.mpslp_lp_grammar.specs.PartialRow.{PartialRow}
-use Rattle.mpslp_lp_grammar.specs.declared.states.Place.{Place}
-use Rattle.mpslp_lp_grammar.specs.declared.states.Place.TheVariants.{AtStart, BeforeItems, InObjective, BetweenRows, InRow, InBounds, InGenerals, InBinaries, InSemis}
-use Rattle.mpslp_lp_grammar.specs.declared.states.LastWord.{LastWord}
-use Rattle.mpslp_lp_grammar.specs.declared.states.LastWord.TheVariants.{To, That, Continuous}
-use Rattle.mpslp_lp_grammar.specs.Items.{Side, Limits, apply_sign, infinity, unsigned_side, side_from, side, next_relation, fits_second, limits_by, flip, Item, one, product, number_item, signed_item, item_from, colon}
-use Rattle.mpslp_lp_grammar.specs.Items.Item.{Term, Lone}
-use Rattle.mpslp_lp_grammar.specs.Rows.{term_declared, objective_item, objective_declared, default_objective, first_item_declared, objective_named, objective_from, objective, default_row, without_terms, row_item, row_first, row_after_left, row_number, row_signed, row_from, row_named, row, fits_left, row_limits, row_declared, row_whole, row_end}
-use Rattle.mpslp_lp_grammar.specs.Grammar.{bound_sides, no_limits, bound_right, bound_after, bound_column, bound_left, bound, second_side, line_end, opened_by, is_last_word, last_word, semi_from, section_start, section_from, may_begin_section, name_in_section, phrase, phrase_at}
-use Rattle.mpslp_lp_grammar.specs.declared.relations.Relation.{Relation}
-use Rattle.mpslp_lp_grammar.specs.declared.relations.Relation.TheVariants.{AtMost, AtLeast, EqualTo}
-use Rattle.mpslp_lp_tokens.specs.declared.words.Section.TheVariants.{Objective}
-use Rattle.mpslp_lp_tokens.specs.declared.words.SectionWord.{SectionWord}
 use Rattle.mpslp_lp_tokens.specs.declared.words.SectionWord.TheVariants as words
-use Rattle.mpslp_lp_grammar.proofs.NumberedNames.{numbered-name}
-use Rattle.mpslp_lp.proofs.SoundTokens.{AreSound, IsSoundTerminal}
-use Rattle.mpslp_lp.proofs.RuleFacts.{Holds, Gives, passed, then-gives, IsSoundToken, next-gives, ahead-gives}
 
 -- ---- legal declarations, with LP names
 
@@ -85,6 +63,9 @@ legal-from_lp (declare_marked column) h = refl
 legal-from_lp (declare_integer column) h = refl
 legal-from_lp (declare_binary column) h = refl
 legal-from_lp (declare_semi column) h = refl
+
+abbrev at : ℕ → Terminal → TerminalAt
+at line terminal = record { line = line; terminal = terminal }
 
 -- ---- well-formed values
 
@@ -162,6 +143,9 @@ IsFine earlier (Ends all) = (all ≡ earlier) × (is_some earlier.objective ≡ 
 
 -- ---- what follows a phrase
 
+abbrev Fine : Context → PhraseRule Follows → Type 0
+Fine context rule = Gives (IsFine context.builder) rule
+
 -- a place that requires only that the objective has a name
 abbrev IsPlain : Place → Type 0
 IsPlain place = (context : Context) → IsNamed context → IsSoundPoint (record { place = place; context = context })
@@ -170,7 +154,7 @@ in_row-plain : (row : PartialRow) → IsSoundRow row → IsPlain (InRow row)
 in_row-plain row h context named = (named, h)
 
 goes-fine : (context : Context) (place : Place) (made : Declarations) → IsNamed context → IsPlain place → refusals_in_turn context.builder made ≡ [] → list_all is_lp_legal made ≡ true
-    → Gives (IsFine context.builder) (goes_to context place made)
+    → Fine context (goes_to context place made)
 goes-fine context place made named plain unrefused legal tokens sound = record {
   drafts = refl;
   unrefused = unrefused;
@@ -178,20 +162,20 @@ goes-fine context place made named plain unrefused legal tokens sound = record {
   sound = plain (record context { builder = with_declarations context.builder made }) (named-after made context.builder named.0, named.1);
 }
 
-nothing-fine : (context : Context) (place : Place) → IsNamed context → IsPlain place → Gives (IsFine context.builder) (goes_to context place [])
+nothing-fine : (context : Context) (place : Place) → IsNamed context → IsPlain place → Fine context (goes_to context place [])
 nothing-fine context place named plain = goes-fine context place [] named plain refl refl
 
 unless_refused-fine : (context : Context) (token : TerminalAt) (refusals : List BuildFault) (place : Place) (made : Declarations) → IsNamed context → IsPlain place
-    → (refusals ≡ [] → refusals_in_turn context.builder made ≡ []) → list_all is_lp_legal made ≡ true → Gives (IsFine context.builder) (unless_refused context token refusals place made)
+    → (refusals ≡ [] → refusals_in_turn context.builder made ≡ []) → list_all is_lp_legal made ≡ true → Fine context (unless_refused context token refusals place made)
 unless_refused-fine context token [] place made named plain unrefused legal = goes-fine context place made named plain (unrefused refl) legal
 unless_refused-fine context token (refusal ∷ more) place made named plain unrefused legal = λ tokens sound. tt
 
 declares-fine : (context : Context) (token : TerminalAt) (place : Place) (made : Declarations) → IsNamed context → IsPlain place → list_all is_lp_legal made ≡ true
-    → Gives (IsFine context.builder) (declares context token place made)
+    → Fine context (declares context token place made)
 declares-fine context token place made named plain legal =
     unless_refused-fine context token (refusals_in_turn context.builder made) place made named plain (λ e. e) legal
 
-either-fine : (context : Context) (b : Bool) (r s : PhraseRule Follows) → Gives (IsFine context.builder) r → Gives (IsFine context.builder) s → Gives (IsFine context.builder) (if b then r else s)
+either-fine : (context : Context) (b : Bool) (r s : PhraseRule Follows) → Fine context r → Fine context s → Fine context (if b then r else s)
 either-fine context true r s h k = h
 either-fine context false r s h k = k
 
@@ -201,7 +185,7 @@ number-gives : (sign : SignOf) (value : Decimal) → is_decimal value ≡ true �
 number-gives sign value h [] sound = tt
 number-gives sign value h (token ∷ tokens) sound = by token.line token.terminal sound.0
   where
-    by : (line : ℕ) (terminal : Terminal) → IsSoundTerminal terminal → Holds IsSoundItem (number_item sign value (record { line = line; terminal = terminal } ∷ tokens))
+    by : (line : ℕ) (terminal : Terminal) → IsSoundTerminal terminal → Holds IsSoundItem (number_item sign value (at line terminal ∷ tokens))
     by line (Name column) name = (signed-decimal sign value h, name)
     by line (Opens word) s = signed-decimal sign value h
     by line (Number other) s = signed-decimal sign value h
@@ -217,13 +201,13 @@ signed_item-gives context [] sign sound = tt
 signed_item-gives context (token ∷ tokens) sign sound = by token.line token.terminal sound.0 (λ m. signed_item-gives context tokens m sound.1)
   where
     by : (line : ℕ) (terminal : Terminal) → IsSoundTerminal terminal → ((m : SignOf) → Holds IsSoundItem (signed_item context m tokens))
-        → Holds IsSoundItem (signed_item context sign (record { line = line; terminal = terminal } ∷ tokens))
+        → Holds IsSoundItem (signed_item context sign (at line terminal ∷ tokens))
     by line (Sign more) s later = passed IsSoundItem (signed_item context (product sign more) tokens) (later (product sign more))
     by line (Name column) s later = (signed-decimal sign one refl, s)
     by line (Number value) s later = passed IsSoundItem (number_item sign value tokens) (number-gives sign value s tokens sound.1)
     by line _ s later = tt
 
-item-gives : (context : Context) (line : ℕ) (terminal : Terminal) → IsSoundTerminal terminal → Gives IsSoundItem (item_from context (record { line = line; terminal = terminal }))
+item-gives : (context : Context) (line : ℕ) (terminal : Terminal) → IsSoundTerminal terminal → Gives IsSoundItem (item_from context (at line terminal))
 item-gives context line (Sign sign) s = λ tokens sound. signed_item-gives context tokens sign sound
 item-gives context line (Name column) s = λ tokens sound. (refl, s)
 item-gives context line (Number value) s = number-gives Plus value s
@@ -236,14 +220,14 @@ term-legal row term h =
     both_so (is_lp_name term.0) (is_decimal term.1 && true) (first_so (is_lp_name term.0) (is_decimal term.1) h)
     (both_so (is_decimal term.1) true (second_so (is_lp_name term.0) (is_decimal term.1) h) refl)
 
-objective_item-fine : (context : Context) (name : List ℕ) (item : Item) → IsNamed context → IsSoundItem item → Gives (IsFine context.builder) (objective_item context name item)
+objective_item-fine : (context : Context) (name : List ℕ) (item : Item) → IsNamed context → IsSoundItem item → Fine context (objective_item context name item)
 objective_item-fine context name (Term value column token) named h =
     declares-fine context token (InObjective name) (term_declared name (column, value)) named (λ b n. n) (term-legal name (column, value) (both_so (is_lp_name column) (is_decimal value) h.1 h.0))
 objective_item-fine context name (Lone value token) named h = by token.line token.terminal
   where
-    by : (line : ℕ) (terminal : Terminal) → Gives (IsFine context.builder) (objective_item context name (Lone value (record { line = line; terminal = terminal })))
-    by line (Sign sign) = declares-fine context (record { line = line; terminal = Sign sign }) (InObjective name) (declare_constant value ∷ []) named (λ b n. n) (both_so (is_decimal value) true h refl)
-    by line (Opens word) = declares-fine context (record { line = line; terminal = Opens word }) (InObjective name) (declare_constant value ∷ []) named (λ b n. n) (both_so (is_decimal value) true h refl)
+    by : (line : ℕ) (terminal : Terminal) → Fine context (objective_item context name (Lone value (at line terminal)))
+    by line (Sign sign) = declares-fine context (at line (Sign sign)) (InObjective name) (declare_constant value ∷ []) named (λ b n. n) (both_so (is_decimal value) true h refl)
+    by line (Opens word) = declares-fine context (at line (Opens word)) (InObjective name) (declare_constant value ∷ []) named (λ b n. n) (both_so (is_decimal value) true h refl)
     by line _ = λ tokens sound. tt
 
 -- ---- rows
@@ -255,7 +239,7 @@ terms-legal row (term ∷ terms) h =
     ∙ both_so (list_all is_lp_legal (term_declared row term)) (list_all is_lp_legal (flat_map (term_declared row) terms))
     (term-legal row term (first_so (is_sound_term term) (list_all is_sound_term terms) h)) (terms-legal row terms (second_so (is_sound_term term) (list_all is_sound_term terms) h))
 
-row_item-fine : (context : Context) (row : PartialRow) (item : Item) → IsNamed context → IsSoundRow row → IsSoundItem item → Gives (IsFine context.builder) (row_item context row item)
+row_item-fine : (context : Context) (row : PartialRow) (item : Item) → IsNamed context → IsSoundRow row → IsSoundItem item → Fine context (row_item context row item)
 row_item-fine context row (Term value column token) named r h =
     let more : PartialRow = record row { terms = row.terms ++ (column, value) ∷ [] } in
     either-fine context (list_any (λ term. same_bytes column term.0) row.terms) _ _ (λ tokens sound. tt)
@@ -268,7 +252,7 @@ row_item-fine context row (Term value column token) named r h =
     })))
 row_item-fine context row (Lone value token) named r h = by token.line token.terminal
   where
-    by : (line : ℕ) (terminal : Terminal) → Gives (IsFine context.builder) (row_item context row (Lone value (record { line = line; terminal = terminal })))
+    by : (line : ℕ) (terminal : Terminal) → Fine context (row_item context row (Lone value (at line terminal)))
     by line (Sign sign) = λ tokens sound. tt
     by line (Compares relation) = λ tokens sound. tt
     by line _ = λ tokens sound. tt
@@ -280,25 +264,25 @@ sense-gives : (context : Context) → Gives (λ (relation : Relation). Unit {0})
 sense-gives context [] sound = tt
 sense-gives context (token ∷ tokens) sound = by token.line token.terminal
   where
-    by : (line : ℕ) (terminal : Terminal) → Holds (λ (relation : Relation). Unit {0}) (next_relation context (record { line = line; terminal = terminal } ∷ tokens))
+    by : (line : ℕ) (terminal : Terminal) → Holds (λ (relation : Relation). Unit {0}) (next_relation context (at line terminal ∷ tokens))
     by line (Compares relation) = tt
     by line _ = tt
 
-row_first-fine : (context : Context) (row : PartialRow) (token : TerminalAt) → IsNamed context → IsSoundRow row → IsSoundToken token → Gives (IsFine context.builder) (row_first context row token)
+row_first-fine : (context : Context) (row : PartialRow) (token : TerminalAt) → IsNamed context → IsSoundRow row → IsSoundToken token → Fine context (row_first context row token)
 row_first-fine context row token named r s =
     then-gives IsSoundItem (IsFine context.builder) (item_from context token) (row_item context row) (item-gives context token.line token.terminal s) (λ item h. row_item-fine context row item named r h)
 
-row_left-fine : (context : Context) (name : List ℕ) (limit : Limit) → IsNamed context → is_lp_name name ≡ true → is_given limit ≡ true → Gives (IsFine context.builder) (row_after_left context name limit)
+row_left-fine : (context : Context) (name : List ℕ) (limit : Limit) → IsNamed context → is_lp_name name ≡ true → is_given limit ≡ true → Fine context (row_after_left context name limit)
 row_left-fine context name limit named h g =
     then-gives (λ (relation : Relation). Unit {0}) (IsFine context.builder) (next_relation context) (λ relation. next >>= row_first context (without_terms name (Some (limit, relation)))) (sense-gives context)
     (λ relation u. then-gives IsSoundToken (IsFine context.builder) next (row_first context (without_terms name (Some (limit, relation)))) next-gives
     (λ token s. row_first-fine context (without_terms name (Some (limit, relation))) token named (without-sound name (Some (limit, relation)) h g) s))
 
-row_number-fine : (context : Context) (name : List ℕ) (item : Item) → IsNamed context → is_lp_name name ≡ true → IsSoundItem item → Gives (IsFine context.builder) (row_number context name item)
+row_number-fine : (context : Context) (name : List ℕ) (item : Item) → IsNamed context → is_lp_name name ≡ true → IsSoundItem item → Fine context (row_number context name item)
 row_number-fine context name (Term value column token) named h s = row_item-fine context (without_terms name None) (Term value column token) named (without-sound name None h refl) s
 row_number-fine context name (Lone value token) named h s = by token.line token.terminal
   where
-    by : (line : ℕ) (terminal : Terminal) → Gives (IsFine context.builder) (row_number context name (Lone value (record { line = line; terminal = terminal })))
+    by : (line : ℕ) (terminal : Terminal) → Fine context (row_number context name (Lone value (at line terminal)))
     by line (Compares relation) = row_left-fine context name (limit_of value) named h (limit-given value s)
     by line (Sign sign) = λ tokens sound. tt
     by line _ = λ tokens sound. tt
@@ -307,14 +291,14 @@ default_row-name : (context : Context) → is_lp_name (default_row context) ≡ 
 default_row-name context =
     numbered-name (min (length context.builder.rows + 1) (2 ^ 64 - 1)) (omega (arith, min-le_right (length context.builder.rows + 1) (2 ^ 64 - 1)))
 
-row_signed-fine : (context : Context) (name : List ℕ) (sign : SignOf) (second : TerminalAt) → IsNamed context → is_lp_name name ≡ true → IsSoundToken second → Gives (IsFine context.builder) (row_signed context name sign second)
+row_signed-fine : (context : Context) (name : List ℕ) (sign : SignOf) (second : TerminalAt) → IsNamed context → is_lp_name name ≡ true → IsSoundToken second → Fine context (row_signed context name sign second)
 row_signed-fine context name sign second named h s = by second.line second.terminal s
   where
-    items : Gives (IsFine context.builder) (signed_item context sign >>= row_item context (without_terms name None))
+    items : Fine context (signed_item context sign >>= row_item context (without_terms name None))
     items = then-gives IsSoundItem (IsFine context.builder) (signed_item context sign) (row_item context (without_terms name None)) (λ tokens sound. signed_item-gives context tokens sign sound)
         (λ item i. row_item-fine context (without_terms name None) item named (without-sound name None h refl) i)
 
-    by : (line : ℕ) (terminal : Terminal) → IsSoundTerminal terminal → Gives (IsFine context.builder) (row_signed context name sign (record { line = line; terminal = terminal }))
+    by : (line : ℕ) (terminal : Terminal) → IsSoundTerminal terminal → Fine context (row_signed context name sign (at line terminal))
     by line Infinity s = then-gives IsSoundToken (IsFine context.builder) next (λ word. row_after_left context name (infinity sign)) next-gives (λ word w. row_left-fine context name (infinity sign) named h (infinity-given sign))
     by line (Number value) s =
         then-gives IsSoundToken (IsFine context.builder) next (λ number. number_item sign value >>= row_number context name) next-gives
@@ -328,12 +312,12 @@ row_signed-fine context name sign second named h s = by second.line second.termi
     by line Other s = items
 
 row_from-fine : (context : Context) (name : List ℕ) (line : ℕ) (terminal : Terminal) → IsNamed context → is_lp_name name ≡ true → IsSoundTerminal terminal
-    → Gives (IsFine context.builder) (row_from context name (record { line = line; terminal = terminal }))
+    → Fine context (row_from context name (at line terminal))
 row_from-fine context name line Infinity named h s = row_left-fine context name PlusInf named h refl
 row_from-fine context name line (Number value) named h s =
     then-gives IsSoundItem (IsFine context.builder) (number_item Plus value) (row_number context name) (number-gives Plus value s) (λ item i. row_number-fine context name item named h i)
 row_from-fine context name line (Name column) named h s =
-    row_item-fine context (without_terms name None) (Term one column (record { line = line; terminal = Name column })) named (without-sound name None h refl) (refl, s)
+    row_item-fine context (without_terms name None) (Term one column (at line (Name column))) named (without-sound name None h refl) (refl, s)
 row_from-fine context name line (Sign sign) named h s =
     then-gives IsSoundToken (IsFine context.builder) ahead (row_signed context name sign) ahead-gives (λ second t. row_signed-fine context name sign second named h t)
 row_from-fine context name line _ named h s = λ tokens sound. tt
@@ -342,18 +326,18 @@ colon-gives : Gives (λ (labelled : Bool). Unit {0}) colon
 colon-gives [] sound = tt
 colon-gives (token ∷ tokens) sound = by token.line token.terminal
   where
-    by : (line : ℕ) (terminal : Terminal) → Holds (λ (labelled : Bool). Unit {0}) (colon (record { line = line; terminal = terminal } ∷ tokens))
+    by : (line : ℕ) (terminal : Terminal) → Holds (λ (labelled : Bool). Unit {0}) (colon (at line terminal ∷ tokens))
     by line Colon = tt
     by line _ = tt
 
-row_named-fine : (context : Context) (name : List ℕ) (labelled : Bool) → IsNamed context → is_lp_name name ≡ true → Gives (IsFine context.builder) (row_named context name labelled)
+row_named-fine : (context : Context) (name : List ℕ) (labelled : Bool) → IsNamed context → is_lp_name name ≡ true → Fine context (row_named context name labelled)
 row_named-fine context name labelled named h =
     let row : PartialRow = record { name = default_row context; left = None; terms = (name, one) ∷ [] } in
     either-fine context labelled _ _
     (then-gives IsSoundToken (IsFine context.builder) next (row_from context name) next-gives (λ token s. row_from-fine context name token.line token.terminal named h s))
     (nothing-fine context (InRow row) named (in_row-plain row (record { name = default_row-name context; left = refl; terms = both_so (is_lp_name name && is_decimal one) true (both_so (is_lp_name name) true h refl) refl })))
 
-row-fine : (context : Context) (line : ℕ) (terminal : Terminal) → IsNamed context → IsSoundTerminal terminal → Gives (IsFine context.builder) (row context (record { line = line; terminal = terminal }))
+row-fine : (context : Context) (line : ℕ) (terminal : Terminal) → IsNamed context → IsSoundTerminal terminal → Fine context (row context (at line terminal))
 row-fine context line (Name name) named s = then-gives (λ (labelled : Bool). Unit {0}) (IsFine context.builder) colon (row_named context name) colon-gives (λ labelled u. row_named-fine context name labelled named s)
 row-fine context line (Opens word) named s = row_from-fine context (default_row context) line (Opens word) named (default_row-name context) s
 row-fine context line (Number value) named s = row_from-fine context (default_row context) line (Number value) named (default_row-name context) s
@@ -369,7 +353,7 @@ row-fine context line Other named s = row_from-fine context (default_row context
 unsigned_side-gives : (context : Context) (sign : SignOf) (token : TerminalAt) → IsSoundToken token → Gives IsSoundSide (unsigned_side context sign token)
 unsigned_side-gives context sign token s = by token.line token.terminal s
   where
-    by : (line : ℕ) (terminal : Terminal) → IsSoundTerminal terminal → Gives IsSoundSide (unsigned_side context sign (record { line = line; terminal = terminal }))
+    by : (line : ℕ) (terminal : Terminal) → IsSoundTerminal terminal → Gives IsSoundSide (unsigned_side context sign (at line terminal))
     by line (Number value) s = λ tokens sound. limit-given (apply_sign sign value) (signed-decimal sign value s)
     by line Infinity s = λ tokens sound. infinity-given sign
     by line _ s = λ tokens sound. tt
@@ -377,10 +361,10 @@ unsigned_side-gives context sign token s = by token.line token.terminal s
 side_from-gives : (context : Context) (token : TerminalAt) → IsSoundToken token → Gives IsSoundSide (side_from context token)
 side_from-gives context token s = by token.line token.terminal s
   where
-    by : (line : ℕ) (terminal : Terminal) → IsSoundTerminal terminal → Gives IsSoundSide (side_from context (record { line = line; terminal = terminal }))
+    by : (line : ℕ) (terminal : Terminal) → IsSoundTerminal terminal → Gives IsSoundSide (side_from context (at line terminal))
     by line (Sign sign) s = then-gives IsSoundToken IsSoundSide next (λ second. unsigned_side context sign second) next-gives (λ second t. unsigned_side-gives context sign second t)
-    by line (Number value) s = unsigned_side-gives context Plus (record { line = line; terminal = Number value }) s
-    by line Infinity s = unsigned_side-gives context Plus (record { line = line; terminal = Infinity }) s
+    by line (Number value) s = unsigned_side-gives context Plus (at line (Number value)) s
+    by line Infinity s = unsigned_side-gives context Plus (at line Infinity) s
     by line _ s = λ tokens sound. tt
 
 side-gives : (context : Context) → Gives IsSoundSide (side context)
@@ -400,7 +384,7 @@ upper-given : (o : Option Limit) → IsGiven o → is_given (unwrap_or o PlusInf
 upper-given None h = refl
 upper-given (Some limit) h = h
 
-row_whole-fine : (context : Context) (row : PartialRow) (relation : Relation) (right : Side) → IsNamed context → IsSoundRow row → IsSoundSide right → Gives (IsFine context.builder) (row_whole context row relation right)
+row_whole-fine : (context : Context) (row : PartialRow) (relation : Relation) (right : Side) → IsNamed context → IsSoundRow row → IsSoundSide right → Fine context (row_whole context row relation right)
 row_whole-fine context row relation right named r h =
     let limits = row_limits row.left relation right.limit in
     let given = limits-legal row.left relation right.limit r.left h in
@@ -412,7 +396,7 @@ row_whole-fine context row relation right named r h =
     (both_so (is_lp_name row.name) (is_given lower && is_given upper) r.name (both_so (is_given lower) (is_given upper) (lower-given limits.lower given.0) (upper-given limits.upper given.1)))
     (terms-legal row.name row.terms r.terms))
 
-row_end-fine : (context : Context) (row : PartialRow) (relation : Relation) (token : TerminalAt) → IsNamed context → IsSoundRow row → Gives (IsFine context.builder) (row_end context row relation token)
+row_end-fine : (context : Context) (row : PartialRow) (relation : Relation) (token : TerminalAt) → IsNamed context → IsSoundRow row → Fine context (row_end context row relation token)
 row_end-fine context row relation token named r =
     either-fine context (fits_left row.left relation) _ _
     (then-gives IsSoundSide (IsFine context.builder) (side context) (row_whole context row relation) (side-gives context) (λ right h. row_whole-fine context row relation right named r h))
@@ -428,7 +412,7 @@ sides-legal column (Some l) (Some u) h k = both_so (is_given l) (is_given u && t
 
 -- declarations that are not rejected come before, and the place has no further requirement
 bounded-fine : (context : Context) (front : Declarations) (column : List ℕ) (limits : Limits) (last : TerminalAt) (place : Place) → IsNamed context → IsPlain place
-    → refusals_in_turn context.builder front ≡ [] → list_all is_lp_legal front ≡ true → AreGiven limits → Gives (IsFine context.builder) (bound_sides context front column limits last place)
+    → refusals_in_turn context.builder front ≡ [] → list_all is_lp_legal front ≡ true → AreGiven limits → Fine context (bound_sides context front column limits last place)
 bounded-fine context front column limits last place named plain unrefused legal given =
     let sides = bounds_declared column limits.lower limits.upper in
     let middle = with_declarations context.builder front in
@@ -440,37 +424,37 @@ bounded-fine context front column limits last place named plain unrefused legal 
 column-legal : (column : List ℕ) → is_lp_name column ≡ true → list_all is_lp_legal (declare_column column ∷ []) ≡ true
 column-legal column h = both_so (is_lp_name column) true h refl
 
-bound_after-fine : (context : Context) (column : List ℕ) (token : TerminalAt) → IsNamed context → is_lp_name column ≡ true → Gives (IsFine context.builder) (bound_after context column token)
+bound_after-fine : (context : Context) (column : List ℕ) (token : TerminalAt) → IsNamed context → is_lp_name column ≡ true → Fine context (bound_after context column token)
 bound_after-fine context column token named h = by token.line token.terminal
   where
-    by : (line : ℕ) (terminal : Terminal) → Gives (IsFine context.builder) (bound_after context column (record { line = line; terminal = terminal }))
-    by line Free = bounded-fine context (declare_column column ∷ []) column no_limits (record { line = line; terminal = Free }) (InBounds None) named (λ b n. n) refl (column-legal column h) (refl, refl)
+    by : (line : ℕ) (terminal : Terminal) → Fine context (bound_after context column (at line terminal))
+    by line Free = bounded-fine context (declare_column column ∷ []) column no_limits (at line Free) (InBounds None) named (λ b n. n) refl (column-legal column h) (refl, refl)
     by line (Compares relation) =
         then-gives IsSoundSide (IsFine context.builder) (side context) (bound_right context (declare_column column ∷ []) column relation) (side-gives context)
         (λ right s. bounded-fine context (declare_column column ∷ []) column (limits_by relation right.limit) right.last (InBounds None) named (λ b n. n) refl (column-legal column h) (limits_by-given relation right.limit s))
     by line _ = λ tokens sound. tt
 
-bound_column-fine : (context : Context) (limit : Limit) (relation : Relation) (token : TerminalAt) → IsNamed context → is_given limit ≡ true → IsSoundToken token → Gives (IsFine context.builder) (bound_column context limit relation token)
+bound_column-fine : (context : Context) (limit : Limit) (relation : Relation) (token : TerminalAt) → IsNamed context → is_given limit ≡ true → IsSoundToken token → Fine context (bound_column context limit relation token)
 bound_column-fine context limit relation token named g s = by token.line token.terminal s
   where
-    by : (line : ℕ) (terminal : Terminal) → IsSoundTerminal terminal → Gives (IsFine context.builder) (bound_column context limit relation (record { line = line; terminal = terminal }))
+    by : (line : ℕ) (terminal : Terminal) → IsSoundTerminal terminal → Fine context (bound_column context limit relation (at line terminal))
     by line (Name column) h =
-        bounded-fine context (declare_column column ∷ []) column (limits_by (flip relation) limit) (record { line = line; terminal = Name column }) (InBounds (Some (column, relation)))
+        bounded-fine context (declare_column column ∷ []) column (limits_by (flip relation) limit) (at line (Name column)) (InBounds (Some (column, relation)))
         named (λ b n. n) refl (column-legal column h) (limits_by-given (flip relation) limit g)
     by line _ h = λ tokens sound. tt
 
-bound_left-fine : (context : Context) (left : Side) → IsNamed context → IsSoundSide left → Gives (IsFine context.builder) (bound_left context left)
+bound_left-fine : (context : Context) (left : Side) → IsNamed context → IsSoundSide left → Fine context (bound_left context left)
 bound_left-fine context left named h =
     then-gives (λ (relation : Relation). Unit {0}) (IsFine context.builder) (next_relation context) (λ relation. next >>= bound_column context left.limit relation) (sense-gives context)
     (λ relation u. then-gives IsSoundToken (IsFine context.builder) next (bound_column context left.limit relation) next-gives (λ token s. bound_column-fine context left.limit relation token named h s))
 
-bound-fine : (context : Context) (line : ℕ) (terminal : Terminal) → IsNamed context → IsSoundTerminal terminal → Gives (IsFine context.builder) (bound context (record { line = line; terminal = terminal }))
+bound-fine : (context : Context) (line : ℕ) (terminal : Terminal) → IsNamed context → IsSoundTerminal terminal → Fine context (bound context (at line terminal))
 bound-fine context line terminal named s = by terminal s
   where
-    sided : (t : Terminal) → IsSoundTerminal t → Gives (IsFine context.builder) (side_from context (record { line = line; terminal = t }) >>= bound_left context)
-    sided t s = then-gives IsSoundSide (IsFine context.builder) (side_from context (record { line = line; terminal = t })) (bound_left context) (side_from-gives context (record { line = line; terminal = t }) s) (λ left h. bound_left-fine context left named h)
+    sided : (t : Terminal) → IsSoundTerminal t → Fine context (side_from context (at line t) >>= bound_left context)
+    sided t s = then-gives IsSoundSide (IsFine context.builder) (side_from context (at line t)) (bound_left context) (side_from-gives context (at line t) s) (λ left h. bound_left-fine context left named h)
 
-    by : (t : Terminal) → IsSoundTerminal t → Gives (IsFine context.builder) (bound context (record { line = line; terminal = t }))
+    by : (t : Terminal) → IsSoundTerminal t → Fine context (bound context (at line t))
     by (Name column) s = then-gives IsSoundToken (IsFine context.builder) next (bound_after context column) next-gives (λ token h. bound_after-fine context column token named s)
     by (Opens word) s = sided (Opens word) s
     by (Number value) s = sided (Number value) s
@@ -481,7 +465,7 @@ bound-fine context line terminal named s = by terminal s
     by Free s = sided Free s
     by Other s = sided Other s
 
-second_side-fine : (context : Context) (left : Option (List ℕ × Relation)) (relation : Relation) (token : TerminalAt) → IsNamed context → Gives (IsFine context.builder) (second_side context left relation token)
+second_side-fine : (context : Context) (left : Option (List ℕ × Relation)) (relation : Relation) (token : TerminalAt) → IsNamed context → Fine context (second_side context left relation token)
 second_side-fine context None relation token named = λ tokens sound. tt
 second_side-fine context (Some left) relation token named =
     either-fine context (fits_second left.1 relation) _ _
@@ -492,26 +476,26 @@ second_side-fine context (Some left) relation token named =
 -- ---- phrases
 
 listed-fine : (place : Place) (kind_declared : List ℕ → Declaration) (context : Context) (line : ℕ) (terminal : Terminal) → IsNamed context → IsPlain place → ((name : List ℕ) → is_lp_legal (kind_declared name) ≡ true)
-    → IsSoundTerminal terminal → Gives (IsFine context.builder) (name_in_section place kind_declared context (record { line = line; terminal = terminal }))
+    → IsSoundTerminal terminal → Fine context (name_in_section place kind_declared context (at line terminal))
 listed-fine place kind_declared context line (Name column) named plain legal s =
-    declares-fine context (record { line = line; terminal = Name column }) place (declare_column column ∷ kind_declared column ∷ []) named plain
+    declares-fine context (at line (Name column)) place (declare_column column ∷ kind_declared column ∷ []) named plain
     (both_so (is_lp_name column) (is_lp_legal (kind_declared column) && true) s (both_so (is_lp_legal (kind_declared column)) true (legal column) refl))
 listed-fine place kind_declared context line _ named plain legal s = λ tokens sound. tt
 
 phrase-fine : (place : Place) (context : Context) (line : ℕ) (terminal : Terminal) → IsSoundPoint (record { place = place; context = context }) → IsSoundTerminal terminal
-    → Gives (IsFine context.builder) (phrase place context (record { line = line; terminal = terminal }))
+    → Fine context (phrase place context (at line terminal))
 phrase-fine AtStart context line terminal point s = λ tokens sound. tt
 phrase-fine (BeforeItems name) context line terminal named s =
-    then-gives IsSoundItem (IsFine context.builder) (item_from context (record { line = line; terminal = terminal })) (objective_item context name) (item-gives context line terminal s) (λ item i. objective_item-fine context name item named i)
+    then-gives IsSoundItem (IsFine context.builder) (item_from context (at line terminal)) (objective_item context name) (item-gives context line terminal s) (λ item i. objective_item-fine context name item named i)
 phrase-fine (InObjective name) context line (Sign sign) named s =
     then-gives IsSoundItem (IsFine context.builder) (signed_item context sign) (objective_item context name) (λ tokens sound. signed_item-gives context tokens sign sound) (λ item i. objective_item-fine context name item named i)
 phrase-fine (InObjective name) context line _ named s = λ tokens sound. tt
 phrase-fine BetweenRows context line terminal named s = row-fine context line terminal named s
 phrase-fine (InRow row) context line (Sign sign) point s =
     then-gives IsSoundItem (IsFine context.builder) (signed_item context sign) (row_item context row) (λ tokens sound. signed_item-gives context tokens sign sound) (λ item i. row_item-fine context row item point.0 point.1 i)
-phrase-fine (InRow row) context line (Compares relation) point s = row_end-fine context row relation (record { line = line; terminal = Compares relation }) point.0 point.1
+phrase-fine (InRow row) context line (Compares relation) point s = row_end-fine context row relation (at line (Compares relation)) point.0 point.1
 phrase-fine (InRow row) context line _ point s = λ tokens sound. tt
-phrase-fine (InBounds left) context line (Compares relation) named s = second_side-fine context left relation (record { line = line; terminal = Compares relation }) named
+phrase-fine (InBounds left) context line (Compares relation) named s = second_side-fine context left relation (at line (Compares relation)) named
 phrase-fine (InBounds left) context line (Name name) named s = bound-fine context line (Name name) named s
 phrase-fine (InBounds left) context line (Opens word) named s = bound-fine context line (Opens word) named s
 phrase-fine (InBounds left) context line (Number value) named s = bound-fine context line (Number value) named s
@@ -526,7 +510,7 @@ phrase-fine InSemis context line terminal named s = listed-fine InSemis declare_
 
 -- ---- sections
 
-line_end-fine : (context : Context) (line : ℕ) → IsNamed context → Gives (IsFine context.builder) (line_end context line)
+line_end-fine : (context : Context) (line : ℕ) → IsNamed context → Fine context (line_end context line)
 line_end-fine context line named [] sound = (refl, named.0)
 line_end-fine context line named (token ∷ tokens) sound = by (token.line == line)
   where
@@ -539,20 +523,20 @@ sections_seen-plain To b n = n
 sections_seen-plain That b n = n
 sections_seen-plain Continuous b n = n
 
-last_word-fine : (context : Context) (wanted : LastWord) (token : TerminalAt) → IsNamed context → Gives (IsFine context.builder) (last_word context wanted token)
+last_word-fine : (context : Context) (wanted : LastWord) (token : TerminalAt) → IsNamed context → Fine context (last_word context wanted token)
 last_word-fine context wanted token named = by token.line token.terminal
   where
-    by : (line : ℕ) (terminal : Terminal) → Gives (IsFine context.builder) (last_word context wanted (record { line = line; terminal = terminal }))
+    by : (line : ℕ) (terminal : Terminal) → Fine context (last_word context wanted (at line terminal))
     by line (Name word) = either-fine context (is_last_word wanted word) _ _ (nothing-fine context (opened_by wanted) named (sections_seen-plain wanted)) (λ tokens sound. tt)
     by line _ = λ tokens sound. tt
 
-next_word-fine : (context : Context) (wanted : LastWord) → IsNamed context → Gives (IsFine context.builder) (next >>= last_word context wanted)
+next_word-fine : (context : Context) (wanted : LastWord) → IsNamed context → Fine context (next >>= last_word context wanted)
 next_word-fine context wanted named = then-gives IsSoundToken (IsFine context.builder) next (last_word context wanted) next-gives (λ word w. last_word-fine context wanted word named)
 
-semi-fine : (context : Context) (token : TerminalAt) → IsNamed context → Gives (IsFine context.builder) (semi_from context token)
+semi-fine : (context : Context) (token : TerminalAt) → IsNamed context → Fine context (semi_from context token)
 semi-fine context token named = by token.line token.terminal
   where
-    by : (line : ℕ) (terminal : Terminal) → Gives (IsFine context.builder) (semi_from context (record { line = line; terminal = terminal }))
+    by : (line : ℕ) (terminal : Terminal) → Fine context (semi_from context (at line terminal))
     by line (Sign Minus) =
         then-gives IsSoundToken (IsFine context.builder) next (λ dash. next >>= last_word context Continuous) next-gives
         (λ dash d. next_word-fine context Continuous named)
@@ -564,7 +548,7 @@ IsLater words.Minimize = ⊥
 IsLater words.Maximize = ⊥
 IsLater _ = Unit {0}
 
-start-fine : (context : Context) (token : TerminalAt) (word : SectionWord) → IsLater word → IsNamed context → Gives (IsFine context.builder) (section_start context token word)
+start-fine : (context : Context) (token : TerminalAt) (word : SectionWord) → IsLater word → IsNamed context → Fine context (section_start context token word)
 start-fine context token words.Minimize later named = absurd later
 start-fine context token words.Maximize later named = absurd later
 start-fine context token words.Rows later named = nothing-fine context BetweenRows named (λ b n. n)
@@ -577,10 +561,10 @@ start-fine context token words.Semi later named = then-gives IsSoundToken (IsFin
 start-fine context token words.Semis later named = nothing-fine context InSemis named (λ b n. n)
 start-fine context token words.End later named = line_end-fine context token.line named
 
-later-fine : (context : Context) (token : TerminalAt) (word : SectionWord) → IsLater word → IsNamed (record context { sections_seen = with_section context.sections_seen (section_of word) }) → Gives (IsFine context.builder) (section_from context token word)
+later-fine : (context : Context) (token : TerminalAt) (word : SectionWord) → IsLater word → IsNamed (record context { sections_seen = with_section context.sections_seen (section_of word) }) → Fine context (section_from context token word)
 later-fine context token word later named = by (section_fault context.sections_seen (section_of word))
   where
-    by : (o : Option FaultKind) → Gives (IsFine context.builder) (elim o as (λ _. PhraseRule Follows) [
+    by : (o : Option FaultKind) → Fine context (elim o as (λ _. PhraseRule Follows) [
       | Some kind ↦ fails token kind
       | None ↦ section_start (record context { sections_seen = with_section context.sections_seen (section_of word) }) token word
     ])
@@ -588,7 +572,7 @@ later-fine context token word later named = by (section_fault context.sections_s
     by None = start-fine (record context { sections_seen = with_section context.sections_seen (section_of word) }) token word later named
 
 -- after the objective was opened
-section-fine : (context : Context) (token : TerminalAt) (word : SectionWord) → IsNamed context → Gives (IsFine context.builder) (section_from context token word)
+section-fine : (context : Context) (token : TerminalAt) (word : SectionWord) → IsNamed context → Fine context (section_from context token word)
 section-fine context token words.Minimize named = rw (named.1, section_from) (λ tokens sound. tt)
 section-fine context token words.Maximize named = rw (named.1, section_from) (λ tokens sound. tt)
 section-fine context token words.Rows named = later-fine context token words.Rows tt named
@@ -616,29 +600,29 @@ opens-declared token place made plain named legal = by (refusals_in_turn empty_d
     by (refusal ∷ more) e = λ tokens sound. tt
 
 objective_named-fine : (goal : Sense) (name : List ℕ) (line : ℕ) (terminal : Terminal) → is_lp_name name ≡ true
-    → Gives (IsFine empty_draft) (objective_named opening goal name (record { line = line; terminal = terminal }))
+    → Gives (IsFine empty_draft) (objective_named opening goal name (at line terminal))
 objective_named-fine goal name line terminal h = by terminal
   where
     legal : {b : Bool} → b ≡ true → (is_lp_name name && b) ≡ true
     legal e = both_so (is_lp_name name) _ h e
 
-    first_item : (t : Terminal) → Gives (IsFine empty_draft) (declares opening (record { line = line; terminal = t }) (InObjective default_objective) (first_item_declared goal name))
-    first_item t = opens-declared (record { line = line; terminal = t }) (InObjective default_objective) (first_item_declared goal name) (λ b n. n) refl (legal refl)
+    first_item : (t : Terminal) → Gives (IsFine empty_draft) (declares opening (at line t) (InObjective default_objective) (first_item_declared goal name))
+    first_item t = opens-declared (at line t) (InObjective default_objective) (first_item_declared goal name) (λ b n. n) refl (legal refl)
 
-    by : (t : Terminal) → Gives (IsFine empty_draft) (objective_named opening goal name (record { line = line; terminal = t }))
-    by Colon = then-gives IsSoundToken (IsFine empty_draft) next (λ colon. declares opening (record { line = line; terminal = Colon }) (BeforeItems name) (objective_declared goal name)) next-gives
-        (λ colon c. opens-declared (record { line = line; terminal = Colon }) (BeforeItems name) (objective_declared goal name) (λ b n. n) refl (legal refl))
+    by : (t : Terminal) → Gives (IsFine empty_draft) (objective_named opening goal name (at line t))
+    by Colon = then-gives IsSoundToken (IsFine empty_draft) next (λ colon. declares opening (at line Colon) (BeforeItems name) (objective_declared goal name)) next-gives
+        (λ colon c. opens-declared (at line Colon) (BeforeItems name) (objective_declared goal name) (λ b n. n) refl (legal refl))
     by t = first_item t
 
 objective-fine : (goal : Sense) → Gives (IsFine empty_draft) (objective opening goal)
 objective-fine goal = then-gives IsSoundToken (IsFine empty_draft) ahead (objective_from opening goal) ahead-gives (λ token s. by token.line token.terminal s)
   where
-    by : (line : ℕ) (terminal : Terminal) → IsSoundTerminal terminal → Gives (IsFine empty_draft) (objective_from opening goal (record { line = line; terminal = terminal }))
+    by : (line : ℕ) (terminal : Terminal) → IsSoundTerminal terminal → Gives (IsFine empty_draft) (objective_from opening goal (at line terminal))
     by line (Name name) s =
         then-gives IsSoundToken (IsFine empty_draft) next (λ first. ahead >>= objective_named opening goal name) next-gives
         (λ first f. then-gives IsSoundToken (IsFine empty_draft) ahead (objective_named opening goal name) ahead-gives (λ second t. objective_named-fine goal name second.line second.terminal s))
     by line terminal s =
-        opens-declared (record { line = line; terminal = terminal }) (BeforeItems default_objective) (objective_declared goal default_objective) (λ b n. n) refl refl
+        opens-declared (at line terminal) (BeforeItems default_objective) (objective_declared goal default_objective) (λ b n. n) refl refl
 
 -- at the start, no other section may be opened
 first_section-fine : (token : TerminalAt) (word : SectionWord) → Gives (IsFine empty_draft) (section_from start.context token word)
@@ -661,15 +645,15 @@ named-point InBinaries context m h = inr h
 named-point InSemis context m h = inr h
 
 opens-fine : (place : Place) (context : Context) (token : TerminalAt) (word : SectionWord) (b : Bool) → may_begin_section place ≡ b → IsSoundPoint (record { place = place; context = context })
-    → Gives (IsFine context.builder) (if b then section_from context token word else refuses context token BadToken)
+    → Fine context (if b then section_from context token word else refuses context token BadToken)
 opens-fine place context token word false e h = λ tokens sound. tt
 opens-fine place context token word true e h = elim (named-point place context e h) [
   | inl same ↦ subst (λ (b : Context). Gives (IsFine b.builder) (section_from b token word)) (sym same) (first_section-fine token word)
   | inr named ↦ section-fine context token word named
 ]
 
-pub phrase_at-fine : (point : Point) (line : ℕ) (terminal : Terminal) → IsSoundPoint point → IsSoundTerminal terminal → Gives (IsFine point.context.builder) (phrase_at point (record { line = line; terminal = terminal }))
-phrase_at-fine point line (Opens word) h s = opens-fine point.place point.context (record { line = line; terminal = Opens word }) word (may_begin_section point.place) refl h
+pub phrase_at-fine : (point : Point) (line : ℕ) (terminal : Terminal) → IsSoundPoint point → IsSoundTerminal terminal → Gives (IsFine point.context.builder) (phrase_at point (at line terminal))
+phrase_at-fine point line (Opens word) h s = opens-fine point.place point.context (at line (Opens word)) word (may_begin_section point.place) refl h
 phrase_at-fine point line (Name name) h s = phrase-fine point.place point.context line (Name name) h s
 phrase_at-fine point line (Number value) h s = phrase-fine point.place point.context line (Number value) h s
 phrase_at-fine point line (Sign sign) h s = phrase-fine point.place point.context line (Sign sign) h s

@@ -1,40 +1,15 @@
 -- Taking a phrase as a whole is the same as taking its tokens one after another.
-use Rattle.std.proofs.Common.{◌≡◌, ◌≤◌, refl, sym, ap, subst, ◌∙◌, arith, ℕ, suc, List, [], ◌∷◌, length, inl, inr, Bool, true, false}
-use Rattle.std.specs.Prelude.{Option, Some, None, Result, Ok, Err, if◌then◌else◌}
-use Rattle.std.proofs.lemmas.Option.{none-some, same_Some}
-use Rattle.mpslp_types.specs.declared.kinds.Limit.{Limit}
-use Rattle.mpslp_types.specs.declared.faults.FaultKind.TheVariants.{MixedSenses}
-use Rattle.mpslp_builder.specs.Declaration.{declare_column}
-use Rattle.mpslp_lines.specs.declared.errors.LineError.{LineError}
-use Rattle.mpslp_lp_tokens.specs.Token.{Token}
-use Rattle.mpslp_lp_grammar.specs.declared.signs.Sign.{Sign as SignOf}
-use Rattle.mpslp_lp_grammar.specs.declared.signs.Sign.TheVariants.{Plus}
-use Rattle.mpslp_lp_grammar.specs.declared.relations.Relation.{Relation}
-use Rattle.mpslp_lp_grammar.specs.declared.context.Context.{Context}
-use Rattle.mpslp_lp_grammar.specs.declared.states.ListSection.{ListSection}
+use Rattle.mpslp_lp.proofs.Prelude
+use Prelude.{◌≡◌, ◌≤◌, refl, sym, ap, subst, ◌∙◌, arith, ℕ, suc, List, [], ◌∷◌, length, inl, inr, Bool, true, false, Option, Some, None}
+use Prelude.{Result, Ok, Err, if◌then◌else◌, none-some, same_Some, Limit, MixedSenses, declare_column, LineError, Token, SignOf, Plus}
+use Prelude.{Relation, Context, BetweenRows, InRow, InBounds, SideOfRow, SideOfBound, State, Between, RowName, RowLabel, BoundName}
+use Prelude.{BoundSign, BoundLeft, BoundLeftRelation, AtSide, SideSign, Terminal, Sign, Number, Name, Compares, Infinity, Free, Colon}
+use Prelude.{limit_of_terminal, terminal_fault, limits_by, flip, fits_second, fits_left, PartialRow, no_limits, AfterToken, Goes, refuse}
+use Prelude.{take_side_value, take_side, take_bound, listed_at, kind_declared, name_taken, take, TakesToken, error_before, take_tokens}
+use Prelude.{token_faults, Begins, BeginsWithSide, BeginsWithRight, TakesSome}
+use Rattle.mpslp_lp.proofs.{LineTokens.{tokens-refused}, PlainTerms.{step}}
+use Rattle.mpslp_lp_grammar.specs.{declared.states.ListSection.{ListSection}, declared.states.SideOwner.{SideOwner}}
 use Rattle.mpslp_lp_grammar.specs.declared.states.ListSection.TheVariants as lists
-use Rattle.mpslp_lp_grammar.specs.declared.states.Place.TheVariants.{BetweenRows, InRow, InBounds}
-use Rattle.mpslp_lp_grammar.specs.declared.states.SideOwner.{SideOwner}
-use Rattle.mpslp_lp_grammar.specs.declared.states.SideOwner.TheVariants.{SideOfRow, SideOfBound}
-use Rattle.mpslp_lp_grammar.specs.declared.states.State.{State}
-use Rattle.mpslp_lp_grammar.specs.declared.states.State.TheVariants.{Between, RowName, RowLabel, BoundName, BoundSign, BoundLeft, BoundLeftRelation, AtSide, SideSign}
-use Rattle.mpslp_lp_grammar.specs.Terminal.{Terminal}
-use Rattle.mpslp_lp_grammar.specs.Terminal.Terminal.{Sign, Number, Name, Compares, Infinity, Free, Colon}
-use Rattle.mpslp_lp_grammar.specs.TerminalToken.{limit_of_terminal}
-use Rattle.mpslp_lp_grammar.specs.Phrase.{terminal_fault}
-use Rattle.mpslp_lp_grammar.specs.Items.{limits_by, flip, fits_second}
-use Rattle.mpslp_lp_grammar.specs.Rows.{fits_left}
-use Rattle.mpslp_lp_grammar.specs.PartialRow.{PartialRow}
-use Rattle.mpslp_lp_grammar.specs.Grammar.{no_limits}
-use Rattle.mpslp_lp_grammar.specs.AfterToken.{AfterToken, Goes, refuse, take_side_value, take_side, take_bound}
-use Rattle.mpslp_lp_grammar.specs.FirstToken.{listed_at, kind_declared, name_taken}
-use Rattle.mpslp_lp_grammar.specs.TokenStep.{take}
-use Rattle.mpslp_lp_grammar.specs.Declares.{TakesToken, error_before}
-use Rattle.mpslp_lp.specs.LineByLine.{take_tokens, token_faults}
-use Rattle.mpslp_lp.specs.PlainTerm.{Begins}
-use Rattle.mpslp_lp.specs.PlainPhrase.{BeginsWithSide, BeginsWithRight, TakesSome}
-use Rattle.mpslp_lp.proofs.LineTokens.{tokens-refused}
-use Rattle.mpslp_lp.proofs.PlainTerms.{step}
 
 pub begins-fewer : (found more : List Token) (terminal : Terminal) → Begins found terminal more → length more ≤ length found
 begins-fewer found more terminal b =

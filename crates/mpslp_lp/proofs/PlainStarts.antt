@@ -1,34 +1,11 @@
 -- Taking the start of a row as a whole is the same as taking its tokens one after another.
-use Rattle.std.proofs.Common.{◌≡◌, ◌≤◌, refl, sym, ap, ◌∙◌, arith, ℕ, List, [], ◌∷◌, length, map, inl, inr}
-use Rattle.std.specs.Prelude.{Some, None, Result, Ok, Err, MatchResult}
-use Rattle.std.proofs.lemmas.Bool.{false≢true}
-use Rattle.mpslp_types.specs.FaultOrder.{least_kind}
-use Rattle.mpslp_decimal.specs.Decimal.{Number as Decimal}
-use Rattle.mpslp_lines.specs.declared.errors.LineError.{LineError}
-use Rattle.mpslp_lines.specs.declared.errors.LineError.TheVariants.{Fault, OutOfMemory}
-use Rattle.mpslp_lp_tokens.specs.Token.{Token}
-use Rattle.mpslp_lp_grammar.specs.declared.signs.Sign.{Sign as SignOf}
-use Rattle.mpslp_lp_grammar.specs.declared.signs.Sign.TheVariants.{Plus}
-use Rattle.mpslp_lp_grammar.specs.declared.context.Context.{Context}
-use Rattle.mpslp_lp_grammar.specs.declared.states.Place.TheVariants.{InRow}
-use Rattle.mpslp_lp_grammar.specs.declared.states.ItemOwner.TheVariants.{OfRow}
-use Rattle.mpslp_lp_grammar.specs.declared.states.State.{State}
-use Rattle.mpslp_lp_grammar.specs.declared.states.State.TheVariants.{Between, RowLabel, RowSign, RowNumber}
-use Rattle.mpslp_lp_grammar.specs.Terminal.{Terminal}
-use Rattle.mpslp_lp_grammar.specs.Terminal.Terminal.{Sign, Number, Name}
-use Rattle.mpslp_lp_grammar.specs.TerminalToken.{as_terminal}
-use Rattle.mpslp_lp_grammar.specs.Items.{one, apply_sign}
-use Rattle.mpslp_lp_grammar.specs.Declares.{AddsTerm}
-use Rattle.mpslp_lp_grammar.specs.PartialRow.{PartialRow}
-use Rattle.mpslp_lp_grammar.specs.Rows.{without_terms}
-use Rattle.mpslp_lp_grammar.specs.AfterToken.{AfterToken, Goes, Refuses, take_term}
-use Rattle.mpslp_lp_grammar.specs.TokenStep.{take}
-use Rattle.mpslp_lp.specs.LineByLine.{take_tokens, take_all, token_faults}
-use Rattle.mpslp_lp.specs.PlainTerm.{Begins}
-use Rattle.mpslp_lp.specs.PlainPhrase.{TakesSome}
-use Rattle.mpslp_lp.specs.PlainStart.{BeginsWithColumn, BeginsWithTerm, row_of_term}
-use Rattle.mpslp_lp.proofs.PlainTerms.{step}
-use Rattle.mpslp_lp.proofs.PlainPhrases.{begins-fewer, some-after}
+use Rattle.mpslp_lp.proofs.Prelude
+use Prelude.{◌≡◌, ◌≤◌, refl, sym, ap, ◌∙◌, arith, ℕ, List, [], ◌∷◌, length, map, inl, inr, Some, None, Result, Ok, Err, MatchResult}
+use Prelude.{false≢true, least_kind, Decimal, LineError, Fault, OutOfMemory, Token, SignOf, Plus, Context, InRow, OfRow, State, Between}
+use Prelude.{RowLabel, RowSign, RowNumber, Terminal, Sign, Number, Name, as_terminal, one, apply_sign, AddsTerm, PartialRow, without_terms}
+use Prelude.{AfterToken, Goes, Refuses, take_term, take, take_tokens, take_all, token_faults, Begins, TakesSome, BeginsWithColumn}
+use Prelude.{BeginsWithTerm, row_of_term}
+use Rattle.mpslp_lp.proofs.{PlainPhrases.{begins-fewer, some-after}, PlainTerms.{step}}
 
 -- ---- two states in which the first token does the same
 

@@ -1,35 +1,16 @@
 -- Taking a sign, an optional number and a name as a whole is the same as taking them one after another.
-use Rattle.std.proofs.Common.{◌≡◌, refl, sym, ap, subst, ◌∙◌, ℕ, List, [], ◌∷◌, ◌++◌, Bool, inl, inr}
-use Rattle.std.specs.Prelude.{Option, Some, None, Result, Ok, Err, if◌then◌else◌, codes}
-use Rattle.std.specs.Result.{result_unwrap_or}
-use Rattle.std.specs.List.{cons_option}
-use Rattle.std.proofs.lemmas.Option.{none-some}
-use Rattle.mpslp_types.specs.declared.faults.FaultKind.{FaultKind}
-use Rattle.mpslp_types.specs.declared.faults.FaultKind.TheVariants.{DuplicateEntry}
-use Rattle.mpslp_lines.specs.FaultTests.{value_of, number_fault}
-use Rattle.mpslp_lines.specs.declared.errors.LineError.{LineError}
-use Rattle.mpslp_lines.specs.declared.errors.LineError.TheVariants.{Fault, OutOfMemory}
-use Rattle.mpslp_decimal.specs.Decimal.{Number as Decimal, zero_number, trailing_zeros}
+use Rattle.mpslp_decimal.specs.Decimal.{trailing_zeros}
+use Rattle.mpslp_lp.proofs.Prelude
+use Prelude.{◌≡◌, refl, sym, ap, subst, ◌∙◌, ℕ, List, [], ◌∷◌, ◌++◌, Bool, inl, inr, Option, Some, None, Result, Ok, Err, if◌then◌else◌}
+use Prelude.{codes, cons_option, none-some, FaultKind, DuplicateEntry, value_of, number_fault, LineError, Fault, OutOfMemory, Decimal}
+use Prelude.{zero_number, SignOf, one, apply_sign, PartialRow, Token, Terminal, terminal_of, token_fault, Sign, Number}
+use Prelude.{Name, take_tokens, token_faults, TakesToken, AddsTerm, IsLeastError, error_before, Begins, BeginsWithNumber, IsPlainTerm}
+use Prelude.{LeadsTo, AfterToken, Goes, Refuses, refuse, with_made, take_term, take, Context, InRow, InObjective, OfRow, OfObjective, State}
+use Prelude.{Between, Signs, ItemNumber, RowLabel, RowSign, RowNumber, without_terms}
 use Rattle.mpslp_decimal.specs.declared.literal.NumberFault.{NumberFault}
-use Rattle.mpslp_lp_grammar.specs.declared.signs.Sign.{Sign as SignOf}
-use Rattle.mpslp_lp_grammar.specs.Items.{one, apply_sign}
-use Rattle.mpslp_lp_grammar.specs.PartialRow.{PartialRow}
-use Rattle.mpslp_lp_tokens.specs.Token.{Token}
-use Rattle.mpslp_lp_grammar.specs.Terminal.{Terminal, terminal_of, token_fault}
-use Rattle.mpslp_lp_grammar.specs.Terminal.Terminal.{Sign, Number, Name}
-use Rattle.mpslp_lp.specs.LineByLine.{take_tokens, token_faults}
-use Rattle.mpslp_lp_grammar.specs.Declares.{TakesToken, AddsTerm, IsLeastError, error_before}
-use Rattle.mpslp_lp.specs.PlainTerm.{Begins, BeginsWithNumber, IsPlainTerm, LeadsTo}
-use Rattle.mpslp_lp_grammar.specs.AfterToken.{AfterToken, Goes, Refuses, refuse, with_made, take_term}
-use Rattle.mpslp_lp_grammar.specs.TokenStep.{take}
-use Rattle.mpslp_lp_grammar.specs.declared.context.Context.{Context}
-use Rattle.mpslp_lp_grammar.specs.declared.states.Place.TheVariants.{InRow, InObjective}
-use Rattle.mpslp_lp_grammar.specs.declared.states.ItemOwner.TheVariants.{OfRow, OfObjective}
-use Rattle.mpslp_lp_grammar.specs.declared.states.State.{State}
-use Rattle.mpslp_lp_grammar.specs.declared.states.State.TheVariants.{Between, Signs, ItemNumber, RowLabel, RowSign, RowNumber}
-use Rattle.mpslp_lp_grammar.specs.Rows.{without_terms}
 use Rattle.mpslp_lp.proofs.LineTokens.{tokens-next, tokens-own, tokens-refused}
 use Rattle.mpslp_lp_grammar.proofs.TokenAnswers.{one-parsed}
+use Rattle.std.specs.Result.{result_unwrap_or}
 
 -- a terminal that is accepted
 pub step : (context after : Context) (state next : State) (found more : List Token) (terminal : Terminal) → Begins found terminal more → take context state terminal ≡ Goes after next

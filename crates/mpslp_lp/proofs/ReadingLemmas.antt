@@ -1,34 +1,13 @@
 -- Reading line by line has the same outcome as all tokens together.
-use Rattle.std.proofs.Common.{◌≡◌, ◌<◌, refl, ap, ◌∙◌, ℕ, ◌+◌, List, [], ◌∷◌, ◌++◌, Bool, true, false, arith, map}
-use Rattle.std.specs.Prelude.{Option, Some, None, ◌==◌, if◌then◌else◌}
-use Rattle.std.specs.List.{enumerate_from}
-use Rattle.std.specs.Str.Lines.{lines}
-use Rattle.std.proofs.lemmas.Bool.{eqb-true}
-use Rattle.mpslp_builder.specs.Declaration.{Draft}
-use Rattle.mpslp_types.specs.declared.faults.Fault.{Fault}
-use Rattle.mpslp_types.specs.declared.faults.FaultKind.{FaultKind}
-use Rattle.mpslp_types.specs.declared.faults.FaultKind.TheVariants.{BadToken}
-use Rattle.mpslp_lp_grammar.specs.Rules.{Outcome}
-use Rattle.mpslp_lp_grammar.specs.WithinPhrase.{follow}
-use Rattle.mpslp_lp_grammar.specs.Rules.Parsed.{Reads}
-use Rattle.mpslp_lp_grammar.specs.Rules.AfterPhrase.{Ends as StepEnds}
-use Rattle.mpslp_lp_grammar.specs.Rules.Outcome.{Finished, Refused, Open}
-use Rattle.mpslp_lp_tokens.specs.Token.{Token, tokens}
-use Rattle.mpslp_lp_grammar.specs.Terminal.{Terminal, TerminalAt, terminal_of, line_terminals, lexical_fault}
-use Rattle.mpslp_lp_grammar.specs.TerminalToken.{as_terminal, terminals}
-use Rattle.mpslp_lp_grammar.specs.Phrase.{start, refuses}
-use Rattle.mpslp_lp_grammar.specs.declared.context.Context.{Context}
-use Rattle.mpslp_lp_grammar.specs.declared.states.Place.TheVariants.{AtStart}
-use Rattle.mpslp_lines.specs.FaultTests.{fault_on_line}
-use Rattle.mpslp_lp_grammar.specs.Grammar.{phrase_at}
-use Rattle.mpslp_lp_grammar.specs.declared.states.State.{State}
-use Rattle.mpslp_lp_grammar.specs.TokenByToken.{says}
-use Rattle.mpslp_lp_grammar.specs.declared.states.State.TheVariants.{Between, AfterEnd}
-use Rattle.mpslp_lp_grammar.specs.AfterToken.{AfterToken, Goes, Refuses}
-use Rattle.mpslp_lp_grammar.specs.TokenStep.{take, says_after, at_end, is_at_end}
-use Rattle.mpslp_lp.specs.LineByLine.{take_all, take_line, read_from}
-use Rattle.mpslp_lp.specs.LpText.{numbered_lines, sound_terminals, first_own_fault, or_else, outcome}
+use Rattle.mpslp_lp.proofs.Prelude
+use Prelude.{◌≡◌, ◌<◌, refl, ap, ◌∙◌, ℕ, ◌+◌, List, [], ◌∷◌, ◌++◌, Bool, true, false, arith, map, Option, Some, None, ◌==◌, if◌then◌else◌}
+use Prelude.{enumerate_from, lines, eqb-true, Draft, FaultKind, BadToken, Outcome, Reads, StepEnds, Finished, Refused, Open, Token, tokens}
+use Prelude.{Terminal, TerminalAt, terminal_of, line_terminals, lexical_fault, as_terminal, terminals, start, refuses, Context, AtStart}
+use Prelude.{fault_on_line, phrase_at, State, Between, AfterEnd, AfterToken, Goes, Refuses, take, says_after, at_end, is_at_end, take_all}
+use Prelude.{take_line, read_from, numbered_lines, sound_terminals, first_own_fault, or_else, outcome}
 use Rattle.mpslp_lp_grammar.proofs.TakingLemmas.{take-says, nothing-says}
+use Rattle.mpslp_lp_grammar.specs.{TokenByToken.{says}, WithinPhrase.{follow}}
+use Rattle.mpslp_types.specs.declared.faults.Fault.{Fault}
 
 -- ---- the tokens of a line
 

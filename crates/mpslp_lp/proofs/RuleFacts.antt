@@ -1,11 +1,9 @@
 -- Properties of the values that rules read from well-formed tokens.
-use Rattle.std.proofs.Common.{ℕ, List, [], ◌∷◌, drop}
-use Rattle.mpslp_types.specs.declared.faults.Fault.{Fault}
-use Rattle.mpslp_lp_grammar.specs.Rules.{Parsed, and_then, ◌>>=◌, after_taking, next, ahead}
-use Rattle.mpslp_lp_grammar.specs.Rules.Parsed.{Reads, Refuses, Unfinished}
-use Rattle.mpslp_lp_grammar.specs.Terminal.{TerminalAt}
-use Rattle.mpslp_lp_grammar.specs.Phrase.{PhraseRule}
+use Rattle.mpslp_lp.proofs.Prelude
+use Prelude.{ℕ, List, [], ◌∷◌, drop, Parsed, and_then, ◌>>=◌, after_taking, next, ahead, Reads, Unfinished, TerminalAt, PhraseRule}
 use Rattle.mpslp_lp.proofs.SoundTokens.{IsSoundTerminal, AreSound, sound-drop}
+use Rattle.mpslp_lp_grammar.specs.Rules.Parsed.{Refuses}
+use Rattle.mpslp_types.specs.declared.faults.Fault.{Fault}
 
 abbrev pub Holds : {A : Type 0} → (A → Type 0) → Parsed Fault A → Type 0
 Holds P (Reads value taken) = P value

@@ -1,23 +1,13 @@
 -- The tokens of a line without an error of its own have legal names and decimals.
-use Rattle.std.proofs.Common.{◌≡◌, refl, ℕ, List, [], ◌∷◌, ◌++◌, true, drop, zero, suc, map}
-use Rattle.std.specs.Prelude.{Option, Some, None, filter_map}
-use Rattle.std.specs.List.{cons_option}
-use Rattle.mpslp_decimal.specs.Decimal.{is_decimal}
-use Rattle.mpslp_types.specs.Name.{is_lp_name}
-use Rattle.mpslp_types.specs.FaultOrder.{least_kind}
-use Rattle.mpslp_types.specs.declared.faults.FaultKind.{FaultKind}
-use Rattle.mpslp_lines.specs.FaultTests.{legal_tests, first_held}
-use Rattle.mpslp_lines.proofs.FieldLemmas.{value-decimal}
-use Rattle.mpslp_lp_tokens.specs.Token.{outside_comment, is_word, Token, tokens, class_of}
-use Rattle.mpslp_lp_grammar.specs.Terminal.{Terminal, TerminalAt, word_terminal, terminal_of, line_terminals, word_fault, token_fault, lexical_fault}
-use Rattle.mpslp_lp_grammar.specs.Terminal.Terminal.{Name, Number}
-use Rattle.mpslp_lp.specs.LpText.{sound_terminals}
-use Rattle.mpslp_lp_tokens.specs.declared.tokens.TokenKind.{TokenKind}
-use Rattle.mpslp_lp_tokens.specs.declared.tokens.TokenKind.TheVariants as kinds
-use Rattle.mpslp_lp_tokens.specs.declared.words.WordClass.{WordClass}
-use Rattle.mpslp_lp_tokens.specs.declared.words.WordClass.TheVariants as meanings
-use Rattle.mpslp_lp_tokens.proofs.NameTokens.{WordIs, AreWords, tokens-words}
+use Rattle.mpslp_lp.proofs.Prelude
+use Prelude.{◌≡◌, refl, ℕ, List, [], ◌∷◌, ◌++◌, true, drop, zero, suc, map, Option, Some, None, filter_map, cons_option, is_decimal}
+use Prelude.{is_lp_name, least_kind, FaultKind, legal_tests, first_held, value-decimal, outside_comment, is_word, Token, tokens, class_of}
+use Prelude.{Terminal, TerminalAt, word_terminal, terminal_of, line_terminals, word_fault, token_fault, lexical_fault, Name, Number}
+use Prelude.{sound_terminals, TokenKind, WordIs, AreWords, tokens-words}
 use Rattle.mpslp_lp.proofs.LpNames.{lp-name}
+use Rattle.mpslp_lp_tokens.specs.declared.words.WordClass.{WordClass}
+use Rattle.mpslp_lp_tokens.specs.declared.tokens.TokenKind.TheVariants as kinds
+use Rattle.mpslp_lp_tokens.specs.declared.words.WordClass.TheVariants as meanings
 
 abbrev pub IsSoundTerminal : Terminal → Type 0
 IsSoundTerminal (Name name) = is_lp_name name ≡ true

@@ -1,24 +1,11 @@
 -- What a whole text declares: legal declarations, none of which is rejected, and at its end the draft of all.
-use Rattle.std.proofs.Common.{◌≡◌, refl, sym, ap, subst, ◌∙◌, ℕ, zero, suc, List, [], ◌∷◌, ◌++◌, true}
-use Rattle.std.specs.Prelude.{is_some}
-use Rattle.std.specs.List.{list_all}
-use Rattle.std.proofs.lemmas.List.Folds.{list_all-append}
-use Rattle.mpslp_builder.specs.Declaration.{Declarations, Draft, with_declarations}
-use Rattle.mpslp_builder.specs.Refusal.{refusals_in_turn}
+use Rattle.mpslp_lp.proofs.Prelude
+use Prelude.{◌≡◌, refl, sym, ap, subst, ◌∙◌, ℕ, zero, suc, List, [], ◌∷◌, ◌++◌, true, is_some, list_all, list_all-append, Declarations}
+use Prelude.{Draft, with_declarations, refusals_in_turn, both_so, with_declarations-append, refusals_in_turn-append, join_none, Parsed}
+use Prelude.{Outcome, phrases, made_by, Reads, Unfinished, Ends, Finished, Refused, Open, TerminalAt, Point, Follows, phrase_at}
+use Rattle.mpslp_lp.proofs.{PhraseFacts.{is_lp_legal, IsSoundPoint, IsFine, phrase_at-fine}, RuleFacts.{Holds}, SoundTokens.{AreSound}}
+use Rattle.mpslp_lp_grammar.specs.{Rules.AfterPhrase.{Goes}, Rules.Parsed.{Refuses}}
 use Rattle.mpslp_types.specs.declared.faults.Fault.{Fault}
-use Rattle.mpslp_types.proofs.BoolLemmas.{both_so}
-use Rattle.mpslp_builder.proofs.MadeDrafts.{with_declarations-append, refusals_in_turn-append}
-use Rattle.mpslp_builder.proofs.RefusalLemmas.{join_none}
-use Rattle.mpslp_lp_grammar.specs.Rules.{Parsed, Outcome, phrases, made_by}
-use Rattle.mpslp_lp_grammar.specs.Rules.Parsed.{Reads, Refuses, Unfinished}
-use Rattle.mpslp_lp_grammar.specs.Rules.AfterPhrase.{Goes, Ends}
-use Rattle.mpslp_lp_grammar.specs.Rules.Outcome.{Finished, Refused, Open}
-use Rattle.mpslp_lp_grammar.specs.Terminal.{TerminalAt}
-use Rattle.mpslp_lp_grammar.specs.Phrase.{Point, Follows}
-use Rattle.mpslp_lp_grammar.specs.Grammar.{phrase_at}
-use Rattle.mpslp_lp.proofs.SoundTokens.{AreSound}
-use Rattle.mpslp_lp.proofs.RuleFacts.{Holds}
-use Rattle.mpslp_lp.proofs.PhraseFacts.{is_lp_legal, IsSoundPoint, IsFine, phrase_at-fine}
 
 -- the draft at the end, which has an objective
 abbrev pub IsDraftAtEnd : Draft → Declarations → Outcome Fault Draft → Type 0

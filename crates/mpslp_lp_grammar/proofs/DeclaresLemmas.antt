@@ -1,29 +1,16 @@
 -- What calls of a builder return for declarations, and the number of rows after them.
-use Rattle.std.proofs.Common.{◌≡◌, refl, sym, ap, subst, ◌∙◌, ℕ, ◌+◌, List, [], ◌∷◌, ◌++◌, Bool, true, false, cond, length, inl, inr}
-use Rattle.std.specs.Prelude.{Option, Some, None, Ok, Err, is_some, ◌||◌}
-use Rattle.std.specs.Option.{option_map}
-use Rattle.std.specs.Result.{IsErrAnd}
-use Rattle.std.specs.FinMap.{find}
-use Rattle.std.specs.FinMap.Entries.{length-put}
-use Rattle.std.specs.Cmp.Lexicographic.{nat_list_cmp_total}
-use Rattle.mpslp_types.specs.Name.{bytes_cmp}
-use Rattle.mpslp_types.specs.declared.faults.BuildFault.{BuildFault}
-use Rattle.mpslp_types.specs.declared.faults.BuildFault.TheVariants as builds
-use Rattle.mpslp_types.specs.declared.kinds.Limit.{Limit}
+use Rattle.mpslp_lp_grammar.proofs.Prelude
+use Prelude.{◌≡◌, refl, sym, ap, subst, ◌∙◌, ℕ, ◌+◌, List, [], ◌∷◌, ◌++◌, Bool, true, false, cond, length, inl, inr, Option, Some, None, Ok}
+use Prelude.{Err, is_some, ◌||◌, bytes_cmp, BuildFault, Limit, Declaration, declare_row, RowDefinition, Declarations, Draft}
+use Prelude.{with_declaration, with_declarations, bounds_declared, has_name, is_objective, have_infinite_side, refusals, refusals_in_turn}
+use Prelude.{sorted-from_made, with_declarations-append, refusals_in_turn-append, Fault, OutOfMemory, kind_of_build_fault, LineResult}
+use Prelude.{DeclaresUnless, Declares}
+use Rattle.mpslp_builder.specs.{Answer.{Answer, Answers}, Made.{IsMade}, RowTerms.{DeclaresInTurn}}
+use Rattle.mpslp_lines.specs.{ErrorOf.{error_of_build}, declared.errors.LineError.{LineError}}
 use Rattle.mpslp_types.specs.Lists.{head_of, those_of}
-use Rattle.mpslp_builder.specs.Answer.{Answer, Answers}
-use Rattle.mpslp_builder.specs.Declaration.{Declaration, declare_row, RowDefinition, Declarations, Draft, with_declaration, with_declarations, bounds_declared, has_name, is_objective, have_infinite_side}
-use Rattle.mpslp_builder.specs.Refusal.{refusals, refusals_in_turn}
-use Rattle.mpslp_builder.specs.Made.{IsMade}
-use Rattle.mpslp_builder.specs.RowTerms.{DeclaresInTurn}
-use Rattle.mpslp_builder.proofs.SortedDrafts.{sorted-from_made}
-use Rattle.mpslp_builder.proofs.MadeDrafts.{with_declarations-append, refusals_in_turn-append}
-use Rattle.mpslp_lines.specs.declared.errors.LineError.TheVariants.{Fault, OutOfMemory}
-use Rattle.mpslp_lines.specs.FaultTests.{kind_of_build_fault}
-use Rattle.mpslp_lines.specs.ErrorOf.{error_of_build}
-use Rattle.mpslp_lines.specs.LineAnswer.{LineResult}
-use Rattle.mpslp_lines.specs.declared.errors.LineError.{LineError}
-use Rattle.mpslp_lp_grammar.specs.Declares.{DeclaresUnless, Declares}
+use Rattle.std.specs.{Cmp.Lexicographic.{nat_list_cmp_total}, FinMap.{find}, FinMap.Entries.{length-put}, Option.{option_map}}
+use Rattle.std.specs.Result.{IsErrAnd}
+use Rattle.mpslp_types.specs.declared.faults.BuildFault.TheVariants as builds
 
 -- ---- a call that is rejected
 

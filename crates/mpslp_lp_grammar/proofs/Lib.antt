@@ -1,3 +1,4 @@
+pub mod Prelude
 pub mod RuleLaws
 pub mod TakingLemmas
 pub mod NumberFaults

@@ -1,14 +1,10 @@
 -- The tests of one literal.
-use Rattle.std.proofs.Common.{◌≡◌, refl, sym, ap, ◌∙◌, ℕ, List, [], ◌∷◌, Bool}
-use Rattle.std.specs.Prelude.{Option, Some, None, Result, Ok, Err}
-use Rattle.mpslp_decimal.specs.Decimal.{Number}
-use Rattle.mpslp_decimal.specs.Literal.{number_of}
+use Rattle.mpslp_lp_grammar.proofs.Prelude
+use Prelude.{◌≡◌, refl, sym, ap, ◌∙◌, ℕ, List, [], ◌∷◌, Bool, Option, Some, None, Result, Ok, Err, Number, number_of, FaultKind, first_held}
+use Prelude.{number_fault, number_tests, kind_of_number_fault, is_kind, list_any, cons_option}
 use Rattle.mpslp_decimal.specs.declared.literal.NumberFault.{NumberFault}
 use Rattle.mpslp_decimal.specs.declared.literal.NumberFault.TheVariants as numbers
-use Rattle.mpslp_types.specs.declared.faults.FaultKind.{FaultKind}
 use Rattle.mpslp_types.specs.declared.faults.FaultKind.TheVariants as kinds
-use Rattle.mpslp_lines.specs.FaultTests.{first_held, number_fault, number_tests, kind_of_number_fault, is_kind}
-use Rattle.std.specs.List.{list_any, cons_option}
 
 -- the tests of one literal give its error
 pub tested-number : (literal : List ℕ) → first_held (number_tests (literal ∷ [])) ≡ number_fault literal

@@ -1,16 +1,12 @@
 -- The name of a row without a label is an LP name.
-use Rattle.std.proofs.Common.{◌≡◌, ◌≤◌, ◌<◌, refl, ℕ, ◌^◌, List, [], ◌∷◌, true, not, length, arith}
-use Rattle.std.specs.Prelude.{◌&&◌, ◌||◌, nat_le}
-use Rattle.std.specs.List.{list_all}
-use Rattle.std.specs.Fmt.{decimal}
-use Rattle.std.proofs.lemmas.Fmt.{length-decimal-le}
-use Rattle.std.proofs.lemmas.Bool.{le-leb}
-use Rattle.mpslp_decimal.specs.Literal.{is_digit}
+use Rattle.mpslp_lp_grammar.proofs.Prelude
+use Prelude.{◌≡◌, ◌≤◌, ◌<◌, refl, ℕ, ◌^◌, List, [], ◌∷◌, true, not, length, arith, ◌&&◌, ◌||◌, nat_le, list_all, le-leb, is_digit}
+use Prelude.{same_bytes, is_lp_name, has_name_length, marker, is_letter, is_lp_symbol, is_lp_byte, begins_a_number, is_like_exponent}
+use Prelude.{is_reserved, numbered_row}
 use Rattle.mpslp_decimal.proofs.CutLemmas.{list_all-digits, decimal-spells}
-use Rattle.mpslp_types.specs.Name.{same_bytes, is_lp_name, has_name_length, marker, is_letter, is_lp_symbol, is_lp_byte, begins_a_number, is_like_exponent, is_reserved}
-use Rattle.mpslp_types.proofs.BoolLemmas.{both_so, or_left, or_right}
-use Rattle.mpslp_types.proofs.EachLemmas.{imp_all}
-use Rattle.mpslp_lp_grammar.specs.Rows.{numbered_row}
+use Rattle.mpslp_types.proofs.{BoolLemmas.{both_so, or_left, or_right}, EachLemmas.{imp_all}}
+use Rattle.std.proofs.lemmas.Fmt.{length-decimal-le}
+use Rattle.std.specs.Fmt.{decimal}
 
 digit-lp : (b : ℕ) → is_digit b ≡ true → is_lp_byte b ≡ true
 digit-lp b h = or_right (is_letter b) (is_digit b || is_lp_symbol b) (or_left (is_digit b) (is_lp_symbol b) h)

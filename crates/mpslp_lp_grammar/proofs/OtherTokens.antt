@@ -1,27 +1,11 @@
 -- The effect of tokens that have no case of their own.
-use Rattle.std.proofs.Common.{◌≡◌, refl, ℕ, List, Bool, true, false}
-use Rattle.std.specs.Prelude.{None}
-use Rattle.mpslp_decimal.specs.Decimal.{Number as Decimal}
-use Rattle.mpslp_types.specs.declared.kinds.Sense.{Sense}
-use Rattle.mpslp_lp_grammar.specs.declared.signs.Sign.{Sign as SignOf}
-use Rattle.mpslp_lp_grammar.specs.declared.signs.Sign.TheVariants.{Plus, Minus}
-use Rattle.mpslp_lp_grammar.specs.TerminalToken.{terminal_with_text}
-use Rattle.mpslp_lp_grammar.specs.Items.{apply_sign}
-use Rattle.mpslp_lp_grammar.specs.Rows.{objective_declared, first_item_declared, default_objective, without_terms}
-use Rattle.mpslp_lp_grammar.specs.declared.context.Context.{Context}
-use Rattle.mpslp_lp_tokens.specs.declared.words.SectionWord.{SectionWord}
+use Rattle.mpslp_lp_grammar.proofs.Prelude
+use Prelude.{◌≡◌, refl, ℕ, List, None, Decimal, Sense, SignOf, Plus, Minus, terminal_with_text, apply_sign, objective_declared}
+use Prelude.{first_item_declared, default_objective, without_terms, Context, SectionWord, Relation, ItemOwner, OfRow, Place, BeforeItems}
+use Prelude.{InObjective, InSemis, SideOwner, AtObjective, ObjectiveName, AtSemi, ItemNumber, RowSign, RowNumber, AtSide, take_after_signs}
+use Prelude.{take_side, take_side_value, begin_phrase, begin, begin_after, refuse_constant, take_after_lone_number, take}
 use Rattle.mpslp_lp_grammar.specs.declared.terminals.TerminalKind.{TerminalKind}
 use Rattle.mpslp_lp_grammar.specs.declared.terminals.TerminalKind.TheVariants.{Opens, Name, Number, Sign, Compares, Colon, Infinity}
-use Rattle.mpslp_lp_grammar.specs.declared.relations.Relation.{Relation}
-use Rattle.mpslp_lp_grammar.specs.declared.states.ItemOwner.{ItemOwner}
-use Rattle.mpslp_lp_grammar.specs.declared.states.ItemOwner.TheVariants.{OfRow}
-use Rattle.mpslp_lp_grammar.specs.declared.states.Place.{Place}
-use Rattle.mpslp_lp_grammar.specs.declared.states.Place.TheVariants.{BeforeItems, InObjective, InSemis}
-use Rattle.mpslp_lp_grammar.specs.declared.states.SideOwner.{SideOwner}
-use Rattle.mpslp_lp_grammar.specs.declared.states.State.TheVariants.{AtObjective, ObjectiveName, AtSemi, ItemNumber, RowSign, RowNumber, AtSide}
-use Rattle.mpslp_lp_grammar.specs.AfterToken.{take_after_signs, take_side, take_side_value}
-use Rattle.mpslp_lp_grammar.specs.FirstToken.{begin_phrase, begin}
-use Rattle.mpslp_lp_grammar.specs.TokenStep.{begin_after, refuse_constant, take_after_lone_number, take}
 
 -- ---- the first token of a phrase
 

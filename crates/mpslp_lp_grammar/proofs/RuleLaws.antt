@@ -1,10 +1,8 @@
 -- How texts of phrases are read token by token.
-use Rattle.std.proofs.Common.{◌≡◌, ℕ, zero, suc, ◌+◌, List, [], ◌∷◌, drop, refl, ap, ◌∙◌, arith}
-use Rattle.mpslp_lp_grammar.specs.Rules.{Parsed, Rule, after_taking, and_then, ◌>>=◌, gives, next, ahead, AfterPhrase, Outcome, phrases}
-use Rattle.mpslp_lp_grammar.specs.WithinPhrase.{follow, resume}
-use Rattle.mpslp_lp_grammar.specs.Rules.Parsed.{Reads, Refuses, Unfinished}
-use Rattle.mpslp_lp_grammar.specs.Rules.AfterPhrase.{Goes, Ends}
-use Rattle.mpslp_lp_grammar.specs.Rules.Outcome.{Finished, Refused, Open}
+use Rattle.mpslp_lp_grammar.proofs.Prelude
+use Prelude.{◌≡◌, ℕ, zero, suc, ◌+◌, List, [], ◌∷◌, drop, refl, ap, ◌∙◌, arith, Parsed, Rule, after_taking, and_then, ◌>>=◌, gives, next}
+use Prelude.{ahead, AfterPhrase, Outcome, phrases, follow, resume, Reads, Unfinished, Ends}
+use Rattle.mpslp_lp_grammar.specs.{Rules.AfterPhrase.{Goes}, Rules.Outcome.{Finished, Refused, Open}, Rules.Parsed.{Refuses}}
 
 one_more : (n : ℕ) → 1 + n ≡ suc n
 one_more n = omega arith

@@ -1,53 +1,31 @@
 -- The outcome of tokens is the effect of the first one, and then the outcome of those after it.
-use Rattle.std.proofs.Common.{◌≡◌, refl, sym, ap, ◌∙◌, ℕ, List, [], ◌∷◌, Bool, true, false}
-use Rattle.std.specs.Prelude.{Option, Some, None, ◌==◌, if◌then◌else◌}
-use Rattle.std.specs.List.{list_any}
-use Rattle.mpslp_decimal.specs.Decimal.{Number as Decimal}
-use Rattle.mpslp_types.specs.Name.{same_bytes}
-use Rattle.mpslp_builder.specs.Declaration.{Declaration, Declarations, declare_constant, declare_integer, declare_binary, declare_semi}
-use Rattle.mpslp_types.specs.Limit.{limit_of}
-use Rattle.mpslp_builder.specs.Refusal.{refusals_in_turn}
-use Rattle.mpslp_types.specs.declared.kinds.Limit.{Limit}
-use Rattle.mpslp_types.specs.declared.kinds.Limit.TheVariants.{PlusInf}
-use Rattle.mpslp_types.specs.declared.kinds.Sense.{Sense}
-use Rattle.mpslp_types.specs.declared.faults.BuildFault.{BuildFault}
-use Rattle.mpslp_types.specs.declared.faults.FaultKind.{FaultKind}
-use Rattle.mpslp_types.specs.declared.faults.FaultKind.TheVariants.{BadToken}
-use Rattle.mpslp_lp_grammar.specs.declared.signs.Sign.{Sign as SignOf}
-use Rattle.mpslp_lp_grammar.specs.declared.signs.Sign.TheVariants.{Plus, Minus}
-use Rattle.mpslp_lp_grammar.specs.Rules.{◌>>=◌, next, ahead, gives}
-use Rattle.mpslp_lp_grammar.specs.WithinPhrase.{follow, resume}
-use Rattle.mpslp_lp_grammar.specs.Rules.Parsed.{Reads}
-use Rattle.mpslp_lp_grammar.specs.Rules.AfterPhrase.{Ends}
-use Rattle.mpslp_lp_tokens.specs.Token.{section_of}
-use Rattle.mpslp_lp_grammar.specs.Terminal.{Terminal, TerminalAt}
-use Rattle.mpslp_lp_grammar.specs.Terminal.Terminal.{Opens, Name, Number, Sign, Compares, Colon, Infinity, Free, Other}
-use Rattle.mpslp_lp_grammar.specs.Phrase.{section_fault, with_section, PhraseRule, Follows, fails, refuses, unless_refused, declares}
-use Rattle.mpslp_lp_grammar.specs.declared.context.Context.{Context}
-use Rattle.mpslp_lp_grammar.specs.PartialRow.{PartialRow}
-use Rattle.mpslp_lp_grammar.specs.declared.states.Place.{Place}
-use Rattle.mpslp_lp_grammar.specs.declared.states.Place.TheVariants.{AtStart, BeforeItems, InObjective, BetweenRows, InRow, InBounds, InGenerals, InBinaries, InSemis}
-use Rattle.mpslp_lp_grammar.specs.declared.states.LastWord.{LastWord}
-use Rattle.mpslp_lp_grammar.specs.declared.states.LastWord.TheVariants.{Continuous}
-use Rattle.std.proofs.lemmas.Bool.{eq-eqb}
-use Rattle.mpslp_lp_grammar.specs.Items.{Side, apply_sign, infinity, fits_second, next_relation, unsigned_side, side_from, side, Item, colon, item_from, signed_item, number_item, product, one}
+use Rattle.mpslp_lp_grammar.proofs.Prelude
+use Prelude.{◌≡◌, refl, sym, ap, ◌∙◌, ℕ, List, [], ◌∷◌, Bool, true, false, Option, Some, None, ◌==◌, if◌then◌else◌, list_any, Decimal}
+use Prelude.{same_bytes, Declaration, Declarations, declare_constant, declare_integer, declare_binary, declare_semi, refusals_in_turn}
+use Prelude.{Limit, PlusInf, Sense, BuildFault, FaultKind, SignOf, Plus, Minus, ◌>>=◌, next, ahead, gives, follow, resume, Reads, Ends}
+use Prelude.{Terminal, TerminalAt, section_fault, with_section, PhraseRule, Follows, fails, refuses, unless_refused, declares, Context}
+use Prelude.{PartialRow, Place, AtStart, BeforeItems, InObjective, BetweenRows, InRow, InBounds, InGenerals, InBinaries, InSemis, eq-eqb}
+use Prelude.{Side, apply_sign, infinity, fits_second, next_relation, unsigned_side, side_from, side, Item, colon, item_from, signed_item}
+use Prelude.{number_item, product, one, default_objective, objective_declared, objective_from, objective_named, first_item_declared}
+use Prelude.{default_row, without_terms, fits_left, row_after_left, row_from, row_first, row_named, row_signed, row_number, row_whole}
+use Prelude.{ItemOwner, SideOwner, OfObjective, OfRow, item_read, new_column, side_read, signed_side_read, says, Between, AtObjective}
+use Prelude.{ObjectiveName, AtLastWord, AtSemi, Signs, ItemNumber, RowName, RowLabel, RowSign, RowNumber, RowLeft, RowLeftRelation}
+use Prelude.{BoundName, BoundSign, BoundLeft, BoundLeftRelation, AtSide, SideSign, AfterEnd, AfterToken, Goes, Refuses, refuse}
+use Prelude.{take_side_value, declare_unless_refused, take_after_declarations, take_term, take_after_signs, begin_item, take_side}
+use Prelude.{with_made, open_section, begin_row, begin_phrase, begin, begin_bound, name_taken, after_section_word, at_end, begin_after}
+use Prelude.{take_after_lone_number, take, says_after, Relation, SectionWord}
+use Rattle.mpslp_lp_grammar.proofs.RuleLaws.{follow-passing_one, follow-passing_none, resume-next, resume-ahead, resume-gives, phrases-more}
+use Rattle.mpslp_lp_grammar.proofs.RuleLaws.{follow-one_more}
+use Rattle.mpslp_lp_grammar.specs.Grammar.{bound, bound_after, bound_column, bound_left, bound_right, section_start, section_from}
+use Rattle.mpslp_lp_grammar.specs.Grammar.{name_in_section, line_end, may_begin_section, is_last_word, last_word, semi_from, phrase}
+use Rattle.mpslp_lp_grammar.specs.Grammar.{phrase_at}
 use Rattle.mpslp_lp_grammar.specs.Items.Item.{Term, Lone}
-use Rattle.mpslp_lp_grammar.specs.Rows.{default_objective, objective_declared, objective_from, objective_named, first_item_declared, default_row, without_terms, fits_left, row_after_left, row_from, row_first, row_named, row_signed, row_number, row_whole}
-use Rattle.mpslp_lp_grammar.specs.Grammar.{bound, bound_after, bound_column, bound_left, bound_right, section_start, section_from, name_in_section, line_end, may_begin_section, is_last_word, last_word, semi_from, phrase, phrase_at}
-use Rattle.mpslp_lp_grammar.specs.declared.states.ItemOwner.{ItemOwner}
-use Rattle.mpslp_lp_grammar.specs.declared.states.SideOwner.{SideOwner}
-use Rattle.mpslp_lp_grammar.specs.declared.states.State.{State}
-use Rattle.mpslp_lp_grammar.specs.declared.states.ItemOwner.TheVariants.{OfObjective, OfRow}
-use Rattle.mpslp_lp_grammar.specs.declared.states.SideOwner.TheVariants.{SideOfRow, SideOfBound}
-use Rattle.mpslp_lp_grammar.specs.TokenByToken.{item_read, new_column, side_read, signed_side_read, says}
-use Rattle.mpslp_lp_grammar.specs.declared.states.State.TheVariants.{Between, AtObjective, ObjectiveName, AtLastWord, AtSemi, Signs, ItemNumber, RowName, RowLabel, RowSign, RowNumber, RowLeft, RowLeftRelation, BoundName, BoundSign, BoundLeft, BoundLeftRelation, AtSide, SideSign, AfterEnd}
-use Rattle.mpslp_lp_grammar.specs.AfterToken.{AfterToken, Goes, Refuses, refuse, take_side_value, declare_unless_refused, take_after_declarations, take_term, take_after_signs, begin_item, take_side, with_made}
-use Rattle.mpslp_lp_grammar.specs.FirstToken.{open_section, begin_row, begin_phrase, begin, begin_bound, name_taken, after_section_word}
-use Rattle.mpslp_lp_grammar.specs.TokenStep.{at_end, begin_after, take_after_lone_number, take, says_after}
-use Rattle.mpslp_lp_grammar.specs.declared.relations.Relation.{Relation}
-use Rattle.mpslp_lp_tokens.specs.declared.words.SectionWord.{SectionWord}
+use Rattle.mpslp_lp_grammar.specs.Terminal.Terminal.{Opens, Name, Number, Sign, Compares, Colon, Infinity, Free, Other}
+use Rattle.mpslp_lp_grammar.specs.{declared.states.LastWord.{LastWord}, declared.states.LastWord.TheVariants.{Continuous}}
+use Rattle.mpslp_lp_grammar.specs.{declared.states.SideOwner.TheVariants.{SideOfRow, SideOfBound}, declared.states.State.{State}}
+use Rattle.mpslp_lp_tokens.specs.Token.{section_of}
+use Rattle.mpslp_types.specs.{Limit.{limit_of}, declared.faults.FaultKind.TheVariants.{BadToken}}
 use Rattle.mpslp_lp_tokens.specs.declared.words.SectionWord.TheVariants as words
-use Rattle.mpslp_lp_grammar.proofs.RuleLaws.{follow-passing_one, follow-passing_none, resume-next, resume-ahead, resume-gives, phrases-more, follow-one_more}
 
 abbrev at : ℕ → Terminal → TerminalAt
 at line terminal = record { line = line; terminal = terminal }

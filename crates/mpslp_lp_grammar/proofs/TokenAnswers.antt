@@ -1,22 +1,9 @@
 -- The effect of tokens that complete declarations, and of terms of a row.
-use Rattle.std.proofs.Common.{◌≡◌, refl, sym, ap, subst, ◌∙◌, List, [], ◌∷◌}
-use Rattle.std.specs.Prelude.{Option, Some, None, Ok, Err, unwrap_or}
 use Rattle.mpslp_decimal.specs.Decimal.{trailing_zeros}
-use Rattle.mpslp_decimal.specs.Literal.{number_of}
-use Rattle.mpslp_types.specs.declared.faults.BuildFault.{BuildFault}
-use Rattle.mpslp_types.specs.declared.faults.FaultKind.{FaultKind}
-use Rattle.mpslp_builder.specs.Declaration.{Declarations, Draft}
-use Rattle.mpslp_lines.specs.FaultTests.{kind_of_build_fault}
-use Rattle.mpslp_lines.specs.LineAnswer.{LineResult}
-use Rattle.mpslp_lines.specs.declared.errors.LineError.TheVariants.{Fault, OutOfMemory}
-use Rattle.mpslp_lp_grammar.specs.Terminal.{Terminal}
-use Rattle.mpslp_lp_grammar.specs.Phrase.{terminal_fault}
-use Rattle.mpslp_lp_grammar.specs.Items.{one}
-use Rattle.mpslp_lp_grammar.specs.declared.context.Context.{Context}
-use Rattle.mpslp_lp_grammar.specs.declared.states.Place.{Place}
-use Rattle.mpslp_lp_grammar.specs.declared.states.State.TheVariants.{Between}
-use Rattle.mpslp_lp_grammar.specs.AfterToken.{Goes, Refuses, refuse, declare_unless_refused}
-use Rattle.mpslp_lp_grammar.specs.Declares.{DeclaresUnless, TokenResult, TakesToken, answer_at}
+use Rattle.mpslp_lp_grammar.proofs.Prelude
+use Prelude.{◌≡◌, refl, sym, ap, subst, ◌∙◌, List, [], ◌∷◌, Option, Some, None, Ok, Err, unwrap_or, number_of, BuildFault}
+use Prelude.{FaultKind, Declarations, Draft, kind_of_build_fault, LineResult, Fault, OutOfMemory, Terminal, terminal_fault, one, Context}
+use Prelude.{Place, Between, Goes, Refuses, refuse, declare_unless_refused, DeclaresUnless, TokenResult, TakesToken, answer_at}
 
 -- ---- declarations
 

@@ -14,8 +14,8 @@ use Prelude.{RowLabel, BoundName, BoundLeftRelation, AtSide, SideSign, AfterToke
 use Prelude.{take_after_declarations, declare_at, take_term, take_after_signs, begin_item, take_bound, take_side, no_limits, open_section}
 use Prelude.{begin_row, take_second_relation, begin_phrase, begin, one, Limits, limits_by, flip, term_declared, objective_declared}
 use Prelude.{default_objective, first_item_declared, row_limits, row_declared, PartialRow, start, has_seen, is_out_of_order, Terminal}
-use Prelude.{Opens, Name, Number, Sign, Compares, Colon, Infinity, Free, new_column, begin_after, take_after_lone_number, take, IsInWords, is_section}
-use Prelude.{current_section, is_under, is_named, collected, names_again, ends_in_number, ends_in_sign, may_follow_constant}
+use Prelude.{Opens, Name, Number, Sign, Compares, Colon, Infinity, Free, new_column, begin_after, take_after_lone_number, take, IsInWords}
+use Prelude.{is_section, current_section, is_under, is_named, collected, names_again, ends_in_number, ends_in_sign, may_follow_constant}
 use Prelude.{completes_constant, has_constant_before, repeats_constant, gives_lower, gives_upper, last_name, last_relation, column_before}
 use Prelude.{after_sign, completed, completes_bound, repeats_bound, names_integer, names_semi, changes_kind}
 use Rattle.mpslp_lp_sentences.proofs.{FaultedTokens.{in-words}, Refusals.{refuses, first-refused, terms-refuse}}
@@ -25,7 +25,6 @@ use Rattle.mpslp_lp_sentences.proofs.TokenCases.{signs-by, item-by, limit-by, li
 use Rattle.mpslp_lp_sentences.proofs.TokenCases.{begin-by, objective-by, objective_name-by, item_number-by, semi-by}
 use Rattle.mpslp_types.specs.declared.faults.BuildFault.TheVariants as builds
 use Rattle.mpslp_types.specs.declared.faults.FaultKind.TheVariants as kinds
-use Rattle.mpslp_lp_tokens.specs.declared.words.SectionWord.TheVariants as words
 
 -- ---- what was declared is shown by the tokens
 

@@ -13,8 +13,8 @@ use Prelude.{with_made, declare_unless_refused, take_after_declarations, declare
 use Prelude.{take_side, no_limits, may_begin_section, open_section, begin_row, take_second_relation, name_taken, begin_phrase, begin, one}
 use Prelude.{apply_sign, infinity, Limits, limits_by, flip, term_declared, objective_declared, default_objective, first_item_declared}
 use Prelude.{without_terms, row_limits, row_declared, PartialRow, start, has_seen, is_out_of_order, Terminal, Opens, Name, Number, Sign}
-use Prelude.{Compares, Colon, Infinity, Free, new_column, take_after_lone_number, take, AreNew, IsInWords, is_section, current_section, is_under}
-use Prelude.{is_named, last_name, ends_in_first_word, term_columns, repeats_entry}
+use Prelude.{Compares, Colon, Infinity, Free, new_column, take_after_lone_number, take, AreNew, IsInWords, is_section, current_section}
+use Prelude.{is_under, is_named, last_name, ends_in_first_word, term_columns, repeats_entry}
 use Rattle.mpslp_builder.specs.Declaration.{is_objective}
 use Rattle.mpslp_model_core.specs.Model.{CoefficientKey}
 use Rattle.mpslp_lp_sentences.proofs.{FaultedTokens.{in-words}, Refusals.{refuses, first-refused}}
@@ -24,7 +24,6 @@ use Rattle.mpslp_lp_sentences.proofs.TokenCases.{signs-by, item-by, limit-by, li
 use Rattle.mpslp_lp_sentences.proofs.TokenCases.{objective-by, objective_name-by, item_number-by, semi-by}
 use Rattle.mpslp_types.specs.declared.faults.BuildFault.TheVariants as builds
 use Rattle.mpslp_types.specs.declared.faults.FaultKind.TheVariants as kinds
-use Rattle.mpslp_lp_tokens.specs.declared.words.SectionWord.TheVariants as words
 
 abbrev Tokens : Type 0
 Tokens = List Terminal

@@ -9,7 +9,6 @@ use Rattle.std.proofs.lemmas.Grind.{reverse_onto}
 use Rattle.mpslp_lp.specs.LineByLine.{take_all, take_line, read_from}
 use Rattle.mpslp_lp.proofs.ReadingLemmas.{outcome-read}
 use Rattle.mpslp_lp_sentences.proofs.LexicalKinds.{is_lexical, lexical-kind, is_of_whole, file-kind}
-use Rattle.mpslp_types.specs.declared.faults.FaultKind.TheVariants as kinds
 
 -- What is known of the tokens before one, of the context and of the state, and what follows from it for a kind of errors.
 pub record Knowing (kind : FaultKind) (is_such : List Terminal → Terminal → Bool) (Knows : List Terminal → Context → State → Type 0) : Type 0 where

@@ -9,7 +9,6 @@ use Rattle.mpslp_lp_sentences.specs.Meaning.{one, infinity}
 use Rattle.mpslp_lp_sentences.proofs.Whole.{Tokens, heard-later, listened-none}
 use Rattle.mpslp_lp_sentences.proofs.Stamped.{stamped, onward, first_of_all, ending, Hears, hears-next}
 use Rattle.mpslp_lp_grammar.specs.Items as rules
-use Rattle.mpslp_lp_tokens.specs.declared.words.SectionWord.TheVariants as words
 
 -- ---- signs
 

@@ -9,7 +9,6 @@ use Rattle.mpslp_builder.specs.FileFault.{named_kinds, whole_fault, names_with, 
 use Rattle.mpslp_lp_tokens.specs.declared.tokens.TokenKind.{TokenKind}
 use Rattle.mpslp_lp_tokens.specs.declared.words.WordClass.{WordClass}
 use Rattle.mpslp_lp_tokens.specs.declared.words.WordClass.TheVariants.{Sos}
-use Rattle.mpslp_decimal.specs.declared.literal.NumberFault.TheVariants as numbers
 use Rattle.mpslp_types.specs.declared.faults.FaultKind.TheVariants as kinds
 
 -- ---- a line by itself

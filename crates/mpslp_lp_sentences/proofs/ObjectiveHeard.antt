@@ -14,7 +14,6 @@ use Rattle.mpslp_lp_sentences.proofs.Stamped.{hears-declares, whole-joined}
 use Rattle.mpslp_lp_sentences.proofs.ItemsHeard.{multiplied, multiplied-value, term_before, term-before, is_no_name, hears-lone}
 use Rattle.mpslp_lp_sentences.proofs.ItemsHeard.{hears-signs, hears-signed_number, hears-term, HearsTerm}
 use Rattle.mpslp_lp_tokens.specs.declared.words.Section.TheVariants as sections
-use Rattle.mpslp_lp_tokens.specs.declared.words.SectionWord.TheVariants as words
 
 -- what may follow a constant
 abbrev pub is_opening : Terminal → Bool

@@ -5,7 +5,6 @@ use Prelude.{Decimal, same_bytes, bytes_cmp, nor, RowDefinition, Draft, declare_
 use Prelude.{refusals_in_turn, itself_named, has-put_key, IsSortedDraft, term_declared, AreNew, parts-taken}
 use Rattle.std.specs.Cmp.Lexicographic.{nat_list_cmp_total}
 use Rattle.std.specs.FinMap.Entries.{length-put}
-use Rattle.mpslp_types.specs.declared.faults.BuildFault.TheVariants as builds
 
 abbrev pub Pair : Type 0
 Pair = List ℕ × Decimal

@@ -23,7 +23,6 @@ use Rattle.mpslp_lp_sentences.proofs.RowNames.{Tokens, Rowed, HasObjective, IsEm
 use Rattle.mpslp_lp_sentences.proofs.RowNames.{NameAt, KeepsRows, refused, bad, branch, rowed-later, rowed-same, is_no_colon, ends-no_side}
 use Rattle.mpslp_lp_sentences.proofs.RowNames.{name-kept, Here, rowed-on, objective-on, declared, declared-before, bound, row_ended}
 use Rattle.mpslp_types.specs.declared.faults.FaultKind.TheVariants as kinds
-use Rattle.mpslp_lp_tokens.specs.declared.words.SectionWord.TheVariants as words
 
 -- ---- items
 

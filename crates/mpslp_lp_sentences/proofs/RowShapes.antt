@@ -11,17 +11,15 @@ use Prelude.{RowName, RowLabel, RowSign, RowNumber, RowLeft, RowLeftRelation, Bo
 use Prelude.{Goes, Refuses, refuse, with_made, declare_unless_refused, take_after_declarations, take_term, take_after_signs, begin_item}
 use Prelude.{take_side, may_begin_section, open_section, begin_row, begin_bound, take_second_relation, name_taken, begin_phrase, begin, one}
 use Prelude.{apply_sign, fits_second, limits_by, flip, objective_declared, default_objective, first_item_declared, fits_left, PartialRow}
-use Prelude.{start, has_seen, is_out_of_order, Terminal, Opens, Name, Number, Sign, Compares, Colon, new_column, begin_after, take_after_lone_number}
-use Prelude.{take, IsInWords, ends_in_number, ends_in_sign, last_name, ends_in_name, ends_in_value, ends_in_first_word, begins_row}
-use Prelude.{follows_terms, may_be_left_side, is_right_side, ends_in_constant, follows_constant, left_relation, last_relation}
-use Prelude.{bound_relation, agree, mixes_under, mixes_senses, term_columns, is_named}
+use Prelude.{start, has_seen, is_out_of_order, Terminal, Opens, Name, Number, Sign, Compares, Colon, new_column, begin_after}
+use Prelude.{take_after_lone_number, take, IsInWords, ends_in_number, ends_in_sign, last_name, ends_in_name, ends_in_value}
+use Prelude.{ends_in_first_word, begins_row, follows_terms, may_be_left_side, is_right_side, ends_in_constant, follows_constant}
+use Prelude.{left_relation, last_relation, bound_relation, agree, mixes_under, mixes_senses, term_columns, is_named}
 use Rattle.mpslp_lp_sentences.proofs.FaultedTokens.{in-words}
 use Rattle.mpslp_lp_sentences.proofs.TokenCases.{first_named, signs-by, item-by, limit-by, listed-by, lone-by, bound_column-by, side-by}
 use Rattle.mpslp_lp_sentences.proofs.TokenCases.{begin-by, objective-by, objective_name-by, item_number-by, semi-by}
 use Rattle.mpslp_lp_sentences.proofs.SectionFaults.{section_at_place, section_of_item, section_of_side, section_at, Opened, opened-later}
-use Rattle.mpslp_types.specs.declared.faults.BuildFault.TheVariants as builds
 use Rattle.mpslp_types.specs.declared.faults.FaultKind.TheVariants as kinds
-use Rattle.mpslp_lp_tokens.specs.declared.words.SectionWord.TheVariants as words
 
 -- ---- the tokens before, in each state
 

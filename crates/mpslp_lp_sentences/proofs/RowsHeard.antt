@@ -16,7 +16,6 @@ use Rattle.mpslp_lp_sentences.proofs.Stamped.{hears-next, hears-ahead, hears-goe
 use Rattle.mpslp_lp_sentences.proofs.ItemsHeard.{term_before, term-before, side_first, side_rest, side-split, hears-term, hears-first}
 use Rattle.mpslp_lp_sentences.proofs.ItemsHeard.{HearsTerm, hears-relation}
 use Rattle.mpslp_lp_sentences.proofs.RowFacts.{Pair, terms-new, row-adds}
-use Rattle.mpslp_lp_grammar.specs.Items as rules
 
 -- a column and its coefficient
 abbrev pub pair : Term → Pair

@@ -11,14 +11,12 @@ use Prelude.{AfterEnd, AfterToken, Goes, Refuses, refuse, with_made, declare_unl
 use Prelude.{take_after_signs, begin_item, declare_at, take_bound, take_side, no_limits, opened_by, may_begin_section, is_last_word}
 use Prelude.{open_section, begin_row, begin_bound, take_second_relation, name_taken, begin_phrase, begin, one, apply_sign, Limits}
 use Prelude.{limits_by, flip, objective_declared, default_objective, first_item_declared, terminal_fault, start, has_seen, with_section}
-use Prelude.{is_out_of_order, Terminal, Opens, Name, Compares, Colon, Free, begin_after, take_after_lone_number, take, IsInWords, opens, has_opened}
-use Prelude.{current_section, repeats_section, section_rank, opens_later, comes_late, comes_early, breaks_order}
+use Prelude.{is_out_of_order, Terminal, Opens, Name, Compares, Colon, Free, begin_after, take_after_lone_number, take, IsInWords, opens}
+use Prelude.{has_opened, current_section, repeats_section, section_rank, opens_later, comes_late, comes_early, breaks_order}
 use Rattle.mpslp_lp_sentences.proofs.FaultedTokens.{in-words}
 use Rattle.mpslp_lp_sentences.proofs.TokenCases.{signs-by, item-by, limit-by, listed-by, last_word-by, bound_name-by, bound_column-by}
 use Rattle.mpslp_lp_sentences.proofs.TokenCases.{side-by, begin-by, objective-by, objective_name-by, item_number-by, semi-by}
-use Rattle.mpslp_types.specs.declared.faults.BuildFault.TheVariants as builds
 use Rattle.mpslp_types.specs.declared.faults.FaultKind.TheVariants as kinds
-use Rattle.mpslp_lp_tokens.specs.declared.words.SectionWord.TheVariants as words
 
 -- ---- what a token does to the sections that were opened
 

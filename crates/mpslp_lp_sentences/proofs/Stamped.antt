@@ -5,7 +5,6 @@ use Prelude.{with_declarations, refusals_in_turn, ◌>>=◌, next, ahead, Termin
 use Prelude.{PhraseRule, Follows, goes_to, declares, SectionsSeen, Context, Place, section_start, may_begin_section, phrase_at, section_of}
 use Prelude.{SectionWord, point_at, at}
 use Rattle.mpslp_lp_sentences.proofs.Whole.{Tokens, preceded, whole, listened, listened-ahead}
-use Rattle.mpslp_lp_tokens.specs.declared.words.Section.TheVariants as sections
 use Rattle.mpslp_lp_tokens.specs.declared.words.SectionWord.TheVariants as words
 
 -- tokens, each on its line, before others

@@ -1,44 +1,61 @@
 -- Worked files: their tokens are those of the phrases that are written out, which declare what is listed, by computation.
 use Rattle.mpslp_lp_sentences.proofs.Prelude
-use Prelude.{String, ◌≡◌, refl, sym, ◌∙◌, map, false≢true, ℕ, ℤ, pos, negsuc, true, false, None, Some, List, ◌∷◌, [], ◌++◌, codes, is_none}
-use Prelude.{list_all, flat_map, lines, Sense, Minimize, Maximize, Limit, MinusInf, Finite, PlusInf, BuildFault, by_limits, empty_draft}
-use Prelude.{declare_sense, declare_objective, declare_constant, declare_row, declare_column, declare_coefficient, declare_lower}
-use Prelude.{declare_upper, declare_integer, declare_binary, declare_semi, Declaration, Declarations, refusals_in_turn, Plus, Minus, AtMost}
-use Prelude.{AtLeast, EqualTo, terminals, seen, lexical_fault, is_lp_text, declarations_of, Side, Term, Item, Row, RowSection, File, side}
-use Prelude.{term, a_term, a_constant, objective, row, row_between, no_rows, rows, bound, free_bound, bounds_between, bounds, generals}
-use Prelude.{binaries, semis, file, file_tokens, is_file, file_declares, Option}
+use Prelude.{ap, Bool, Terminal, String, ◌≡◌, refl, sym, ◌∙◌, map, false≢true, ℕ, ℤ, pos, negsuc, true, false, None, Some, List, ◌∷◌, []}
+use Prelude.{◌++◌, codes, is_none, list_all, flat_map, lines, Sense, Minimize, Maximize, Limit, MinusInf, Finite, PlusInf, BuildFault}
+use Prelude.{by_limits, empty_draft, declare_sense, declare_objective, declare_constant, declare_row, declare_column, declare_coefficient}
+use Prelude.{declare_lower, declare_upper, declare_integer, declare_binary, declare_semi, Declaration, Declarations, refusals_in_turn, Plus}
+use Prelude.{Minus, AtMost, AtLeast, EqualTo, terminals, seen, lexical_fault, is_lp_text, declarations_of, Side, Term, Item, Row}
+use Prelude.{RowSection, File, side, term, a_term, a_constant, objective, row, row_between, no_rows, rows, bound, free_bound}
+use Prelude.{bounds_between, bounds, generals, binaries, semis, file, file_tokens, is_file, file_declares, Option}
 use Rattle.std.proofs.Common.{take}
 use Rattle.std.specs.Fmt.{digits}
-use Rattle.mpslp_decimal.specs.Decimal.{Number, trailing_zeros}
+use Rattle.mpslp_decimal.{proofs.CutLemmas.{Each}, specs.Decimal.{Number, trailing_zeros}}
 use Rattle.mpslp_types.specs.declared.faults.BuildFault.TheVariants.{DuplicateRhs, DuplicateEntry, SemiContinuous}
 use Rattle.mpslp_lp_sentences.specs.Phrases.{Objective}
 use Rattle.mpslp_lp_sentences.specs.Sentence.{IsSentence}
 use Rattle.mpslp_lp_sentences.proofs.SentenceRead.{sentences-read}
 use Rattle.mpslp_lp_tokens.specs.declared.words.SectionWord.TheVariants as words
 
--- the first lines of the text are the file, which declares these
-pub record Reads (bytes : List ℕ) (count : ℕ) (whole : File) (declared : Declarations) : Type 0 where
-  pub right : is_file whole ≡ true
-  pub sound : list_all (λ line. is_none (lexical_fault line)) (take count (lines bytes)) ≡ true
-  pub tokens : flat_map terminals (take count (lines bytes)) ≡ file_tokens whole
-  pub declares : file_declares whole ≡ declared
-  pub unrefused : refusals_in_turn empty_draft declared ≡ []
-  -- and the reader's definition says the same
-  pub same : declarations_of bytes ≡ declared
+-- a text, how many of its lines are read, the phrases of these, and what they declare
+abbrev Worked : Type 0
+Worked = List ℕ × ℕ × File × Declarations
 
-pub sentence-from_reads : (bytes : List ℕ) (count : ℕ) (whole : File) (declared : Declarations) → Reads bytes count whole declared
-    → IsSentence bytes declared
-sentence-from_reads bytes count whole declared h =
-    record {
-      whole = whole;
-      right = h.right;
-      count = count;
-      sound = h.sound;
-      tokens = h.tokens;
-      declares = h.declares;
-      unrefused =
-          h.unrefused;
-    }
+abbrev Tests : Type 0
+Tests = Bool × Bool × List Terminal × Declarations × List BuildFault × Declarations
+
+-- the first lines of the text are the file, which declares these, and the reader's definition says the same
+abbrev tests : Worked → Tests
+tests it =
+    let seen = take it.1 (lines it.0) in (
+      is_file it.2,
+      list_all (λ line. is_none (lexical_fault line)) seen,
+      flat_map terminals seen,
+      file_declares it.2,
+      refusals_in_turn empty_draft it.3,
+      declarations_of it.0,
+    )
+
+abbrev passing : Worked → Tests
+passing it = (true, true, file_tokens it.2, it.3, [], it.3)
+
+abbrev IsWorked : Worked → Type 0
+IsWorked it = IsSentence it.0 it.3
+
+each_sentence : (its : List Worked) → map tests its ≡ map passing its → Each IsWorked its
+each_sentence [] e = tt
+each_sentence (it ∷ its) e =
+    let h : tests it ≡ passing it = cc in (
+      record {
+        whole = it.2;
+        right = ap (λ t. t.0) h;
+        count = it.1;
+        sound = ap (λ t. t.1) h;
+        tokens = ap (λ t. t.2) h;
+        declares = ap (λ t. t.3) h;
+        unrefused = ap (λ t. t.4) h;
+      },
+      each_sentence its cc,
+    )
 
 -- ---- values
 
@@ -86,7 +103,7 @@ limited name lower upper = declare_row (codes name) (by_limits lower upper)
 abbrev bounded : String → Limit → Limit → Declarations
 bounded name lower upper = declare_column (codes name) ∷ declare_lower (codes name) lower ∷ declare_upper (codes name) upper ∷ []
 
--- ---- labels, a comment, lines broken between tokens, and words in upper case
+-- ---- a small file
 
 abbrev small : List ℕ
 small = codes "\\ the same model\nMIN\nCOST: 2Y + X\ns.t.\nMYG: 1.5 Y => 1\nLIM1: X\n <= 4\nEND\n"
@@ -102,102 +119,95 @@ small_declared = declared Minimize "COST" (put "COST" "Y" (units 2) ++ (put "COS
     ++ limited "MYG" (finite 1) PlusInf ∷ (put "MYG" "Y" (number (pos 15) (negsuc 0))
     ++ limited "LIM1" MinusInf (finite 4) ∷ put "LIM1" "X" (units 1))))
 
-pub small_reads : Reads small 8 small_file small_declared
+-- ---- the texts
+
+abbrev worked_sentences : List Worked
+worked_sentences =
+    (small, 8, small_file, small_declared) ∷
+    -- the lines after `end` are ignored
+    (small ++ codes "[ x ^ 2 ]\nend\n", 8, small_file, small_declared) ∷
+    -- rows without labels are numbered among all rows
+    (
+      codes "min x\nst\nx >= 1\nc2: x <= 5\nx <= 4\nend\n",
+      6,
+      file (min None (a_term (first "x") ∷ []))
+          (st (row None (first "x" ∷ []) AtLeast (value 1) ∷ row (Some (codes "c2")) (first "x" ∷ []) AtMost (value 5)
+          ∷ row None (first "x" ∷ []) AtMost (value 4) ∷ [])) [],
+      declared Minimize "obj" (put "obj" "x" (units 1) ++ limited "c1" (finite 1) PlusInf ∷ (put "c1" "x" (units 1)
+          ++ limited "c2" MinusInf (finite 5) ∷ (put "c2" "x" (units 1) ++ limited "c3" MinusInf (finite 4) ∷ put "c3" "x" (units 1)))),
+    ) ∷
+    -- a constant before the terms, and no rows
+    (
+      codes "min C: - 5 + X\nend\n",
+      2,
+      file (min (Some (codes "C")) (a_constant (Minus ∷ []) (units 5) ∷ a_term (plus "X") ∷ [])) no_rows [],
+      declared Minimize "C" (declare_constant (number (negsuc 4) (pos 0)) ∷ put "C" "X" (units 1)),
+    ) ∷
+    -- a run of signs, numbers that touch names, and all on one line
+    (
+      codes "min 3e5x + 3x1 + - 2 y st c: x <= 1 end\n",
+      1,
+      file (min None (a_term (term [] (Some (number (pos 3) (pos 5))) (codes "x"))
+          ∷ a_term (term (Plus ∷ []) (Some (units 3)) (codes "x1")) ∷ a_term (term (Plus ∷ Minus ∷ []) (Some (units 2)) (codes "y")) ∷ []))
+          (st (row (Some (codes "c")) (first "x" ∷ []) AtMost (value 1) ∷ [])) [],
+      declared Minimize "obj" (put "obj" "x" (number (pos 3) (pos 5)) ++ (put "obj" "x1" (units 3)
+          ++ (put "obj" "y" (number (negsuc 1) (pos 0)) ++ limited "c" MinusInf (finite 1) ∷ put "c" "x" (units 1)))),
+    ) ∷
+    -- a ranged row with one infinite limit, and a free column
+    (
+      codes "min\nst\n1 <= x + y <= 1e20\nbounds x free\nend\n",
+      5,
+      file (min None []) (st (row_between None (value 1) (first "x" ∷ plus "y" ∷ []) (side None (Some (number (pos 1) (pos 20)))) ∷ []))
+          (bounds (free_bound (codes "x") ∷ []) ∷ []),
+      declared Minimize "obj" (limited "c1" (finite 1) PlusInf ∷ (put "c1" "x" (units 1) ++ (put "c1" "y" (units 1)
+          ++ bounded "x" MinusInf PlusInf))),
+    ) ∷
+    -- bounds by words
+    (
+      codes "min C: X bounds -inf <= X <= infinity end\n",
+      1,
+      file (min (Some (codes "C")) (a_term (first "X") ∷ [])) no_rows
+          (bounds (bounds_between (side (Some Minus) None) (codes "X") (side None None) ∷ []) ∷ []),
+      declared Minimize "C" (put "C" "X" (units 1) ++ bounded "X" MinusInf PlusInf),
+    ) ∷
+    -- three sections, in this order
+    (
+      codes "min x + y\nbounds\nx = 1\nbinaries\nx\ngenerals\nz\nend\n",
+      8,
+      file (min None (a_term (first "x") ∷ a_term (plus "y") ∷ [])) no_rows
+          (bounds (bound (codes "x") EqualTo (value 1) ∷ []) ∷ binaries (codes "x" ∷ []) ∷ generals (codes "z" ∷ []) ∷ []),
+      declared Minimize "obj" (put "obj" "x" (units 1) ++ (put "obj" "y" (units 1) ++ (bounded "x" (finite 1) (finite 1)
+          ++ declare_column (codes "x") ∷ declare_binary (codes "x") ∷ declare_column (codes "z") ∷ declare_integer (codes "z") ∷ []))),
+    ) ∷
+    -- semi-continuous columns: a heading of three tokens, and one of a word with a column that is named like the third
+    (
+      codes "max 3 + x\nbounds\n1 <= x <= 4\nsemi-\ncontinuous\nx\nend\n",
+      7,
+      file (objective Maximize None (a_constant [] (units 3) ∷ a_term (plus "x") ∷ [])) no_rows
+          (bounds (bounds_between (value 1) (codes "x") (value 4) ∷ [])
+          ∷ semis (seen.Opens words.Semi ∷ seen.Sign Minus ∷ seen.Name (codes "continuous") ∷ []) (codes "x" ∷ []) ∷ []),
+      declared Maximize "obj" (declare_constant (units 3) ∷ (put "obj" "x" (units 1)
+          ++ (bounded "x" (finite 1) (finite 4) ++ declare_column (codes "x") ∷ declare_semi (codes "x") ∷ []))),
+    ) ∷ (
+      codes "min x\nsemi continuous\nend\n",
+      3,
+      file (min None (a_term (first "x") ∷ [])) no_rows (semis (seen.Opens words.Semi ∷ []) (codes "continuous" ∷ []) ∷ []),
+      declared Minimize "obj" (put "obj" "x" (units 1) ++ declare_column (codes "continuous") ∷ declare_semi (codes "continuous") ∷ []),
+    ) ∷
+    -- what follows a right-hand side is the next row
+    (
+      codes "min\nst\nx >= 2 + y <= 5\nend\n",
+      4,
+      file (min None [])
+          (st (row None (first "x" ∷ []) AtLeast (value 2) ∷ row None (plus "y" ∷ []) AtMost (value 5) ∷ [])) [],
+      declared Minimize "obj" (limited "c1" (finite 2) PlusInf ∷ (put "c1" "x" (units 1)
+          ++ limited "c2" MinusInf (finite 5) ∷ put "c2" "y" (units 1))),
+    ) ∷
+    []
+
+pub worked_sentences-right : Each IsWorked worked_sentences
 unfolding digits trailing_zeros
-small_reads = record { right = refl; sound = refl; tokens = refl; declares = refl; unrefused = refl; same = refl }
-
--- ---- the lines after `end` are ignored
-
-pub ended_reads : Reads (small ++ codes "[ x ^ 2 ]\nend\n") 8 small_file small_declared
-unfolding digits trailing_zeros
-ended_reads = record { right = refl; sound = refl; tokens = refl; declares = refl; unrefused = refl; same = refl }
-
--- ---- rows without labels are numbered among all rows
-
-pub unlabelled_reads : Reads (codes "min x\nst\nx >= 1\nc2: x <= 5\nx <= 4\nend\n") 6
-    (file (min None (a_term (first "x") ∷ []))
-    (st (row None (first "x" ∷ []) AtLeast (value 1) ∷ row (Some (codes "c2")) (first "x" ∷ []) AtMost (value 5)
-    ∷ row None (first "x" ∷ []) AtMost (value 4) ∷ []))
-    [])
-    (declared Minimize "obj" (put "obj" "x" (units 1) ++ limited "c1" (finite 1) PlusInf ∷ (put "c1" "x" (units 1)
-    ++ limited "c2" MinusInf (finite 5) ∷ (put "c2" "x" (units 1) ++ limited "c3" MinusInf (finite 4) ∷ put "c3" "x" (units 1)))))
-unfolding digits trailing_zeros
-unlabelled_reads = record { right = refl; sound = refl; tokens = refl; declares = refl; unrefused = refl; same = refl }
-
--- ---- a constant before the terms, and no rows
-
-pub constant_reads : Reads (codes "min C: - 5 + X\nend\n") 2
-    (file (min (Some (codes "C")) (a_constant (Minus ∷ []) (units 5) ∷ a_term (plus "X") ∷ [])) no_rows [])
-    (declared Minimize "C" (declare_constant (number (negsuc 4) (pos 0)) ∷ put "C" "X" (units 1)))
-unfolding digits trailing_zeros
-constant_reads = record { right = refl; sound = refl; tokens = refl; declares = refl; unrefused = refl; same = refl }
-
--- ---- a run of signs, numbers that touch names, and all on one line
-
-pub touching_reads : Reads (codes "min 3e5x + 3x1 + - 2 y st c: x <= 1 end\n") 1
-    (file (min None (a_term (term [] (Some (number (pos 3) (pos 5))) (codes "x"))
-    ∷ a_term (term (Plus ∷ []) (Some (units 3)) (codes "x1")) ∷ a_term (term (Plus ∷ Minus ∷ []) (Some (units 2)) (codes "y")) ∷ []))
-    (st (row (Some (codes "c")) (first "x" ∷ []) AtMost (value 1) ∷ [])) [])
-    (declared Minimize "obj" (put "obj" "x" (number (pos 3) (pos 5)) ++ (put "obj" "x1" (units 3)
-    ++ (put "obj" "y" (number (negsuc 1) (pos 0)) ++ limited "c" MinusInf (finite 1) ∷ put "c" "x" (units 1)))))
-unfolding digits trailing_zeros
-touching_reads = record { right = refl; sound = refl; tokens = refl; declares = refl; unrefused = refl; same = refl }
-
--- ---- a ranged row with one infinite limit, and a free column
-
-pub ranged_reads : Reads (codes "min\nst\n1 <= x + y <= 1e20\nbounds x free\nend\n") 5
-    (file (min None []) (st (row_between None (value 1) (first "x" ∷ plus "y" ∷ []) (side None (Some (number (pos 1) (pos 20)))) ∷ []))
-    (bounds (free_bound (codes "x") ∷ []) ∷ []))
-    (declared Minimize "obj" (limited "c1" (finite 1) PlusInf ∷ (put "c1" "x" (units 1) ++ (put "c1" "y" (units 1)
-    ++ bounded "x" MinusInf PlusInf))))
-unfolding digits trailing_zeros
-ranged_reads = record { right = refl; sound = refl; tokens = refl; declares = refl; unrefused = refl; same = refl }
-
--- ---- bounds by words
-
-pub infinite_reads : Reads (codes "min C: X bounds -inf <= X <= infinity end\n") 1
-    (file (min (Some (codes "C")) (a_term (first "X") ∷ [])) no_rows
-    (bounds (bounds_between (side (Some Minus) None) (codes "X") (side None None) ∷ []) ∷ []))
-    (declared Minimize "C" (put "C" "X" (units 1) ++ bounded "X" MinusInf PlusInf))
-unfolding digits trailing_zeros
-infinite_reads = record { right = refl; sound = refl; tokens = refl; declares = refl; unrefused = refl; same = refl }
-
--- ---- three sections, in this order
-
-pub kinds_reads : Reads (codes "min x + y\nbounds\nx = 1\nbinaries\nx\ngenerals\nz\nend\n") 8
-    (file (min None (a_term (first "x") ∷ a_term (plus "y") ∷ [])) no_rows
-    (bounds (bound (codes "x") EqualTo (value 1) ∷ []) ∷ binaries (codes "x" ∷ []) ∷ generals (codes "z" ∷ []) ∷ []))
-    (declared Minimize "obj" (put "obj" "x" (units 1) ++ (put "obj" "y" (units 1) ++ (bounded "x" (finite 1) (finite 1)
-    ++ declare_column (codes "x") ∷ declare_binary (codes "x") ∷ declare_column (codes "z") ∷ declare_integer (codes "z") ∷ []))))
-unfolding digits trailing_zeros
-kinds_reads = record { right = refl; sound = refl; tokens = refl; declares = refl; unrefused = refl; same = refl }
-
--- ---- semi-continuous columns: a heading of three tokens, and one of a word with a column that is named like the third
-
-pub three_reads : Reads (codes "max 3 + x\nbounds\n1 <= x <= 4\nsemi-\ncontinuous\nx\nend\n") 7
-    (file (objective Maximize None (a_constant [] (units 3) ∷ a_term (plus "x") ∷ [])) no_rows
-    (bounds (bounds_between (value 1) (codes "x") (value 4) ∷ [])
-    ∷ semis (seen.Opens words.Semi ∷ seen.Sign Minus ∷ seen.Name (codes "continuous") ∷ []) (codes "x" ∷ []) ∷ []))
-    (declared Maximize "obj" (declare_constant (units 3) ∷ (put "obj" "x" (units 1)
-    ++ (bounded "x" (finite 1) (finite 4) ++ declare_column (codes "x") ∷ declare_semi (codes "x") ∷ []))))
-unfolding digits trailing_zeros
-three_reads = record { right = refl; sound = refl; tokens = refl; declares = refl; unrefused = refl; same = refl }
-
-pub named_reads : Reads (codes "min x\nsemi continuous\nend\n") 3
-    (file (min None (a_term (first "x") ∷ [])) no_rows (semis (seen.Opens words.Semi ∷ []) (codes "continuous" ∷ []) ∷ []))
-    (declared Minimize "obj" (put "obj" "x" (units 1) ++ declare_column (codes "continuous") ∷ declare_semi (codes "continuous") ∷ []))
-unfolding digits trailing_zeros
-named_reads = record { right = refl; sound = refl; tokens = refl; declares = refl; unrefused = refl; same = refl }
-
--- ---- what follows a right-hand side is the next row
-
-pub two_rows_reads : Reads (codes "min\nst\nx >= 2 + y <= 5\nend\n") 4
-    (file (min None [])
-    (st (row None (first "x" ∷ []) AtLeast (value 2) ∷ row None (plus "y" ∷ []) AtMost (value 5) ∷ [])) [])
-    (declared Minimize "obj" (limited "c1" (finite 2) PlusInf ∷ (put "c1" "x" (units 1)
-    ++ limited "c2" MinusInf (finite 5) ∷ put "c2" "y" (units 1))))
-unfolding digits trailing_zeros
-two_rows_reads = record { right = refl; sound = refl; tokens = refl; declares = refl; unrefused = refl; same = refl }
+worked_sentences-right = each_sentence worked_sentences refl
 
 -- ---- files whose declarations are rejected
 

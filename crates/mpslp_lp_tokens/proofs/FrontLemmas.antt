@@ -1,10 +1,12 @@
 -- The longest token at a position, by its first bytes.
-use Rattle.std.proofs.Common.{◌≡◌, refl, sym, ap, ◌∙◌, List, [], ◌∷◌, length, take, ℕ, zero, suc, Bool, true, false, cond, arith, ◌<◌, ◌≤◌, ◌+◌}
+use Rattle.std.proofs.Common.{◌≡◌, refl, sym, ap, ◌∙◌, List, [], ◌∷◌, length, take, ℕ, zero, suc, Bool, true, false, cond, arith, ◌<◌, ◌≤◌}
+use Rattle.std.proofs.Common.{◌+◌}
 use Rattle.std.specs.Prelude.{Option, Some, None, ◌&&◌, ◌||◌, not, ◌==◌}
 use Rattle.std.specs.List.{prefix_len, list_all}
 use Rattle.std.proofs.lemmas.Bool.{eqb-true}
 use Rattle.mpslp_decimal.specs.Literal.{is_digit, is_literal}
-use Rattle.mpslp_lp_tokens.specs.Token.{begins_word, continues_word, is_word, is_number, operator_kind, kind_of, Front, longest_within, token_at}
+use Rattle.mpslp_lp_tokens.specs.Token.{begins_word, continues_word, is_word, is_number, operator_kind, kind_of, Front, longest_within}
+use Rattle.mpslp_lp_tokens.specs.Token.{token_at}
 use Rattle.mpslp_lp_tokens.specs.Scan.{IsLongestFront}
 use Rattle.mpslp_lp_tokens.proofs.NameTokens.{begins-no_number}
 use Rattle.mpslp_lp_tokens.specs.declared.tokens.TokenKind.{TokenKind}

@@ -1,5 +1,6 @@
 -- The longest token at the start of a nonempty text, in the form that the code needs.
-use Rattle.std.proofs.Common.{◌≡◌, refl, sym, ap, subst, ◌∙◌, List, [], ◌∷◌, length, take, drop, get_or, ℕ, suc, true, false, arith, ◌<◌, ◌≤◌, ◌+◌, ◌-◌}
+use Rattle.std.proofs.Common.{◌≡◌, refl, sym, ap, subst, ◌∙◌, List, [], ◌∷◌, length, take, drop, get_or, ℕ, suc, true, false, arith, ◌<◌}
+use Rattle.std.proofs.Common.{◌≤◌, ◌+◌, ◌-◌}
 use Rattle.std.specs.Prelude.{Some, None}
 use Rattle.std.specs.List.{prefix_len}
 use Rattle.mpslp_lp_tokens.specs.Token.{begins_word, continues_word, is_number, operator_kind, token_at}

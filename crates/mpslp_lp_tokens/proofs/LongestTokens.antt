@@ -1,10 +1,12 @@
 -- The tokens of a line are the longest ones, and no other list of tokens is.
-use Rattle.std.proofs.Common.{◌≡◌, ◌<◌, ◌≤◌, refl, sym, ap, subst, ◌∙◌, ℕ, zero, suc, ◌+◌, ◌-◌, List, [], ◌∷◌, Bool, true, false, cond, length, take, drop, inl, inr, arith}
+use Rattle.std.proofs.Common.{◌≡◌, ◌<◌, ◌≤◌, refl, sym, ap, subst, ◌∙◌, ℕ, zero, suc, ◌+◌, ◌-◌, List, [], ◌∷◌, Bool, true, false, cond}
+use Rattle.std.proofs.Common.{length, take, drop, inl, inr, arith}
 use Rattle.std.specs.Prelude.{◌⊎◌, ◌==◌, Option, Some, None}
 use Rattle.std.specs.List.{prefix_len}
 use Rattle.std.proofs.lemmas.Bool.{eqb-true}
 use Rattle.std.proofs.lemmas.List.{length-take-le}
-use Rattle.mpslp_lp_tokens.specs.Token.{begins_comment, is_blank, kind_of, Front, longest_within, longest_token, token_at, Token, tokens_from}
+use Rattle.mpslp_lp_tokens.specs.Token.{begins_comment, is_blank, kind_of, Front, longest_within, longest_token, token_at, Token}
+use Rattle.mpslp_lp_tokens.specs.Token.{tokens_from}
 use Rattle.mpslp_lp_tokens.specs.Laws.{is_comment, IsNoLonger, BeginWith, AreLongest, TokensAreLongest, LongestAreTokens}
 use Rattle.mpslp_lp_tokens.specs.declared.tokens.TokenKind.{TokenKind}
 use Rattle.mpslp_lp_tokens.specs.declared.tokens.TokenKind.TheVariants.{Unknown}

@@ -1,8 +1,10 @@
 -- The tokens of a line are consecutive slices of it that do not overlap.
-use Rattle.std.proofs.Common.{◌≡◌, ◌<◌, ◌≤◌, refl, ap, subst, ◌∙◌, ℕ, zero, suc, ◌+◌, ◌-◌, List, [], ◌∷◌, Bool, true, false, length, take, drop, arith}
+use Rattle.std.proofs.Common.{◌≡◌, ◌<◌, ◌≤◌, refl, ap, subst, ◌∙◌, ℕ, zero, suc, ◌+◌, ◌-◌, List, [], ◌∷◌, Bool, true, false, length, take}
+use Rattle.std.proofs.Common.{drop, arith}
 use Rattle.std.specs.Prelude.{Option, Some, None}
 use Rattle.std.proofs.lemmas.List.{length-take-le}
-use Rattle.mpslp_lp_tokens.specs.Token.{begins_comment, is_blank, kind_of, Front, longest_within, longest_token, token_at, Token, tokens_from, tokens}
+use Rattle.mpslp_lp_tokens.specs.Token.{begins_comment, is_blank, kind_of, Front, longest_within, longest_token, token_at, Token}
+use Rattle.mpslp_lp_tokens.specs.Token.{tokens_from, tokens}
 use Rattle.mpslp_lp_tokens.specs.Laws.{AreSlices}
 use Rattle.mpslp_lp_tokens.specs.declared.tokens.TokenKind.{TokenKind}
 use Rattle.mpslp_lp_tokens.specs.declared.tokens.TokenKind.TheVariants.{Unknown}

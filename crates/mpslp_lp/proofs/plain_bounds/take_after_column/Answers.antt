@@ -1,13 +1,6 @@
-use Rattle.std.proofs.Common.{sym, subst, refl}
-use Rattle.std.specs.Prelude.{None, Ok, Err}
-use Rattle.mpslp_lp_grammar.specs.Terminal.Terminal.{Name}
-use Rattle.mpslp_lp_grammar.specs.TerminalToken.{terminal_with_text}
-use Rattle.mpslp_lp_grammar.specs.declared.terminals.TerminalKind.{TerminalKind}
-use Rattle.mpslp_lp_grammar.specs.declared.states.Place.TheVariants.{InBounds}
-use Rattle.mpslp_lp_grammar.specs.declared.states.State.{State}
-use Rattle.mpslp_lp_grammar.specs.declared.states.State.TheVariants.{Between, BoundName}
-use Rattle.mpslp_lp.specs.PlainTerm.{Begins}
-use Rattle.mpslp_lp.specs.PlainPhrase.{TakesSome}
+use Rattle.mpslp_lp.proofs.Prelude
+use Prelude.{sym, subst, refl, None, Ok, Err, Name, terminal_with_text, TerminalKind, InBounds, State, Between, BoundName, Begins}
+use Prelude.{TakesSome}
 use Rattle.mpslp_lp.proofs.PlainPhrases.{phrase-goes, phrase-refused, free-last, some-after-one}
 use Rattle.mpslp_lp.proofs.plain_bounds.take_after_column.Goals as goal
 

@@ -1,14 +1,6 @@
-use Rattle.std.proofs.Common.{sym, subst, [], ◌∷◌}
-use Rattle.std.specs.Prelude.{Some, Ok, Err}
-use Rattle.mpslp_builder.specs.Declaration.{declare_column}
-use Rattle.mpslp_lp_grammar.specs.Items.{limits_by}
-use Rattle.mpslp_lp_grammar.specs.AfterToken.{take_bound}
-use Rattle.mpslp_lp_grammar.specs.Declares.{TakesToken}
-use Rattle.mpslp_lp_grammar.specs.declared.relations.Relation.{Relation}
-use Rattle.mpslp_lp_grammar.specs.declared.states.Place.TheVariants.{InBounds}
-use Rattle.mpslp_lp_grammar.specs.declared.states.State.{State}
-use Rattle.mpslp_lp_grammar.specs.declared.states.State.TheVariants.{Between}
-use Rattle.mpslp_lp.specs.PlainPhrase.{TakesSome}
+use Rattle.mpslp_lp.proofs.Prelude
+use Prelude.{sym, subst, [], ◌∷◌, Some, Ok, Err, declare_column, limits_by, take_bound, TakesToken, Relation, InBounds, State, Between}
+use Prelude.{TakesSome}
 use Rattle.mpslp_lp.proofs.PlainPhrases.{phrase-goes, phrase-refused, left-last, some-after}
 use Rattle.mpslp_lp.proofs.plain_bounds.take_after_limit.Goals as goal
 

@@ -1,8 +1,5 @@
-use Rattle.std.proofs.Common.{subst, List}
-use Rattle.mpslp_lp_tokens.specs.Token.{Token}
-use Rattle.mpslp_lp_grammar.specs.TerminalToken.{terminal_with_text, terminal_of_token}
-use Rattle.mpslp_lp_grammar.specs.declared.terminals.TerminalKind.{TerminalKind}
-use Rattle.mpslp_lp.specs.PlainTerm.{Begins}
+use Rattle.mpslp_lp.proofs.Prelude
+use Prelude.{subst, List, Token, terminal_with_text, terminal_of_token, TerminalKind, Begins}
 use Rattle.mpslp_lp.proofs.plain_bounds.take_bound.Goals as goal
 
 pub returns-in-Name : goal.returns-in-Name

@@ -1,10 +1,5 @@
-use Rattle.std.proofs.Common.{sym, subst}
-use Rattle.std.specs.Prelude.{None, Ok}
-use Rattle.mpslp_lp_grammar.specs.declared.states.Place.TheVariants.{InBounds}
-use Rattle.mpslp_lp_grammar.specs.declared.states.SideOwner.TheVariants.{SideOfBound}
-use Rattle.mpslp_lp_grammar.specs.declared.states.State.{State}
-use Rattle.mpslp_lp_grammar.specs.declared.states.State.TheVariants.{Between}
-use Rattle.mpslp_lp.specs.PlainPhrase.{TakesSome}
+use Rattle.mpslp_lp.proofs.Prelude
+use Prelude.{sym, subst, None, Ok, InBounds, SideOfBound, State, Between, TakesSome}
 use Rattle.mpslp_lp.proofs.PlainPhrases.{phrase-goes, phrase-refused, right-last}
 use Rattle.mpslp_lp.proofs.plain_bounds.take_right_side.Goals as goal
 

@@ -1,11 +1,5 @@
-use Rattle.std.proofs.Common.{subst, ap, ◌∙◌, arith, ℕ, List}
-use Rattle.std.specs.Prelude.{Some}
-use Rattle.mpslp_lp_tokens.specs.Token.{Token}
-use Rattle.mpslp_lp_grammar.specs.declared.states.Place.TheVariants.{InBounds}
-use Rattle.mpslp_lp_grammar.specs.declared.states.State.{State}
-use Rattle.mpslp_lp_grammar.specs.declared.states.State.TheVariants.{Between}
-use Rattle.mpslp_lp.specs.LineByLine.{take_tokens}
-use Rattle.mpslp_lp.specs.PlainPhrase.{TakesSome}
+use Rattle.mpslp_lp.proofs.Prelude
+use Prelude.{subst, ap, ◌∙◌, arith, ℕ, List, Some, Token, InBounds, State, Between, take_tokens, TakesSome}
 use Rattle.mpslp_lp.proofs.PlainPhrases.{bound-compared}
 use Rattle.mpslp_lp.proofs.plain_bounds.take_second_side.Goals as goal
 

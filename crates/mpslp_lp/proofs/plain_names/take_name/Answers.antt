@@ -1,5 +1,5 @@
-use Rattle.mpslp_lp_grammar.specs.FirstToken.{listed_at}
-use Rattle.mpslp_lp_grammar.specs.declared.states.State.TheVariants.{Between}
+use Rattle.mpslp_lp.proofs.Prelude
+use Prelude.{listed_at, Between}
 use Rattle.mpslp_lp.proofs.PlainPhrases.{phrase-goes, phrase-refused, name-last}
 use Rattle.mpslp_lp.proofs.plain_names.take_name.Goals as goal
 

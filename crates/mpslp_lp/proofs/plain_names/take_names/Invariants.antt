@@ -1,7 +1,5 @@
-use Rattle.std.proofs.Common.{◌≡◌, ◌≤◌, length}
-use Rattle.mpslp_lp.specs.LineByLine.{take_tokens}
-use Rattle.mpslp_lp_grammar.specs.FirstToken.{listed_at}
-use Rattle.mpslp_lp_grammar.specs.declared.states.State.TheVariants.{Between}
+use Rattle.mpslp_lp.proofs.Prelude
+use Prelude.{◌≡◌, ◌≤◌, length, take_tokens, listed_at, Between}
 use Rattle.mpslp_lp.proofs.plain_names.take_names.Given as goal
 
 -- the result depends on the tokens that are left

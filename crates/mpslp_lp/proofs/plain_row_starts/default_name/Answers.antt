@@ -1,6 +1,5 @@
-use Rattle.std.proofs.Common.{sym, ap, ◌∙◌}
-use Rattle.mpslp_lp_grammar.specs.AfterToken.{Goes}
-use Rattle.mpslp_lp_grammar.specs.declared.states.State.{State}
+use Rattle.mpslp_lp.proofs.Prelude
+use Prelude.{sym, ap, ◌∙◌, Goes, State}
 use Rattle.mpslp_lp.proofs.PlainStarts.{name_of, context_of}
 use Rattle.mpslp_lp.proofs.plain_row_starts.default_name.Goals as goal
 

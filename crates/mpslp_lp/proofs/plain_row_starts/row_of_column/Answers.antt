@@ -1,11 +1,6 @@
-use Rattle.std.proofs.Common.{◌≡◌, ◌∙◌, subst, ap, ℕ, List}
-use Rattle.std.specs.Prelude.{MatchResult}
+use Rattle.mpslp_lp.proofs.Prelude
+use Prelude.{◌≡◌, ◌∙◌, subst, ap, ℕ, List, MatchResult, OutOfMemory, one, PartialRow, default_row, row_of_term}
 use Rattle.mpslp_decimal.specs.Decimal.{Number}
-use Rattle.mpslp_lines.specs.declared.errors.LineError.TheVariants.{OutOfMemory}
-use Rattle.mpslp_lp_grammar.specs.Items.{one}
-use Rattle.mpslp_lp_grammar.specs.PartialRow.{PartialRow}
-use Rattle.mpslp_lp_grammar.specs.Rows.{default_row}
-use Rattle.mpslp_lp.specs.PlainStart.{row_of_term}
 use Rattle.mpslp_lp.proofs.PlainStarts.{row-and-context}
 use Rattle.mpslp_lp.proofs.plain_row_starts.row_of_column.Goals as goal
 

@@ -1,6 +1,5 @@
-use Rattle.std.proofs.Common.{subst}
-use Rattle.mpslp_lp_grammar.specs.Declares.{AddsTerm}
-use Rattle.mpslp_lp_grammar.specs.PartialRow.{PartialRow}
+use Rattle.mpslp_lp.proofs.Prelude
+use Prelude.{subst, AddsTerm, PartialRow}
 use Rattle.mpslp_lp.proofs.PlainStarts.{only-term}
 use Rattle.mpslp_lp.proofs.plain_row_starts.row_of_term.Goals as goal
 

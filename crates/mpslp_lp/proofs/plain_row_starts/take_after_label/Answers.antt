@@ -1,9 +1,5 @@
-use Rattle.std.proofs.Common.{ap, ◌∙◌, subst, arith, ℕ, List}
-use Rattle.mpslp_lp_tokens.specs.Token.{Token}
-use Rattle.mpslp_lp_grammar.specs.declared.states.State.{State}
-use Rattle.mpslp_lp_grammar.specs.declared.states.State.TheVariants.{RowLabel}
-use Rattle.mpslp_lp.specs.LineByLine.{take_tokens}
-use Rattle.mpslp_lp.specs.PlainPhrase.{TakesSome}
+use Rattle.mpslp_lp.proofs.Prelude
+use Prelude.{ap, ◌∙◌, subst, arith, ℕ, List, Token, State, RowLabel, take_tokens, TakesSome}
 use Rattle.mpslp_lp.proofs.plain_row_starts.take_after_label.Goals as goal
 
 pub returns-in-Some : goal.returns-in-Some

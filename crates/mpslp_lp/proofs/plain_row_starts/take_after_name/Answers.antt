@@ -1,13 +1,6 @@
-use Rattle.std.proofs.Common.{sym, subst, refl, List}
-use Rattle.mpslp_lp_tokens.specs.Token.{Token}
-use Rattle.mpslp_lp_grammar.specs.Terminal.Terminal.{Sign, Name}
-use Rattle.mpslp_lp_grammar.specs.TerminalToken.{terminal_of_token, terminal_with_text}
-use Rattle.mpslp_lp_grammar.specs.declared.terminals.TerminalKind.{TerminalKind}
-use Rattle.mpslp_lp_grammar.specs.declared.states.Place.TheVariants.{BetweenRows}
-use Rattle.mpslp_lp_grammar.specs.declared.states.State.{State}
-use Rattle.mpslp_lp_grammar.specs.declared.states.State.TheVariants.{Between, RowName, RowLabel}
-use Rattle.mpslp_lp.specs.PlainTerm.{Begins}
-use Rattle.mpslp_lp.specs.PlainPhrase.{TakesSome}
+use Rattle.mpslp_lp.proofs.Prelude
+use Prelude.{sym, subst, refl, List, Token, Sign, Name, terminal_of_token, terminal_with_text, TerminalKind, BetweenRows, State, Between}
+use Prelude.{RowName, RowLabel, Begins, TakesSome}
 use Rattle.mpslp_lp.proofs.PlainPhrases.{label-taken, some-after, some-after-one}
 use Rattle.mpslp_lp.proofs.plain_row_starts.take_after_name.Goals as goal
 

@@ -1,13 +1,5 @@
-use Rattle.std.proofs.Common.{sym, ap, ◌∙◌, arith}
-use Rattle.mpslp_lp_grammar.specs.Items.{one}
-use Rattle.mpslp_lp_grammar.specs.PartialRow.{PartialRow}
-use Rattle.mpslp_lp_grammar.specs.Rows.{default_row}
-use Rattle.mpslp_lp_grammar.specs.declared.context.Context.{Context}
-use Rattle.mpslp_lp_grammar.specs.declared.states.Place.TheVariants.{InRow}
-use Rattle.mpslp_lp_grammar.specs.declared.states.State.{State}
-use Rattle.mpslp_lp_grammar.specs.declared.states.State.TheVariants.{Between, RowName}
-use Rattle.mpslp_lp.specs.LineByLine.{take_tokens}
-use Rattle.mpslp_lp.specs.PlainStart.{row_of_term}
+use Rattle.mpslp_lp.proofs.Prelude
+use Prelude.{sym, ap, ◌∙◌, arith, one, PartialRow, default_row, Context, InRow, State, Between, RowName, take_tokens, row_of_term}
 use Rattle.mpslp_lp.proofs.PlainStarts.{same-first}
 use Rattle.mpslp_lp.proofs.plain_row_starts.take_column.Goals as goal
 

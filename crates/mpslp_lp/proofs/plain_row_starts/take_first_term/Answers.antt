@@ -1,11 +1,5 @@
-use Rattle.std.proofs.Common.{rules, ◌≡◌, ◌∙◌, ap}
-use Rattle.mpslp_lp_grammar.specs.PartialRow.{PartialRow}
-use Rattle.mpslp_lp_grammar.specs.declared.context.Context.{Context}
-use Rattle.mpslp_lp_grammar.specs.declared.states.Place.TheVariants.{InRow}
-use Rattle.mpslp_lp_grammar.specs.declared.states.State.{State}
-use Rattle.mpslp_lp_grammar.specs.declared.states.State.TheVariants.{Between}
-use Rattle.mpslp_lp.specs.LineByLine.{take_tokens}
-use Rattle.mpslp_lp.specs.PlainStart.{row_of_term}
+use Rattle.mpslp_lp.proofs.Prelude
+use Prelude.{rules, ◌≡◌, ◌∙◌, ap, PartialRow, Context, InRow, State, Between, take_tokens, row_of_term}
 use Rattle.mpslp_lp.proofs.PlainStarts.{first-taken}
 use Rattle.mpslp_lp.proofs.plain_row_starts.take_first_term.Goals as goal
 

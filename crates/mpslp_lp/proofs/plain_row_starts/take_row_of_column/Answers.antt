@@ -1,14 +1,6 @@
-use Rattle.std.proofs.Common.{sym, subst, refl}
-use Rattle.std.specs.Prelude.{IsTrue}
-use Rattle.mpslp_lp_grammar.specs.Items.{one}
-use Rattle.mpslp_lp_grammar.specs.PartialRow.{PartialRow}
-use Rattle.mpslp_lp_grammar.specs.Rows.{default_row, fits_left}
-use Rattle.mpslp_lp_grammar.specs.Terminal.Terminal.{Compares}
-use Rattle.mpslp_lp_grammar.specs.declared.context.Context.{Context}
-use Rattle.mpslp_lp_grammar.specs.declared.states.Place.TheVariants.{BetweenRows, InRow}
-use Rattle.mpslp_lp_grammar.specs.declared.states.State.TheVariants.{Between, RowName}
-use Rattle.mpslp_lp.specs.PlainPhrase.{TakesSome}
-use Rattle.mpslp_lp.specs.PlainStart.{row_of_term}
+use Rattle.mpslp_lp.proofs.Prelude
+use Prelude.{sym, subst, refl, IsTrue, one, PartialRow, default_row, fits_left, Compares, Context, BetweenRows, InRow, Between, RowName}
+use Prelude.{TakesSome, row_of_term}
 use Rattle.mpslp_lp.proofs.PlainStarts.{same-first, same-start}
 use Rattle.mpslp_lp.proofs.plain_row_starts.take_row_of_column.Goals as goal
 

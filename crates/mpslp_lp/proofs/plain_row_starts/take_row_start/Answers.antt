@@ -1,12 +1,6 @@
-use Rattle.std.proofs.Common.{◌≡◌, sym, subst, refl, List, inl, inr}
-use Rattle.mpslp_lp_tokens.specs.Token.{Token}
-use Rattle.mpslp_lp_grammar.specs.Rows.{default_row}
-use Rattle.mpslp_lp_grammar.specs.TerminalToken.{terminal_of_token, terminal_with_text}
-use Rattle.mpslp_lp_grammar.specs.TokenStep.{take}
-use Rattle.mpslp_lp_grammar.specs.declared.terminals.TerminalKind.{TerminalKind}
-use Rattle.mpslp_lp_grammar.specs.declared.states.Place.TheVariants.{BetweenRows}
-use Rattle.mpslp_lp_grammar.specs.declared.states.State.TheVariants.{Between, RowLabel}
-use Rattle.mpslp_lp.specs.PlainTerm.{Begins}
+use Rattle.mpslp_lp.proofs.Prelude
+use Prelude.{◌≡◌, sym, subst, refl, List, inl, inr, Token, default_row, terminal_of_token, terminal_with_text, take, TerminalKind}
+use Prelude.{BetweenRows, Between, RowLabel, Begins}
 use Rattle.mpslp_lp.proofs.plain_row_starts.take_row_start.Goals as goal
 
 pub returns-in-Name : goal.returns-in-Name

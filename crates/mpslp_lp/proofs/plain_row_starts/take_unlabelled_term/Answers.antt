@@ -1,11 +1,5 @@
-use Rattle.std.proofs.Common.{sym, subst, ℕ, List}
-use Rattle.mpslp_lp_grammar.specs.Rows.{default_row}
-use Rattle.mpslp_lp_grammar.specs.TerminalToken.{terminal_of_token}
-use Rattle.mpslp_lp_grammar.specs.declared.context.Context.{Context}
-use Rattle.mpslp_lp_grammar.specs.declared.states.Place.TheVariants.{BetweenRows}
-use Rattle.mpslp_lp_grammar.specs.declared.states.State.{State}
-use Rattle.mpslp_lp_grammar.specs.declared.states.State.TheVariants.{Between, RowLabel}
-use Rattle.mpslp_lp.specs.PlainPhrase.{TakesSome}
+use Rattle.mpslp_lp.proofs.Prelude
+use Prelude.{sym, subst, ℕ, List, default_row, terminal_of_token, Context, BetweenRows, State, Between, RowLabel, TakesSome}
 use Rattle.mpslp_lp.proofs.PlainStarts.{same-first, same-start}
 use Rattle.mpslp_lp.proofs.plain_row_starts.take_unlabelled_term.Goals as goal
 

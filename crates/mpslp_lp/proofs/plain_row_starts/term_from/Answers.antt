@@ -1,8 +1,5 @@
-use Rattle.std.proofs.Common.{refl, subst, inr}
-use Rattle.mpslp_lp_grammar.specs.declared.signs.Sign.TheVariants.{Plus}
-use Rattle.mpslp_lp_grammar.specs.TerminalToken.{terminal_with_text}
-use Rattle.mpslp_lp_grammar.specs.declared.terminals.TerminalKind.{TerminalKind}
-use Rattle.mpslp_lp.specs.PlainTerm.{Begins}
+use Rattle.mpslp_lp.proofs.Prelude
+use Prelude.{refl, subst, inr, Plus, terminal_with_text, TerminalKind, Begins}
 use Rattle.mpslp_lp.proofs.plain_row_starts.term_from.Goals as goal
 
 pub returns-in-Some-clause-term : goal.returns-in-Some-clause-term

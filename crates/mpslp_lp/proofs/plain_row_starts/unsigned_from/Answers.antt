@@ -1,7 +1,5 @@
-use Rattle.std.proofs.Common.{refl, subst, inl, inr}
-use Rattle.mpslp_lp_grammar.specs.TerminalToken.{terminal_with_text, HasLegalNameKind}
-use Rattle.mpslp_lp_grammar.specs.declared.terminals.TerminalKind.{TerminalKind}
-use Rattle.mpslp_lp.specs.PlainTerm.{Begins}
+use Rattle.mpslp_lp.proofs.Prelude
+use Prelude.{refl, subst, inl, inr, terminal_with_text, HasLegalNameKind, TerminalKind, Begins}
 use Rattle.mpslp_lp.proofs.plain_row_starts.unsigned_from.Goals as goal
 
 pub returns-in_ok-column-in-Number-clause-term : goal.returns-in_ok-column-in-Number-clause-term

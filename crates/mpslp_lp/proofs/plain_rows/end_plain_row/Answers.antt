@@ -1,6 +1,5 @@
-use Rattle.mpslp_lp_grammar.specs.declared.states.Place.TheVariants.{BetweenRows, InRow}
-use Rattle.mpslp_lp_grammar.specs.declared.states.SideOwner.TheVariants.{SideOfRow}
-use Rattle.mpslp_lp_grammar.specs.declared.states.State.TheVariants.{Between}
+use Rattle.mpslp_lp.proofs.Prelude
+use Prelude.{BetweenRows, InRow, SideOfRow, Between}
 use Rattle.mpslp_lp.proofs.PlainPhrases.{phrase-goes, phrase-refused, right-last, row-compared}
 use Rattle.mpslp_lp.proofs.plain_rows.end_plain_row.Goals as goal
 

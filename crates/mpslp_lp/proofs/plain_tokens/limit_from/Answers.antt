@@ -1,14 +1,7 @@
-use Rattle.std.proofs.Common.{sym, refl, subst, List, inl, inr}
-use Rattle.std.specs.Prelude.{Option, Some, None, IfSome}
-use Rattle.mpslp_types.specs.declared.kinds.Limit.{Limit}
-use Rattle.mpslp_lp_tokens.specs.Token.{Token}
+use Rattle.mpslp_lp.proofs.Prelude
+use Prelude.{sym, refl, subst, List, inl, inr, Option, Some, None, IfSome, Limit, Token, Plus, TerminalKind, Terminal, terminal_with_text}
+use Prelude.{terminal_of_token, Begins, BeginsWithLimit, BeginsWithSide}
 use Rattle.mpslp_lp_grammar.specs.declared.signs.Sign.{Sign}
-use Rattle.mpslp_lp_grammar.specs.declared.signs.Sign.TheVariants.{Plus}
-use Rattle.mpslp_lp_grammar.specs.declared.terminals.TerminalKind.{TerminalKind}
-use Rattle.mpslp_lp_grammar.specs.Terminal.{Terminal}
-use Rattle.mpslp_lp_grammar.specs.TerminalToken.{terminal_with_text, terminal_of_token}
-use Rattle.mpslp_lp.specs.PlainTerm.{Begins}
-use Rattle.mpslp_lp.specs.PlainPhrase.{BeginsWithLimit, BeginsWithSide}
 use Rattle.mpslp_lp.proofs.plain_tokens.limit_from.Goals as goal
 
 signed : (found after more : List Token) (sign : Sign) (result : Option Limit) → Begins found (Terminal.Sign sign) after → IfSome result (λ limit. BeginsWithLimit after sign limit more)

@@ -1,5 +1,5 @@
-use Rattle.std.proofs.Common.{sym}
-use Rattle.mpslp_lp_grammar.specs.TerminalToken.{terminal_of_token}
+use Rattle.mpslp_lp.proofs.Prelude
+use Prelude.{sym, terminal_of_token}
 use Rattle.mpslp_lp.proofs.plain_tokens.next_unsigned.Goals as goal
 
 pub returns-in-Some-limit_of_terminal : goal.returns-in-Some-limit_of_terminal

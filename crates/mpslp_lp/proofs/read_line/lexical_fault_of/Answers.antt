@@ -1,10 +1,5 @@
-use Rattle.std.proofs.Common.{sym, ap, ◌∙◌, ◌∷◌, List}
-use Rattle.std.specs.Prelude.{Option}
-use Rattle.std.specs.List.{cons_option}
-use Rattle.mpslp_types.specs.FaultOrder.{least_kind}
-use Rattle.mpslp_types.specs.declared.faults.FaultKind.{FaultKind}
-use Rattle.mpslp_lp_tokens.specs.Token.{Token}
-use Rattle.mpslp_lp.specs.LineByLine.{token_faults}
+use Rattle.mpslp_lp.proofs.Prelude
+use Prelude.{sym, ap, ◌∙◌, ◌∷◌, List, Option, cons_option, least_kind, FaultKind, Token, token_faults}
 use Rattle.mpslp_lp.proofs.LineTokens.{least-next}
 use Rattle.mpslp_lp.proofs.read_line.lexical_fault_of.Goals as goal
 

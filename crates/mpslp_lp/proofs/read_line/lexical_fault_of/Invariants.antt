@@ -1,7 +1,5 @@
-use Rattle.std.proofs.Common.{◌≡◌}
-use Rattle.std.specs.List.{cons_option}
-use Rattle.mpslp_types.specs.FaultOrder.{least_kind}
-use Rattle.mpslp_lp.specs.LineByLine.{token_faults}
+use Rattle.mpslp_lp.proofs.Prelude
+use Prelude.{◌≡◌, cons_option, least_kind, token_faults}
 use Rattle.mpslp_lp.proofs.read_line.lexical_fault_of.Given as goal
 
 -- the result depends on the least error so far and on the tokens that are left

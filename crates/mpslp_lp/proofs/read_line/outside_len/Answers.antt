@@ -1,7 +1,7 @@
 -- The bytes before the first backslash.
-use Rattle.std.proofs.Common.{◌≡◌, ℕ, ap, sym, true, false, not, length, slice_index, refl, arith}
-use Rattle.std.proofs.lemmas.List.Sums.{prefix_len_is}
-use Rattle.mpslp_lp_tokens.specs.Token.{begins_comment}
+use Rattle.mpslp_lp.proofs.Prelude
+use Prelude.{◌≡◌, ℕ, ap, sym, true, false, length, slice_index, refl, arith, begins_comment}
+use Rattle.std.proofs.{Common.{not}, lemmas.List.Sums.{prefix_len_is}}
 use Rattle.mpslp_lp.proofs.read_line.outside_len.Goals as goal
 
 other : (byte : ℕ) → (begins_comment byte ≡ true → ⊥) → not (begins_comment byte) ≡ true

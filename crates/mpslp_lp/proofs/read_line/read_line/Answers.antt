@@ -1,4 +1,5 @@
-use Rattle.std.proofs.Common.{sym, ◌∙◌}
+use Rattle.mpslp_lp.proofs.Prelude
+use Prelude.{sym, ◌∙◌}
 use Rattle.mpslp_lp.proofs.IllegalLines.{line-taken, line-refused}
 use Rattle.mpslp_lp.proofs.read_line.read_line.Goals as goal
 

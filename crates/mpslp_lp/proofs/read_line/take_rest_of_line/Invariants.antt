@@ -1,6 +1,5 @@
-use Rattle.std.proofs.Common.{◌≡◌, ◌∷◌, length}
-use Rattle.mpslp_lp_tokens.specs.Scan.{token_of}
-use Rattle.mpslp_lp.specs.LineByLine.{take_tokens}
+use Rattle.mpslp_lp.proofs.Prelude
+use Prelude.{◌≡◌, ◌∷◌, length, token_of, take_tokens}
 use Rattle.mpslp_lp.proofs.read_line.take_rest_of_line.Given as goal
 
 -- the result depends on the tokens that are left

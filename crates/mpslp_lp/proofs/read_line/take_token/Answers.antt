@@ -1,13 +1,5 @@
-use Rattle.std.proofs.Common.{sym, subst, ◌∷◌}
-use Rattle.std.specs.Prelude.{Err}
-use Rattle.mpslp_lines.specs.declared.errors.LineError.{LineError}
-use Rattle.mpslp_lp_tokens.specs.Scan.{token_of}
-use Rattle.mpslp_lp_grammar.specs.Terminal.{Terminal}
-use Rattle.mpslp_lp_grammar.specs.TerminalToken.{terminal_of_token}
-use Rattle.mpslp_lp_grammar.specs.declared.states.State.{State}
-use Rattle.mpslp_lp_grammar.specs.TokenStep.{take}
-use Rattle.mpslp_lp.specs.LineByLine.{take_tokens}
-use Rattle.mpslp_lp_grammar.specs.Declares.{TakesToken}
+use Rattle.mpslp_lp.proofs.Prelude
+use Prelude.{sym, subst, ◌∷◌, Err, LineError, token_of, Terminal, terminal_of_token, State, take, take_tokens, TakesToken}
 use Rattle.mpslp_lp.proofs.LineTokens.{tokens-refused}
 use Rattle.mpslp_lp.proofs.read_line.take_token.Goals as goal
 

@@ -1,9 +1,5 @@
-use Rattle.std.proofs.Common.{refl, ◌++◌}
-use Rattle.mpslp_builder.specs.Declaration.{with_declarations, bounds_declared}
-use Rattle.mpslp_builder.specs.Refusal.{bounds_refusals}
-use Rattle.mpslp_lp_grammar.specs.TokenByToken.{new_column}
-use Rattle.mpslp_lp_grammar.specs.Items.{limits_by}
-use Rattle.mpslp_lp_grammar.specs.Declares.{answer_at}
+use Rattle.mpslp_lp_grammar.proofs.Prelude
+use Prelude.{refl, ◌++◌, with_declarations, bounds_declared, bounds_refusals, new_column, limits_by, answer_at}
 use Rattle.mpslp_lp_grammar.proofs.TokenAnswers.{completes}
 use Rattle.mpslp_lp_grammar.proofs.bounds.declare_bound.Goals as goal
 

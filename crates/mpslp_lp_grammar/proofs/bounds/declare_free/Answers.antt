@@ -1,11 +1,6 @@
-use Rattle.std.proofs.Common.{refl, [], ◌∷◌, ◌++◌}
-use Rattle.std.specs.Prelude.{Some, None}
-use Rattle.mpslp_types.specs.declared.kinds.Limit.TheVariants.{MinusInf, PlusInf}
-use Rattle.mpslp_builder.specs.Declaration.{declare_column, with_declarations, bounds_declared}
-use Rattle.mpslp_builder.specs.Refusal.{bounds_refusals}
-use Rattle.mpslp_lp_grammar.specs.Terminal.{Terminal}
-use Rattle.mpslp_lp_grammar.specs.Declares.{answer_at}
-use Rattle.mpslp_lp_grammar.specs.declared.states.Place.TheVariants.{InBounds}
+use Rattle.mpslp_lp_grammar.proofs.Prelude
+use Prelude.{refl, [], ◌∷◌, ◌++◌, Some, None, MinusInf, PlusInf, declare_column, with_declarations, bounds_declared, bounds_refusals}
+use Prelude.{Terminal, answer_at, InBounds}
 use Rattle.mpslp_lp_grammar.proofs.TokenAnswers.{completes}
 use Rattle.mpslp_lp_grammar.proofs.bounds.declare_free.Goals as goal
 

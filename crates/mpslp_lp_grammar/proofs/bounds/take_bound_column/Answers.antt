@@ -1,12 +1,6 @@
-use Rattle.std.proofs.Common.{refl, sym, subst, ap, ◌∙◌, ℕ, List, [], ◌∷◌}
-use Rattle.std.specs.Prelude.{Some}
-use Rattle.mpslp_builder.specs.Declaration.{declare_column}
-use Rattle.mpslp_lp_grammar.specs.Terminal.{Terminal}
-use Rattle.mpslp_lp_grammar.specs.Items.{limits_by, flip}
-use Rattle.mpslp_lp_grammar.specs.AfterToken.{take_bound}
-use Rattle.mpslp_lp_grammar.specs.Declares.{TokenResult, TakesToken, answer_at}
-use Rattle.mpslp_lp_grammar.specs.declared.relations.Relation.{Relation}
-use Rattle.mpslp_lp_grammar.specs.declared.states.Place.TheVariants.{InBounds}
+use Rattle.mpslp_lp_grammar.proofs.Prelude
+use Prelude.{refl, sym, subst, ap, ◌∙◌, ℕ, List, [], ◌∷◌, Some, declare_column, Terminal, limits_by, flip, take_bound, TokenResult}
+use Prelude.{TakesToken, answer_at, Relation, InBounds}
 use Rattle.mpslp_lp_grammar.proofs.bounds.take_bound_column.Goals as goal
 
 pub returns : goal.returns

@@ -1,6 +1,5 @@
-use Rattle.std.proofs.Common.{sym, subst}
-use Rattle.mpslp_lp_grammar.specs.AfterToken.{AfterToken}
-use Rattle.mpslp_lp_grammar.specs.Declares.{TakesToken}
+use Rattle.mpslp_lp_grammar.proofs.Prelude
+use Prelude.{sym, subst, AfterToken, TakesToken}
 use Rattle.mpslp_lp_grammar.proofs.OtherTokens.{begun-other}
 use Rattle.mpslp_lp_grammar.proofs.first_token.begin.Goals as goal
 

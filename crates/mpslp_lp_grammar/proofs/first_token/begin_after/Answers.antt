@@ -1,11 +1,6 @@
-use Rattle.std.proofs.Common.{sym, subst, List}
-use Rattle.mpslp_types.specs.declared.faults.BuildFault.{BuildFault}
-use Rattle.mpslp_builder.specs.Declaration.{Draft}
-use Rattle.mpslp_lines.specs.LineAnswer.{LineResult}
-use Rattle.mpslp_lp_grammar.specs.TerminalToken.{terminal_of_token}
-use Rattle.mpslp_lp_grammar.specs.AfterToken.{take_after_declarations, with_made}
-use Rattle.mpslp_lp_grammar.specs.FirstToken.{begin}
-use Rattle.mpslp_lp_grammar.specs.Declares.{DeclaresUnless, TakesToken}
+use Rattle.mpslp_lp_grammar.proofs.Prelude
+use Prelude.{sym, subst, List, BuildFault, Draft, LineResult, terminal_of_token, take_after_declarations, with_made, begin, DeclaresUnless}
+use Prelude.{TakesToken}
 use Rattle.mpslp_lp_grammar.proofs.first_token.begin_after.Goals as goal
 
 pub returns-in-Ok : goal.returns-in-Ok

@@ -1,9 +1,5 @@
-use Rattle.std.proofs.Common.{refl, [], ◌∷◌}
-use Rattle.mpslp_builder.specs.Declaration.{declare_column}
-use Rattle.mpslp_builder.specs.Refusal.{refusals_in_turn}
-use Rattle.mpslp_lp_grammar.specs.Terminal.{Terminal}
-use Rattle.mpslp_lp_grammar.specs.FirstToken.{listed_at, kind_declared}
-use Rattle.mpslp_lp_grammar.specs.Declares.{answer_at}
+use Rattle.mpslp_lp_grammar.proofs.Prelude
+use Prelude.{refl, [], ◌∷◌, declare_column, refusals_in_turn, Terminal, listed_at, kind_declared, answer_at}
 use Rattle.mpslp_lp_grammar.proofs.TokenAnswers.{completes}
 use Rattle.mpslp_lp_grammar.proofs.first_token.declare_listed.Goals as goal
 

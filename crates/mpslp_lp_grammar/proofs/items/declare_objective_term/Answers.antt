@@ -1,9 +1,5 @@
-use Rattle.std.proofs.Common.{refl, subst, ℕ, List}
-use Rattle.mpslp_builder.specs.Refusal.{refusals_in_turn}
-use Rattle.mpslp_lp_grammar.specs.Terminal.{Terminal}
-use Rattle.mpslp_lp_grammar.specs.Rows.{term_declared}
-use Rattle.mpslp_lp_grammar.specs.Declares.{Declares, answer_at}
-use Rattle.mpslp_lp_grammar.specs.declared.states.Place.TheVariants.{InObjective}
+use Rattle.mpslp_lp_grammar.proofs.Prelude
+use Prelude.{refl, subst, ℕ, List, refusals_in_turn, Terminal, term_declared, Declares, answer_at, InObjective}
 use Rattle.mpslp_lp_grammar.proofs.TokenAnswers.{completes}
 use Rattle.mpslp_lp_grammar.proofs.items.declare_objective_term.Goals as goal
 

@@ -1,4 +1,5 @@
-use Rattle.std.proofs.Common.{sym, ◌∙◌}
+use Rattle.mpslp_lp_grammar.proofs.Prelude
+use Prelude.{sym, ◌∙◌}
 use Rattle.mpslp_lp_grammar.proofs.TokenAnswers.{one-parsed}
 use Rattle.mpslp_lp_grammar.proofs.items.one.Goals as goal
 

@@ -1,8 +1,5 @@
-use Rattle.std.proofs.Common.{sym, subst}
-use Rattle.mpslp_lp_grammar.specs.Terminal.{Terminal}
-use Rattle.mpslp_lp_grammar.specs.AfterToken.{take_term}
-use Rattle.mpslp_lp_grammar.specs.Declares.{TokenResult, TakesToken}
-use Rattle.mpslp_lp_grammar.specs.declared.states.ItemOwner.TheVariants.{OfObjective}
+use Rattle.mpslp_lp_grammar.proofs.Prelude
+use Prelude.{sym, subst, Terminal, take_term, TokenResult, TakesToken, OfObjective}
 use Rattle.mpslp_lp_grammar.proofs.items.take_objective_term.Goals as goal
 
 pub returns : goal.returns

@@ -1,8 +1,7 @@
-use Rattle.std.proofs.Common.{rules, ◌≡◌, ◌<◌, ◌^◌, subst, sym, ◌∙◌}
-use Rattle.mpslp_types.specs.Name.{IsMpsName}
-use Rattle.mpslp_types.proofs.NameLemmas.{mps_name-from_lp}
-use Rattle.mpslp_lp_grammar.specs.Rows.{numbered_row}
+use Rattle.mpslp_lp_grammar.proofs.Prelude
+use Prelude.{rules, ◌≡◌, ◌<◌, ◌^◌, subst, sym, ◌∙◌, IsMpsName, numbered_row}
 use Rattle.mpslp_lp_grammar.proofs.NumberedNames.{numbered-name}
+use Rattle.mpslp_types.proofs.NameLemmas.{mps_name-from_lp}
 use Rattle.mpslp_lp_grammar.proofs.lp_builder.numbered_row.Goals as goal
 
 pub from_legal-requires : goal.from_legal-requires

@@ -1,10 +1,6 @@
-use Rattle.std.proofs.Common.{refl, subst, sym, ◌∷◌}
-use Rattle.std.specs.List.{flat_map}
-use Rattle.mpslp_builder.specs.Declaration.{Declarations, Draft, by_limits, declare_row}
-use Rattle.mpslp_builder.specs.Refusal.{refusals_in_turn}
-use Rattle.mpslp_lp_grammar.specs.Rows.{term_declared, row_limits, row_declared}
-use Rattle.mpslp_lp_grammar.specs.Declares.{Declares, answer_at}
-use Rattle.mpslp_lp_grammar.specs.declared.states.Place.TheVariants.{BetweenRows}
+use Rattle.mpslp_lp_grammar.proofs.Prelude
+use Prelude.{refl, subst, sym, ◌∷◌, flat_map, Declarations, Draft, by_limits, declare_row, refusals_in_turn, term_declared, row_limits}
+use Prelude.{row_declared, Declares, answer_at, BetweenRows}
 use Rattle.mpslp_lp_grammar.proofs.TokenAnswers.{completes}
 use Rattle.mpslp_lp_grammar.proofs.rows.declare_row.Goals as goal
 

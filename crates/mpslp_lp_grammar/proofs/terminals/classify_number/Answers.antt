@@ -1,6 +1,5 @@
-use Rattle.std.proofs.Common.{sym, ap, ◌∙◌}
-use Rattle.mpslp_decimal.specs.Decimal.{Number as Decimal}
-use Rattle.mpslp_lp_grammar.specs.Terminal.{Terminal}
+use Rattle.mpslp_lp_grammar.proofs.Prelude
+use Prelude.{sym, ap, ◌∙◌, Decimal, Terminal}
 use Rattle.mpslp_lp_grammar.proofs.NumberFaults.{tested-number}
 use Rattle.mpslp_lp_grammar.proofs.terminals.classify_number.Goals as goal
 

@@ -1,11 +1,6 @@
-use Rattle.std.proofs.Common.{sym, subst, ℕ, List}
-use Rattle.mpslp_builder.specs.Refusal.{refusals_in_turn}
-use Rattle.mpslp_lp_grammar.specs.Rows.{first_item_declared}
-use Rattle.mpslp_lp_grammar.specs.TerminalToken.{terminal_of_token}
-use Rattle.mpslp_lp_grammar.specs.AfterToken.{AfterToken}
-use Rattle.mpslp_lp_grammar.specs.TokenStep.{begin_after}
-use Rattle.mpslp_lp_grammar.specs.Declares.{Declares, TakesToken}
-use Rattle.mpslp_lp_grammar.specs.declared.states.Place.TheVariants.{InObjective}
+use Rattle.mpslp_lp_grammar.proofs.Prelude
+use Prelude.{sym, subst, ℕ, List, refusals_in_turn, first_item_declared, terminal_of_token, AfterToken, begin_after, Declares, TakesToken}
+use Prelude.{InObjective}
 use Rattle.mpslp_lp_grammar.proofs.OtherTokens.{objective_name-other}
 use Rattle.mpslp_lp_grammar.proofs.token_step.take_after_objective_name.Goals as goal
 

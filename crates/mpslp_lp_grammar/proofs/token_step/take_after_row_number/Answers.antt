@@ -1,6 +1,5 @@
-use Rattle.std.proofs.Common.{sym, subst}
-use Rattle.mpslp_lp_grammar.specs.AfterToken.{AfterToken}
-use Rattle.mpslp_lp_grammar.specs.Declares.{TakesToken}
+use Rattle.mpslp_lp_grammar.proofs.Prelude
+use Prelude.{sym, subst, AfterToken, TakesToken}
 use Rattle.mpslp_lp_grammar.proofs.OtherTokens.{row_number-other}
 use Rattle.mpslp_lp_grammar.proofs.token_step.take_after_row_number.Goals as goal
 

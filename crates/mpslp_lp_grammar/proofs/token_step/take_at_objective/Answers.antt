@@ -1,11 +1,6 @@
-use Rattle.std.proofs.Common.{sym, subst, ℕ, List}
-use Rattle.mpslp_builder.specs.Refusal.{refusals_in_turn}
-use Rattle.mpslp_lp_grammar.specs.Rows.{default_objective, objective_declared}
-use Rattle.mpslp_lp_grammar.specs.TerminalToken.{terminal_of_token}
-use Rattle.mpslp_lp_grammar.specs.AfterToken.{AfterToken}
-use Rattle.mpslp_lp_grammar.specs.TokenStep.{begin_after}
-use Rattle.mpslp_lp_grammar.specs.Declares.{Declares, TakesToken}
-use Rattle.mpslp_lp_grammar.specs.declared.states.Place.TheVariants.{BeforeItems}
+use Rattle.mpslp_lp_grammar.proofs.Prelude
+use Prelude.{sym, subst, ℕ, List, refusals_in_turn, default_objective, objective_declared, terminal_of_token, AfterToken, begin_after}
+use Prelude.{Declares, TakesToken, BeforeItems}
 use Rattle.mpslp_lp_grammar.proofs.OtherTokens.{objective-other}
 use Rattle.mpslp_lp_grammar.proofs.token_step.take_at_objective.Goals as goal
 

@@ -1,9 +1,5 @@
-use Rattle.std.proofs.Common.{◌≡◌, refl, subst, ◌∙◌, ℕ, List}
-use Rattle.mpslp_builder.specs.Refusal.{refusals_in_turn}
-use Rattle.mpslp_lp_grammar.specs.Terminal.{Terminal}
-use Rattle.mpslp_lp_grammar.specs.Rows.{objective_declared}
-use Rattle.mpslp_lp_grammar.specs.Declares.{Declares}
-use Rattle.mpslp_lp_grammar.specs.declared.states.Place.TheVariants.{BeforeItems}
+use Rattle.mpslp_lp_grammar.proofs.Prelude
+use Prelude.{◌≡◌, refl, subst, ◌∙◌, ℕ, List, refusals_in_turn, Terminal, objective_declared, Declares, BeforeItems}
 use Rattle.mpslp_lp_grammar.proofs.TokenAnswers.{completes}
 use Rattle.mpslp_lp_grammar.proofs.token_step.take_objective_label.Goals as goal
 

@@ -1,8 +1,5 @@
-use Rattle.std.proofs.Common.{◌≡◌, sym, subst, ap, ◌∙◌}
-use Rattle.std.specs.Prelude.{is_some}
-use Rattle.mpslp_builder.specs.Declaration.{Draft}
-use Rattle.mpslp_builder.specs.Finish.{Finishes}
-use Rattle.mpslp_lp_grammar.specs.declared.context.Context.{Context}
+use Rattle.mpslp_lp.proofs.Prelude
+use Prelude.{◌≡◌, sym, subst, ap, ◌∙◌, is_some, Draft, Finishes, Context}
 use Rattle.mpslp_lp.proofs.LineReaderLemmas.{led-named, ends-missing, ends-text}
 use Rattle.mpslp_lp.proofs.line_reader.LineReaderReadLines.finish.Goals as goal
 

@@ -1,8 +1,5 @@
-use Rattle.std.proofs.Common.{sym, subst, []}
-use Rattle.mpslp_lp.specs.Fed.{LedTo}
-use Rattle.mpslp_lp_grammar.specs.declared.context.Context.{Context}
-use Rattle.mpslp_lp_grammar.specs.declared.states.State.TheVariants.{Between}
-use Rattle.mpslp_lp_grammar.specs.declared.states.Place.TheVariants.{AtStart}
+use Rattle.mpslp_lp.proofs.Prelude
+use Prelude.{sym, subst, [], LedTo, Context, Between, AtStart}
 use Rattle.mpslp_lp.proofs.LineReaderLemmas.{led-none}
 use Rattle.mpslp_lp.proofs.line_reader.LineReaderReadLines.new.Goals as goal
 

@@ -1,5 +1,5 @@
-use Rattle.mpslp_types.specs.declared.faults.FaultKind.TheVariants.{LineTooLong}
-use Rattle.mpslp_lines.specs.declared.errors.LineError.TheVariants.{Fault}
+use Rattle.mpslp_lp.proofs.Prelude
+use Prelude.{LineTooLong, Fault}
 use Rattle.mpslp_lp.proofs.LineReaderLemmas.{refuses-line, take-long}
 use Rattle.mpslp_lp.proofs.line_reader.LineReaderReadLines.refuse_long.Goals as goal
 

@@ -1,7 +1,6 @@
-use Rattle.std.proofs.Common.{subst, ◌≡◌, sym, ap, ◌∙◌, ℕ, ◌-◌, ◌^◌, List, length, min}
-use Rattle.mpslp_builder.specs.Declaration.{Draft, RowDefinition, with_declarations, bounds_declared}
-use Rattle.mpslp_builder.specs.Refusal.{bounds_refusals}
-use Rattle.mpslp_lp_grammar.specs.Declares.{DeclaresBounds}
+use Rattle.mpslp_lp_grammar.proofs.Prelude
+use Prelude.{subst, ◌≡◌, sym, ap, ◌∙◌, ℕ, ◌-◌, ◌^◌, List, length, min, Draft, RowDefinition, with_declarations, bounds_declared}
+use Prelude.{bounds_refusals, DeclaresBounds}
 use Rattle.mpslp_lp_grammar.proofs.DeclaresLemmas.{refused-unless, rows-kept, bounds-rows}
 use Rattle.mpslp_lp_grammar.proofs.lp_builder.LpBuilder.declare_bounds_given.Goals as goal
 

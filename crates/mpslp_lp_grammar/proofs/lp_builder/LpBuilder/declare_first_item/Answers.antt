@@ -1,9 +1,6 @@
-use Rattle.std.proofs.Common.{◌≡◌, sym, ap, ◌∙◌, ◌++◌, ℕ, List}
-use Rattle.mpslp_builder.specs.Declaration.{with_declarations}
-use Rattle.mpslp_builder.specs.Refusal.{refusals_in_turn}
-use Rattle.mpslp_builder.proofs.MadeDrafts.{refusals_in_turn-append}
-use Rattle.mpslp_lp_grammar.specs.Items.{one}
-use Rattle.mpslp_lp_grammar.specs.Rows.{default_objective, objective_declared, term_declared, first_item_declared}
+use Rattle.mpslp_lp_grammar.proofs.Prelude
+use Prelude.{◌≡◌, sym, ap, ◌∙◌, ◌++◌, ℕ, List, with_declarations, refusals_in_turn, refusals_in_turn-append, one, default_objective}
+use Prelude.{objective_declared, term_declared, first_item_declared}
 use Rattle.mpslp_lp_grammar.proofs.DeclaresLemmas.{refused-here, reported-by}
 use Rattle.mpslp_lp_grammar.proofs.lp_builder.LpBuilder.declare_first_item.Goals as goal
 

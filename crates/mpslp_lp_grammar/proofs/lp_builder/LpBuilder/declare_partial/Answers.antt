@@ -1,13 +1,8 @@
-use Rattle.std.proofs.Common.{◌≡◌, sym, ap, subst, ◌∙◌, ℕ, List, [], ◌∷◌, ◌++◌}
-use Rattle.std.specs.List.{flat_map}
-use Rattle.mpslp_builder.specs.Declaration.{Declarations, by_limits, declare_row, with_declarations}
-use Rattle.mpslp_builder.specs.Refusal.{refusals_in_turn}
-use Rattle.mpslp_builder.proofs.MadeDrafts.{refusals_in_turn-append}
-use Rattle.mpslp_lp_grammar.specs.PartialRow.{PartialRow}
-use Rattle.mpslp_lp_grammar.specs.declared.states.PartialParts.{PartialParts}
-use Rattle.mpslp_lp_grammar.specs.Rows.{term_declared}
-use Rattle.mpslp_lp_grammar.specs.Declares.{Declares}
+use Rattle.mpslp_lp_grammar.proofs.Prelude
+use Prelude.{◌≡◌, sym, ap, subst, ◌∙◌, ℕ, List, [], ◌∷◌, ◌++◌, flat_map, Declarations, by_limits, declare_row, with_declarations}
+use Prelude.{refusals_in_turn, refusals_in_turn-append, PartialRow, term_declared, Declares}
 use Rattle.mpslp_lp_grammar.proofs.DeclaresLemmas.{refused-here, reported-by, declares-then}
+use Rattle.mpslp_lp_grammar.specs.declared.states.PartialParts.{PartialParts}
 use Rattle.mpslp_lp_grammar.proofs.lp_builder.LpBuilder.declare_partial.Goals as goal
 
 pub returns-in_err-declare_row : goal.returns-in_err-declare_row

@@ -1,7 +1,6 @@
-use Rattle.std.proofs.Common.{[], ◌∷◌, subst, ◌≡◌, sym, ap, ◌∙◌, ℕ, ◌+◌, ◌-◌, ◌^◌, List, length, min, arith}
-use Rattle.mpslp_builder.specs.Declaration.{Draft, RowDefinition, by_limits, declare_row, with_declaration}
-use Rattle.mpslp_builder.specs.Refusal.{refusals}
-use Rattle.mpslp_lp_grammar.specs.Declares.{Declares}
+use Rattle.mpslp_lp_grammar.proofs.Prelude
+use Prelude.{[], ◌∷◌, subst, ◌≡◌, sym, ap, ◌∙◌, ℕ, ◌+◌, ◌-◌, ◌^◌, List, length, min, arith, Draft, RowDefinition, by_limits, declare_row}
+use Prelude.{with_declaration, refusals, Declares}
 use Rattle.mpslp_lp_grammar.proofs.DeclaresLemmas.{refused-declares, refused-rows, row-added, declared-by}
 use Rattle.mpslp_lp_grammar.proofs.lp_builder.LpBuilder.declare_row.Goals as goal
 

@@ -1,7 +1,5 @@
-use Rattle.std.proofs.Common.{subst, ◌≡◌, sym, ap, ◌∙◌, ℕ, ◌-◌, ◌^◌, List, length, min}
-use Rattle.mpslp_builder.specs.Declaration.{Draft, RowDefinition}
-use Rattle.mpslp_lp_grammar.specs.Declares.{Declares}
-use Rattle.mpslp_lp_grammar.specs.Rows.{term_declared}
+use Rattle.mpslp_lp_grammar.proofs.Prelude
+use Prelude.{subst, sym, ap, ◌∙◌, ℕ, ◌-◌, ◌^◌, List, length, min, Draft, RowDefinition, Declares, term_declared}
 use Rattle.mpslp_lp_grammar.proofs.DeclaresLemmas.{refused-in_turn}
 use Rattle.mpslp_lp_grammar.proofs.lp_builder.LpBuilder.declare_term.Goals as goal
 

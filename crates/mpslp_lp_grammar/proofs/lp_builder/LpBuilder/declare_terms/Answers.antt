@@ -1,8 +1,5 @@
-use Rattle.std.proofs.Common.{subst, ◌≡◌, sym, ap, ◌∙◌, ℕ, ◌-◌, ◌^◌, List, length, min}
-use Rattle.std.specs.List.{flat_map}
-use Rattle.mpslp_builder.specs.Declaration.{Draft, RowDefinition}
-use Rattle.mpslp_lp_grammar.specs.Declares.{Declares}
-use Rattle.mpslp_lp_grammar.specs.Rows.{term_declared}
+use Rattle.mpslp_lp_grammar.proofs.Prelude
+use Prelude.{subst, sym, ap, ◌∙◌, ℕ, ◌-◌, ◌^◌, List, length, min, flat_map, Draft, RowDefinition, Declares, term_declared}
 use Rattle.mpslp_lp_grammar.proofs.DeclaresLemmas.{refused-in_turn}
 use Rattle.mpslp_lp_grammar.proofs.lp_builder.LpBuilder.declare_terms.Goals as goal
 
