@@ -104,12 +104,10 @@ impl Cells {
         }
     }
 
-    /// Puts a coefficient. Its row must not have one yet.
-    ///
-    /// # Errors
-    ///
-    /// [`AllocError`] if the allocation fails. Then nothing changes.
-    pub fn put(&mut self, row: u32, value: Decimal) -> Result<(), AllocError>
+    /// Puts one of the first three coefficients, or any other. It is a function of its own, since a function clears at its entry
+    /// whatever it may store.
+    #[inline(never)]
+    fn put_few(&mut self, row: u32, value: Decimal) -> Result<(), AllocError>
         requires { find nat_cmp row self.old ≡ None }
         ensures ok { OnOk result (self.new ≡ put nat_cmp row value self.old) }
         ensures err { OnErr result (self.new ≡ self.old) }
@@ -129,6 +127,22 @@ impl Cells {
             Stored::Many(many) => many.put(row, value)?,
         }
         Ok(())
+    }
+
+    /// Puts a coefficient. Its row must not have one yet.
+    ///
+    /// # Errors
+    ///
+    /// [`AllocError`] if the allocation fails. Then nothing changes.
+    pub fn put(&mut self, row: u32, value: Decimal) -> Result<(), AllocError>
+        requires { find nat_cmp row self.old ≡ None }
+        ensures ok { OnOk result (self.new ≡ put nat_cmp row value self.old) }
+        ensures err { OnErr result (self.new ≡ self.old) }
+    {
+        if let Stored::Many(many) = &mut self.stored {
+            return many.put(row, PackedDecimal::of(value));
+        }
+        self.put_few(row, value)
     }
 
     /// Returns the coefficients with the final numbers of their rows, in the order of these, without zeros.

@@ -1,3 +1,4 @@
+pub mod Blanks
 pub mod Line
 pub mod ObjNameHeader
 pub mod DataLine

@@ -1,9 +1,11 @@
 //! The fields of a line.
 
-ghost use Rattle.std.specs.Prelude.{◌≡◌, ◌≤◌, [], ◌∷◌, map, take, drop, length, not, MatchOption};
+ghost use Rattle.std.specs.Prelude.{◌≡◌, ◌≤◌, [], ◌∷◌, map, take, drop, length, not, MatchOption, IfSome};
 ghost use Rattle.std.specs.List.{position, position_or_len};
 ghost use Rattle.mpslp_mps_fields.specs.Line.{is_blank, fields};
+ghost use Rattle.mpslp_mps_fields.specs.Blanks.{AreBlanks};
 
+use crate::blanks::{SHORT, blanks_of, first_set};
 use crate::line::is_blank;
 use arrayvec::ArrayVec;
 use bstr::ByteSlice;
@@ -63,9 +65,9 @@ fn next_field<'a>(text: &'a [u8]) -> Option<(&'a [u8], &'a [u8])>
     Some(text.split_at(field_len(text)))
 }
 
-/// The first fields of a line, at most [`FRONT_LEN`]: enough to determine its shape. Fields are separated by spaces and
-/// tabs.
-pub fn front_fields<'a>(line: &'a [u8]) -> ArrayVec<&'a [u8], FRONT_LEN>
+/// The first fields of a line of any length, at most [`FRONT_LEN`].
+#[inline(never)]
+fn long_fields<'a>(line: &'a [u8]) -> ArrayVec<&'a [u8], FRONT_LEN>
     ensures { map (λ field. field.now) result.items ≡ take FRONT_LEN (fields line.now) }
 {
     let mut found = ArrayVec::new();
@@ -78,4 +80,55 @@ pub fn front_fields<'a>(line: &'a [u8]) -> ArrayVec<&'a [u8], FRONT_LEN>
         rest = after;
     }
     found
+}
+
+/// The first field of a short line from an index on, and the index after it; `None` if there is no field. `blanks` are the spaces and
+/// tabs of the line.
+#[inline(always)]
+fn next_short_field<'a>(line: &'a [u8], blanks: u64, from: usize) -> Option<(&'a [u8], usize)>
+    requires short { length line.now ≤ SHORT }
+    requires blanks { AreBlanks line.now 0 (length line.now) blanks }
+    requires within { from ≤ length line.now }
+    ensures field { MatchOption result (fields (drop from line.now) ≡ []) (λ found. fields (drop from line.now) ≡ found.0.now ∷ fields (drop found.1 line.now)) }
+    ensures within { IfSome result (λ found. found.1 ≤ length line.now) }
+{
+    if from >= line.len() {
+        return None;
+    }
+    let start = first_set(!blanks, from);
+    if start >= line.len() {
+        return None;
+    }
+    let end = first_set(blanks, start).min(line.len());
+    Some((&line[start..end], end))
+}
+
+/// The first fields of a line of at most 64 bytes, at most [`FRONT_LEN`].
+#[inline(always)]
+fn short_fields<'a>(line: &'a [u8]) -> ArrayVec<&'a [u8], FRONT_LEN>
+    requires { length line.now ≤ SHORT }
+    ensures { map (λ field. field.now) result.items ≡ take FRONT_LEN (fields line.now) }
+{
+    let blanks = blanks_of(line);
+    let mut found = ArrayVec::new();
+    let mut from = 0;
+    for _ in 0..FRONT_LEN {
+        let Some((field, end)) = next_short_field(line, blanks, from) else {
+            break;
+        };
+        found.push(field);
+        from = end;
+    }
+    found
+}
+
+/// The first fields of a line, at most [`FRONT_LEN`]: enough to determine its shape. Fields are separated by spaces and
+/// tabs.
+pub fn front_fields<'a>(line: &'a [u8]) -> ArrayVec<&'a [u8], FRONT_LEN>
+    ensures { map (λ field. field.now) result.items ≡ take FRONT_LEN (fields line.now) }
+{
+    if line.len() > SHORT {
+        return long_fields(line);
+    }
+    short_fields(line)
 }

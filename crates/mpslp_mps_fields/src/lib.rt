@@ -11,6 +11,7 @@
 #![tactic(auto)]
 
 mod after_keyword;
+mod blanks;
 mod bound_types;
 mod fields;
 mod line;

@@ -1,7 +1,7 @@
 use Rattle.std.proofs.Common.{◌≡◌, ◌++◌, ◌-◌, map, take}
 use Rattle.arrayvec.specs.ArrayVec.{array_vec_len}
 use Rattle.mpslp_mps_fields.specs.Line.{fields}
-use Rattle.mpslp_mps_fields.proofs.fields.front_fields.Given as goal
+use Rattle.mpslp_mps_fields.proofs.fields.long_fields.Given as goal
 
 -- the fields so far, and those to come
 abbrev pub invariant-loop : goal.invariant-loop
