@@ -1,4 +1,5 @@
 pub mod Prelude
+pub mod LegalLemmas
 pub mod LeastLemmas
 pub mod HeldLemmas
 pub mod RefusedLemmas
