@@ -7,8 +7,8 @@ use Rattle.mpslp_types.specs.declared.faults.BuildFault.{BuildFault}
 use Rattle.mpslp_types.specs.declared.faults.BuildFault.TheVariants.{OutOfMemory}
 use Rattle.mpslp_builder.specs.Declaration.{declare_column, declare_marked, declare_coefficient, Declarations, Draft, with_declarations}
 use Rattle.mpslp_builder.specs.Refusal.{refusals_in_turn}
-use Rattle.mpslp_builder.specs.declared.lines.Entry.{Entry}
-use Rattle.mpslp_builder.specs.declared.lines.Entries.{Entries}
+use Rattle.mpslp_builder.specs.declared.entries.Entry.{Entry}
+use Rattle.mpslp_builder.specs.declared.entries.Entries.{Entries}
 
 abbrev pub pair_of : Entry → List ℕ × Number
 pair_of entry = (entry.row.now, entry.value)

@@ -11,9 +11,9 @@ use Rattle.mpslp_builder.specs.Made.{IsMade}
 use Rattle.mpslp_builder.specs.Tables.{draft, IsNumbered}
 use Rattle.mpslp_builder.specs.Calls.{row_name, column_name, column_satisfies, cells_at}
 use Rattle.mpslp_builder.specs.ColumnLine.{listed, column_line}
-use Rattle.mpslp_builder.specs.declared.lines.Entries.{Entries}
-use Rattle.mpslp_builder.specs.declared.lines.RowNumbers.{RowNumbers}
-use Rattle.mpslp_builder.specs.declared.lines.LinePlace.{LinePlace}
+use Rattle.mpslp_builder.specs.declared.entries.Entries.{Entries}
+use Rattle.mpslp_builder.specs.declared.tables.lines.RowNumbers.{RowNumbers}
+use Rattle.mpslp_builder.specs.declared.tables.lines.LinePlace.{LinePlace}
 use Rattle.mpslp_builder.specs.declared.tables.Tables.{Tables}
 
 -- these are the numbers of the rows, which differ
