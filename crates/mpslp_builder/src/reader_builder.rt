@@ -5,7 +5,7 @@ ghost use Rattle.std.specs.List.{flat_map};
 ghost use Rattle.mpslp_types.specs.Name.{IsMpsName};
 ghost use Rattle.mpslp_builder.specs.Declaration.{has_column};
 ghost use Rattle.mpslp_builder.specs.Refusal.{refusals_in_turn};
-ghost use Rattle.mpslp_builder.specs.ColumnLine.{listed, column_line, TakesLine};
+ghost use Rattle.mpslp_builder.specs.ColumnLine.{line_declared, IsRefusedLine, TakesLine};
 ghost use Rattle.mpslp_builder.specs.RowTerms.{term_declared, DeclaresInTurn};
 
 use crate::builder::Builder;
@@ -43,9 +43,9 @@ impl ReaderBuilder {
         is_marked: bool,
         entries: &Entries<'_>,
     ) -> Result<bool, BuildFault>
-        ensures taken { TakesLine self.old.draft (column_line is_marked column.now (listed entries.now)) result self.new.draft }
+        ensures taken { TakesLine self.old.draft (line_declared is_marked column.now entries.now) result self.new.draft }
         ensures there { result ≡ Ok true → has_column self.old.draft column.now ≡ true }
-        ensures refused { result ≡ Ok false → has_column self.old.draft column.now ≡ true → refusals_in_turn self.old.draft (column_line is_marked column.now (listed entries.now)) ≢ [] }
+        ensures refused { result ≡ Ok false → has_column self.old.draft column.now ≡ true → IsRefusedLine self.old.draft is_marked column.now entries.now }
     {
         let draft = &mut self.draft;
         let Some(place) = draft.tables.next_place(column, is_marked, entries) else {
@@ -73,9 +73,9 @@ impl ReaderBuilder {
         is_marked: bool,
         entries: &Entries<'_>,
     ) -> Result<bool, BuildFault>
-        ensures taken { TakesLine self.old.draft (column_line is_marked name (listed entries.now)) result self.new.draft }
+        ensures taken { TakesLine self.old.draft (line_declared is_marked name entries.now) result self.new.draft }
         ensures absent { result ≡ Ok true → has_column self.old.draft name ≡ false }
-        ensures refused { result ≡ Ok false → has_column self.old.draft name ≡ false → refusals_in_turn self.old.draft (column_line is_marked name (listed entries.now)) ≢ [] }
+        ensures refused { result ≡ Ok false → has_column self.old.draft name ≡ false → IsRefusedLine self.old.draft is_marked name entries.now }
     {
         let draft = &mut self.draft;
         let Some(rows) = draft.tables.row_numbers(entries) else {

@@ -6,7 +6,7 @@ ghost use Rattle.std.specs.FinMap.{find};
 ghost use Rattle.mpslp_builder.specs.Declaration.{is_free_definition, is_definition_by_limits};
 ghost use Rattle.mpslp_builder.specs.Consistency.{has_objective_rhs};
 ghost use Rattle.mpslp_builder.specs.Tables.{draft, IsNumbered};
-ghost use Rattle.mpslp_builder.specs.Calls.{row_satisfies, column_satisfies, cells_at};
+ghost use Rattle.mpslp_builder.specs.Calls.{row_satisfies, has_rhs_at, column_satisfies, cells_at};
 
 use crate::tables::{RowRef, Tables};
 
@@ -25,7 +25,7 @@ impl Tables {
 
     /// Whether the right-hand side is declared, as such, by the limits of the row, or by the constant of the objective.
     pub(crate) fn has_rhs(&self, place: RowRef, has_constant: bool) -> bool
-        ensures { result ≡ row_satisfies self.now place (λ objective. is_some objective.rhs || has_constant) (λ row. is_some row.rhs || is_definition_by_limits row.definition) }
+        ensures { result ≡ has_rhs_at self.now has_constant place }
     {
         match place {
             RowRef::Objective => match &self.objective {

@@ -7,10 +7,10 @@ ghost use Rattle.std.specs.FinMap.{find};
 ghost use Rattle.mpslp_types.specs.Name.{is_mps_name};
 ghost use Rattle.mpslp_types.specs.Lists.{when};
 ghost use Rattle.mpslp_builder.specs.Declaration.{has_name, declare_marked};
-ghost use Rattle.mpslp_builder.specs.ColumnLine.{listed, entry_declared};
+ghost use Rattle.mpslp_builder.specs.ColumnLine.{mark_declared, entries_declared, parts_declared};
 ghost use Rattle.mpslp_builder.specs.Tables.{draft, IsNumbered};
 ghost use Rattle.mpslp_builder.specs.Calls.{row_name, column_name, column_satisfies, cells_at};
-ghost use Rattle.mpslp_builder.specs.LineTables.{AreRows, AreKnownRows, AreFree, IsLinePlace, IsFreeLine, AreDeclared, Follows, HasStarted};
+ghost use Rattle.mpslp_builder.specs.LineTables.{AreRows, AreKnownRows, AreFree, IsLinePlace, IsFreeLine, AreDeclaredOfColumn, IsEntryDeclared, Follows, HasStarted};
 
 use crate::entries::Entries;
 use crate::tables::Tables;
@@ -117,7 +117,7 @@ impl Tables {
         requires column { is_some (column_name self.old column) ≡ true }
         requires apart { (is_marked && column_satisfies self.old column (λ parts. parts.semi)) ≡ false }
         ensures kept { Follows self.old self.new }
-        ensures declared { (name : List ℕ) → column_name self.old column ≡ Some name → AreDeclared self.old (when is_marked (declare_marked name)) self.new }
+        ensures declared { AreDeclaredOfColumn self.old column (mark_declared is_marked) self.new }
         ensures cells { cells_at self.new column ≡ cells_at self.old column }
     {
         self.each_name_occurs_once();
@@ -139,7 +139,7 @@ impl Tables {
         requires absent { find nat_cmp row (cells_at self.old column) ≡ None }
         ensures kept { Follows self.old self.new }
         ensures rows { self.new.rows.entries ≡ self.old.rows.entries }
-        ensures ok { OnOk result ((name : List ℕ) (of_row : List ℕ) → column_name self.old column ≡ Some name → row_name self.old row ≡ Some of_row → AreDeclared self.old (entry_declared name (of_row, value)) self.new) }
+        ensures ok { OnOk result (IsEntryDeclared self.old column row value self.new) }
         ensures cells { (other : ℕ) → other ≢ row → find nat_cmp other (cells_at self.new column) ≡ find nat_cmp other (cells_at self.old column) }
     {
         each_value_is_a_decimal(value);
@@ -159,7 +159,7 @@ impl Tables {
         requires rows { AreRows self.old entries.now rows }
         requires free { AreFree self.old column rows }
         ensures kept { Follows self.old self.new }
-        ensures ok { OnOk result ((name : List ℕ) → column_name self.old column ≡ Some name → AreDeclared self.old (flat_map (entry_declared name) (listed entries.now)) self.new) }
+        ensures ok { OnOk result (AreDeclaredOfColumn self.old column (entries_declared entries.now) self.new) }
     {
         self.put_value(column, rows.first, entries.first.value)?;
         if let Some(entry) = &entries.second {
@@ -183,7 +183,7 @@ impl Tables {
         requires rows { AreRows self.old entries.now rows }
         requires free { AreFree self.old column rows }
         ensures kept { Follows self.old self.new }
-        ensures ok { OnOk result ((name : List ℕ) → column_name self.old column ≡ Some name → AreDeclared self.old (when is_marked (declare_marked name) ++ flat_map (entry_declared name) (listed entries.now)) self.new) }
+        ensures ok { OnOk result (AreDeclaredOfColumn self.old column (parts_declared is_marked entries.now) self.new) }
     {
         self.mark_if(column, is_marked);
         self.put_entries(column, rows, entries)

@@ -8,7 +8,7 @@ ghost use Rattle.mpslp_builder.specs.RowTerms.{term_declared};
 ghost use Rattle.mpslp_builder.specs.Tables.{draft, IsNumbered};
 ghost use Rattle.mpslp_builder.specs.Calls.{row_name, column_name};
 ghost use Rattle.mpslp_builder.specs.LineTables.{Follows};
-ghost use Rattle.mpslp_builder.specs.TermTables.{HasColumn, AreDeclaredUnless};
+ghost use Rattle.mpslp_builder.specs.TermTables.{HasColumn, TermIsDeclaredUnless, TermsAreDeclaredUnless};
 
 use crate::row_terms::RowTerms;
 use crate::tables::Tables;
@@ -117,7 +117,7 @@ impl Tables {
         requires row { is_some (row_name self.old row) ≡ true }
         ensures kept { Follows self.old self.new }
         ensures rows { self.new.rows.entries ≡ self.old.rows.entries }
-        ensures declared { (name : List ℕ) → row_name self.old row ≡ Some name → AreDeclaredUnless self.old (term_declared name (column.now, value)) result self.new }
+        ensures declared { TermIsDeclaredUnless self.old row (column.now, value) result self.new }
     {
         let number = self.term_column(alloc, column, guess)?;
         self.each_name_occurs_once();
@@ -139,7 +139,7 @@ impl Tables {
         requires row { is_some (row_name self.old row) ≡ true }
         ensures kept { Follows self.old self.new }
         ensures rows { self.new.rows.entries ≡ self.old.rows.entries }
-        ensures declared { (name : List ℕ) → row_name self.old row ≡ Some name → AreDeclaredUnless self.old (flat_map (term_declared name) terms.now) result self.new }
+        ensures declared { TermsAreDeclaredUnless self.old row terms.now result self.new }
     {
         let mut guesses = [0usize; AHEAD];
         for k in 0..terms.len() {
@@ -164,7 +164,7 @@ impl Tables {
         requires row { is_some (row_name self.old row) ≡ true }
         ensures kept { Follows self.old self.new }
         ensures rows { self.new.rows.entries ≡ self.old.rows.entries }
-        ensures declared { (name : List ℕ) → row_name self.old row ≡ Some name → AreDeclaredUnless self.old (flat_map (term_declared name) terms.now.entries) result self.new }
+        ensures declared { TermsAreDeclaredUnless self.old row terms.now.entries result self.new }
     {
         for (name, value) in terms.iter() {
             let guess = self.recent.saturating_add(1);
@@ -185,7 +185,7 @@ impl Tables {
         requires row { is_some (row_name self.old row) ≡ true }
         ensures kept { Follows self.old self.new }
         ensures rows { self.new.rows.entries ≡ self.old.rows.entries }
-        ensures declared { (name : List ℕ) → row_name self.old row ≡ Some name → AreDeclaredUnless self.old (flat_map (term_declared name) terms.now) result self.new }
+        ensures declared { TermsAreDeclaredUnless self.old row terms.now result self.new }
     {
         self.declare_rising(alloc, row, terms.rising.as_slice())?;
         self.declare_others(alloc, row, &terms.others)
