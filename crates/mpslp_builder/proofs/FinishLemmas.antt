@@ -11,7 +11,6 @@ use Rattle.mpslp_builder.proofs.{MadeDrafts.{meant-from_made}, SortedDrafts.{sor
 use Rattle.mpslp_builder.proofs.OrderedParts.{ordered_parts, each-ordered}
 use Rattle.mpslp_builder.proofs.TableParts.{SaysRow, SaysColumn, rows_say, rows_meant, columns_say, columns_meant}
 use Rattle.mpslp_builder.proofs.ModelOfTables.{AreFinished, keeps, coefficients_are}
-use Rattle.std.specs.FinMap as maps
 use Rattle.mpslp_model_core.specs.ModelParts as parts
 
 -- The parts of a model are what a draft means by them.

@@ -11,7 +11,6 @@ use Prelude.{or_else, less_from}
 use Rattle.mpslp_builder.proofs.{NameLemmas.{once_too}, OwnParts.{row_parts_at, column_parts_at}}
 use Rattle.mpslp_model_core.specs.declared.limits.RowFault.TheVariants as rows
 use Rattle.mpslp_model_core.specs.declared.bounds.ColumnFault.TheVariants as columns
-use Rattle.mpslp_types.specs.declared.faults.FaultKind.TheVariants as kinds
 
 -- ---- the first name of a sorted map that passes a test
 

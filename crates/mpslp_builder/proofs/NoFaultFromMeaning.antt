@@ -9,7 +9,6 @@ use Prelude.{row_limits, row_entry, model_of, DraftMeans, Means, is_legal, is_no
 use Prelude.{so_not, both_false, imp_all, and_all, map_all}
 use Rattle.mpslp_builder.proofs.{WellFormed.{IsWellFormed, well_formed-from_consistent}, FileFaultLemmas.{none-from_no_fault}}
 use Rattle.mpslp_builder.proofs.{MeaningFromNoFault.{rows_are, columns_are, column_names}, SoundParts.{lower_of, upper_of, straight_of}}
-use Rattle.std.specs.FinMap as maps
 
 abbrev sides_hold : Option Row → Bool
 sides_hold None = false

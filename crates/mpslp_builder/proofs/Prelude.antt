@@ -90,6 +90,7 @@ pub use Rattle.mpslp_builder.specs.{Refusal.{semi_tests}, RowTerms.{DeclaresInTu
 pub use Rattle.mpslp_builder.specs.Tables.{AreNumbered, IsNumbered, as_part, binary_of, cells_by_name, cells_of, definition_of, draft}
 pub use Rattle.mpslp_builder.specs.Tables.{draft_from, integer_of, lower_of, mark_of, name_of_objective, name_of_row_key, no_part}
 pub use Rattle.mpslp_builder.specs.{Tables.{objective_rhs, range_of, rhs_of, semi_of, upper_of}, TermTables.{AreDeclaredUnless, HasColumn}}
-pub use Rattle.mpslp_builder.specs.declared.lines.{Entries.{Entries}, Entry.{Entry}, RowNumbers.{RowNumbers}}
+pub use Rattle.mpslp_builder.specs.declared.entries.{Entries.{Entries}, Entry.{Entry}}
+pub use Rattle.mpslp_builder.specs.declared.tables.lines.{RowNumbers.{RowNumbers}}
 pub use Rattle.mpslp_builder.specs.declared.tables.{RowRef.{RowRef}, Tables.{Tables}}
 pub use Rattle.mpslp_builder.specs.declared.tables.RowRef.TheVariants.{Objective}

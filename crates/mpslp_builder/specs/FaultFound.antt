@@ -1,5 +1,5 @@
 -- The whole-file error of tables: its kind and its place.
-use Rattle.std.specs.Prelude.{ℕ, ◌<◌, Bool, true, List, [], ◌∷◌, length, Option, Some, None, slice_get, unwrap_or, if◌then◌else◌}
+use Rattle.std.specs.Prelude.{ℕ, filter_map, ◌<◌, Bool, true, List, [], ◌∷◌, length, Option, Some, None, slice_get, unwrap_or, if◌then◌else◌}
 use Rattle.std.specs.Option.{option_map}
 use Rattle.std.specs.Ordering.{is_lt}
 use Rattle.mpslp_decimal.specs.Decimal.{zero_number}
@@ -61,6 +61,14 @@ entry_name es i = option_map (λ e. e.0) (slice_get es i)
 -- an error of a kind, reported for the least name that has it
 abbrev pub named_fault : Draft → FaultKind → Option Fault
 named_fault all kind = option_map (λ name. whole_fault kind (Some name)) (head_of (names_with all kind))
+
+-- the first of these errors that a row has
+abbrev pub first_row_fault : Draft → List RowFault → Option Fault
+first_row_fault all faults = head_of (filter_map (λ fault. named_fault all (kind_of_row_fault fault)) faults)
+
+-- the first of these errors that a column has
+abbrev pub first_column_fault : Draft → List ColumnFault → Option Fault
+first_column_fault all faults = head_of (filter_map (λ fault. named_fault all (kind_of_column_fault fault)) faults)
 
 abbrev pub fault_found : Tables → FoundFault → Fault
 fault_found t found.NoColumns = whole_fault kinds.NoColumns None

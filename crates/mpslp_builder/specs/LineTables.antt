@@ -10,10 +10,10 @@ use Rattle.mpslp_builder.specs.Refusal.{refusals_in_turn}
 use Rattle.mpslp_builder.specs.Made.{IsMade}
 use Rattle.mpslp_builder.specs.Tables.{draft, IsNumbered}
 use Rattle.mpslp_builder.specs.Calls.{row_name, column_name, column_satisfies, cells_at}
-use Rattle.mpslp_builder.specs.ColumnLine.{listed, column_line}
-use Rattle.mpslp_builder.specs.declared.lines.Entries.{Entries}
-use Rattle.mpslp_builder.specs.declared.lines.RowNumbers.{RowNumbers}
-use Rattle.mpslp_builder.specs.declared.lines.LinePlace.{LinePlace}
+use Rattle.mpslp_builder.specs.ColumnLine.{column_line, entry_declared, listed}
+use Rattle.mpslp_builder.specs.declared.entries.Entries.{Entries}
+use Rattle.mpslp_builder.specs.declared.tables.lines.RowNumbers.{RowNumbers}
+use Rattle.mpslp_builder.specs.declared.tables.lines.LinePlace.{LinePlace}
 use Rattle.mpslp_builder.specs.declared.tables.Tables.{Tables}
 
 -- these are the numbers of the rows, which differ
@@ -50,6 +50,15 @@ pub record IsFreeLine (t : Tables) (name : List ℕ) (is_marked : Bool) (entries
 pub record AreDeclared (t : Tables) (declarations : Declarations) (u : Tables) : Type 0 where
   pub free : (sense : Option Sense) (constant : Option Number) → refusals_in_turn (draft sense constant t) declarations ≡ []
   pub declared : (sense : Option Sense) (constant : Option Number) → draft sense constant u ≡ with_declarations (draft sense constant t) declarations
+
+-- these declarations of the column of a number are made, whatever its name is
+abbrev pub AreDeclaredOfColumn : Tables → ℕ → (List ℕ → Declarations) → Tables → Type 0
+AreDeclaredOfColumn t column declarations u = (name : List ℕ) → column_name t column ≡ Some name → AreDeclared t (declarations name) u
+
+-- a coefficient of the column of a number, in the row of a number, is declared, whatever their names are
+abbrev pub IsEntryDeclared : Tables → ℕ → ℕ → Number → Tables → Type 0
+IsEntryDeclared t column row value u =
+    (name : List ℕ) (of_row : List ℕ) → column_name t column ≡ Some name → row_name t row ≡ Some of_row → AreDeclared t (entry_declared name (of_row, value)) u
 
 -- what a builder needs of its tables holds after a call if it did before, and all names have kept their numbers
 pub record Follows (t u : Tables) : Type 0 where

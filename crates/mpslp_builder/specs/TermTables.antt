@@ -1,5 +1,6 @@
 -- What is known of tables while the terms of a row are declared, by number.
 use Rattle.std.specs.Prelude.{◌≡◌, ◌⊎◌, ℕ, List, [], ◌∷◌, Option, Some, Ok, Err}
+use Rattle.std.specs.List.{flat_map}
 use Rattle.mpslp_decimal.specs.Decimal.{Number}
 use Rattle.mpslp_types.specs.Lists.{head_of}
 use Rattle.mpslp_types.specs.declared.kinds.Sense.{Sense}
@@ -8,8 +9,9 @@ use Rattle.mpslp_builder.specs.Declaration.{declare_column, Declarations}
 use Rattle.mpslp_builder.specs.Refusal.{refusals_in_turn}
 use Rattle.mpslp_builder.specs.Answer.{Answer}
 use Rattle.mpslp_builder.specs.Tables.{draft}
-use Rattle.mpslp_builder.specs.Calls.{column_name}
+use Rattle.mpslp_builder.specs.Calls.{column_name, row_name}
 use Rattle.mpslp_builder.specs.LineTables.{AreDeclared}
+use Rattle.mpslp_builder.specs.RowTerms.{term_declared}
 use Rattle.mpslp_builder.specs.declared.tables.Tables.{Tables}
 
 -- the column of this number has this name, and it is declared if it was not
@@ -22,3 +24,11 @@ abbrev pub AreDeclaredUnless : Tables → Declarations → Answer → Tables →
 AreDeclaredUnless t declarations (Ok _) u = AreDeclared t declarations u
 AreDeclaredUnless t declarations (Err fault) u =
     (fault ≡ OutOfMemory) ⊎ ((sense : Option Sense) (constant : Option Number) → head_of (refusals_in_turn (draft sense constant t) declarations) ≡ Some fault)
+
+-- the same for a term of the row of a number, whatever its name is
+abbrev pub TermIsDeclaredUnless : Tables → ℕ → List ℕ × Number → Answer → Tables → Type 0
+TermIsDeclaredUnless t row term answer u = (name : List ℕ) → row_name t row ≡ Some name → AreDeclaredUnless t (term_declared name term) answer u
+
+-- the same for terms of the row of a number
+abbrev pub TermsAreDeclaredUnless : Tables → ℕ → List (List ℕ × Number) → Answer → Tables → Type 0
+TermsAreDeclaredUnless t row terms answer u = (name : List ℕ) → row_name t row ≡ Some name → AreDeclaredUnless t (flat_map (term_declared name) terms) answer u

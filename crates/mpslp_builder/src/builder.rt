@@ -1,6 +1,7 @@
 //! The builder: the parts of a model are declared in any order.
 
 mod finish;
+mod queries;
 
 ghost use Rattle.std.specs.Prelude.{◌≡◌, IsTrue, Ok};
 ghost use Rattle.std.specs.Option.{ForSome};

@@ -2,14 +2,13 @@
 #![tactic(auto)]
 
 mod builder;
+mod entries;
 pub mod laws;
-mod lines;
 mod reader_builder;
-mod refusals;
 mod row_terms;
 mod tables;
 
 pub use builder::Builder;
-pub use lines::{Entries, Entry};
+pub use entries::{Entries, Entry};
 pub use reader_builder::ReaderBuilder;
 pub use row_terms::RowTerms;

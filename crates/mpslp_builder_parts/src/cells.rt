@@ -150,7 +150,7 @@ impl Cells {
     /// # Errors
     ///
     /// [`AllocError`] if there is no memory for one vector of all coefficients.
-    pub fn into_moved(self, ranks: &[u32]) -> Result<Vec<(u32, PackedDecimal)>, AllocError>
+    pub fn into_renumbered(self, ranks: &[u32]) -> Result<Vec<(u32, PackedDecimal)>, AllocError>
         requires within { All (λ cell. cell.0 < length ranks.now) self }
         requires apart { (n m : ℕ) → n < length ranks.now → m < length ranks.now → slice_index ranks.now n ≡ slice_index ranks.now m → n ≡ m }
         ensures { IfOk result (λ cells. cells.items ≡ moved_cells ranks.now self) }

@@ -70,7 +70,7 @@ pub fn column_of(
     ensures cells { IfOk result (λ made. made.cells.items ≡ moved_in ranks.now column) }
 {
     let bounds = ModelBounds::of(alloc, column.declared().bounds())?;
-    let cells = column.cells.into_moved(ranks)?;
+    let cells = column.cells.into_renumbered(ranks)?;
     Ok(ModelColumn { bounds, cells })
 }
 

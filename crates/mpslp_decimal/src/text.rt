@@ -34,7 +34,7 @@ impl Model for DecimalText {
 }
 
 /// The digits of the absolute value of a mantissa. Most are short, and faster to print in 64 bits.
-fn format_size(buffer: &mut Buffer, size: u128) -> &[u8]
+fn mantissa_digits(buffer: &mut Buffer, size: u128) -> &[u8]
     ensures digits { result.now ≡ decimal size }
     ensures short { length result.now ≤ 40 }
 {
@@ -65,7 +65,7 @@ impl DecimalText {
         self.clear();
         self.append_sign(value);
         let mut buffer = Buffer::new();
-        let digits = format_size(&mut buffer, value.mantissa().unsigned_abs());
+        let digits = mantissa_digits(&mut buffer, value.mantissa().unsigned_abs());
         self.append_scaled(digits, value.exponent());
         self.bytes.as_slice()
     }

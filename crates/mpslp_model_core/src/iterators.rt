@@ -1,8 +1,9 @@
 //! Iterators over the rows and the columns of a model, and over the coefficients of a column. Contracts see each as the list of
 //! what it has left. Those over the coefficients of a row are in `row_entries.rt`.
 
-ghost use Rattle.std.specs.Prelude.{◌≡◌, map};
-ghost use Rattle.std.specs.Iterator.{YieldsFirst, YieldsFirstBy, item_count};
+ghost use Rattle.std.specs.Prelude.{◌≡◌, IfSome, Some, length, map};
+ghost use Rattle.std.specs.Iterator.{YieldsFirst, YieldsFirstBy, UpTo, at_most, item_count};
+ghost use Rattle.std.specs.Iterator.SizeHint.{IsWithinCount};
 ghost use Rattle.std.specs.List.{All};
 ghost use Rattle.mpslp_model_core.specs.Iterators.{IsOfRow, entry_of_cell};
 ghost use Rattle.mpslp_model_core.specs.ModelParts.{bounds_in};
@@ -56,9 +57,13 @@ impl<'a> Iterator for Rows<'a> {
         Some((&row.0, row.1.limits()))
     }
 
-    fn size_hint(&self) -> (usize, Option<usize>) {
-        let len = self.len();
-        (len, Some(len))
+    fn size_hint(&self) -> (usize, Option<usize>)
+        ensures lower { IsWithinCount result.0 (at_most (length self.now)) }
+        ensures upper { IfSome result.1 (UpTo (at_most (length self.now))) }
+        ensures exact { result ≡ (length self.now, Some (length self.now)) }
+    {
+        let rows = self.len();
+        (rows, Some(rows))
     }
 }
 
@@ -112,9 +117,13 @@ impl<'a> Iterator for Columns<'a> {
         Some((&column.0, column.1.bounds.bounds()))
     }
 
-    fn size_hint(&self) -> (usize, Option<usize>) {
-        let len = self.len();
-        (len, Some(len))
+    fn size_hint(&self) -> (usize, Option<usize>)
+        ensures lower { IsWithinCount result.0 (at_most (length self.now)) }
+        ensures upper { IfSome result.1 (UpTo (at_most (length self.now))) }
+        ensures exact { result ≡ (length self.now, Some (length self.now)) }
+    {
+        let columns = self.len();
+        (columns, Some(columns))
     }
 }
 
@@ -171,9 +180,13 @@ impl<'a> Iterator for ColumnEntries<'a> {
         Some((index_of_row_number(cell.0), cell.1.value()))
     }
 
-    fn size_hint(&self) -> (usize, Option<usize>) {
-        let len = self.len();
-        (len, Some(len))
+    fn size_hint(&self) -> (usize, Option<usize>)
+        ensures lower { IsWithinCount result.0 (at_most (length self.now)) }
+        ensures upper { IfSome result.1 (UpTo (at_most (length self.now))) }
+        ensures exact { result ≡ (length self.now, Some (length self.now)) }
+    {
+        let entries = self.len();
+        (entries, Some(entries))
     }
 }
 

@@ -1,7 +1,8 @@
 //! The iterator over the coefficients of a row.
 
-ghost use Rattle.std.specs.Prelude.{◌≡◌, ◌<◌};
-ghost use Rattle.std.specs.Iterator.{YieldsFirst, item_count};
+ghost use Rattle.std.specs.Prelude.{◌≡◌, ◌<◌, IfSome, Some, length};
+ghost use Rattle.std.specs.Iterator.{YieldsFirst, UpTo, at_most, item_count};
+ghost use Rattle.std.specs.Iterator.SizeHint.{IsWithinCount};
 ghost use Rattle.mpslp_model_core.specs.Views.{num_rows, row_elements, row_name};
 
 use crate::model::Model;
@@ -66,9 +67,13 @@ impl<'a> Iterator for RowEntries<'a> {
         Some(entry)
     }
 
-    fn size_hint(&self) -> (usize, Option<usize>) {
-        let len = self.len();
-        (len, Some(len))
+    fn size_hint(&self) -> (usize, Option<usize>)
+        ensures lower { IsWithinCount result.0 (at_most (length self.now)) }
+        ensures upper { IfSome result.1 (UpTo (at_most (length self.now))) }
+        ensures exact { result ≡ (length self.now, Some (length self.now)) }
+    {
+        let entries = self.len();
+        (entries, Some(entries))
     }
 }
 

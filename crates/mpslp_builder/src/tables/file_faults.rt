@@ -3,13 +3,12 @@
 //! Rows and columns are in the order of their declarations, and an error is reported for the first name in byte order that
 //! has it. So the search keeps the least name so far, and allocates nothing.
 
-ghost use Rattle.std.specs.Prelude.{◌≡◌, ◌<◌, Bool, length, filter_map};
+ghost use Rattle.std.specs.Prelude.{◌≡◌, ◌<◌, Bool, length};
 ghost use Rattle.std.specs.List.{list_any};
 ghost use Rattle.std.specs.Option.{option_and_then, option_map, ForSome};
-ghost use Rattle.mpslp_types.specs.Lists.{head_of};
 ghost use Rattle.mpslp_builder.specs.FileFault.{file_fault};
 ghost use Rattle.mpslp_builder.specs.Tables.{draft, IsNumbered};
-ghost use Rattle.mpslp_builder.specs.FaultFound.{row_fails, column_fails, is_wrong_row, is_wrong_column, is_below, least_name, entry_name, kind_of_row_fault, kind_of_column_fault, named_fault, fault_found, IsThere};
+ghost use Rattle.mpslp_builder.specs.FaultFound.{row_fails, column_fails, is_wrong_row, is_wrong_column, is_below, least_name, entry_name, first_row_fault, first_column_fault, fault_found, IsThere};
 
 use crate::tables::{NameMap, Tables};
 use mpslp_builder_parts::{ColumnParts, RowParts};
@@ -125,7 +124,7 @@ impl Tables {
     /// The first of these errors that a row has, with the row of the least name that has it.
     fn first_fault_of_rows(&self, faults: &[RowFault]) -> Option<FoundFault>
         requires { IsNumbered self.now }
-        ensures fault { option_map (fault_found self.now) result ≡ head_of (filter_map (λ fault. named_fault (draft None None self.now) (kind_of_row_fault fault)) faults.now) }
+        ensures fault { option_map (fault_found self.now) result ≡ first_row_fault (draft None None self.now) faults.now }
         ensures there { ForSome result (IsThere self.now) }
     {
         self.each_name_occurs_once();
@@ -142,7 +141,7 @@ impl Tables {
 
     /// The first of these errors that a column has, with the column of the least name that has it.
     fn first_fault_of_columns(&self, faults: &[ColumnFault]) -> Option<FoundFault>
-        ensures fault { option_map (fault_found self.now) result ≡ head_of (filter_map (λ fault. named_fault (draft None None self.now) (kind_of_column_fault fault)) faults.now) }
+        ensures fault { option_map (fault_found self.now) result ≡ first_column_fault (draft None None self.now) faults.now }
         ensures there { ForSome result (IsThere self.now) }
     {
         self.each_name_occurs_once();

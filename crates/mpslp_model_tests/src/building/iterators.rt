@@ -181,6 +181,46 @@ fn iterators_count_what_is_left(rt: HostRuntime) -> Result<(), Fail> {
     Ok(())
 }
 
+/// Whether both bounds are this number.
+fn are_exactly(bounds: (usize, Option<usize>), count: usize) -> bool {
+    match bounds {
+        (least, Some(most)) => least == count && most == count,
+        (_, None) => false,
+    }
+}
+
+/// Whether the bounds of the rows and columns that are left are exact, before the first is visited.
+fn are_lines_exact(model: &Model) -> bool {
+    are_exactly(model.rows().size_hint(), 2) && are_exactly(model.columns().size_hint(), 3)
+}
+
+/// Whether the bounds of the coefficients of the last row and of the last column that are left are exact, after the first is
+/// visited.
+fn are_entries_exact(model: &Model) -> bool {
+    if model.num_rows() < 2 || model.num_cols() < 3 {
+        return false;
+    }
+    let mut of_row = model.row_entries(1);
+    let mut of_column = model.column_entries(2);
+    let _first = of_row.next();
+    let _first = of_column.next();
+    are_exactly(of_row.size_hint(), 1) && are_exactly(of_column.size_hint(), 1)
+}
+
+/// The same for the model of the calls.
+fn are_exact(alloc: Global) -> Result<(bool, bool), BuildFault> {
+    match model_of(alloc, TWO_OF_THREE)? {
+        Some(model) => Ok((are_lines_exact(&model), are_entries_exact(&model))),
+        None => Ok((false, false)),
+    }
+}
+
+#[test]
+fn iterators_have_exact_bounds(rt: HostRuntime) -> Result<(), Fail> {
+    assert_eq!(rt; are_exact(rt.alloc())?, (true, true));
+    Ok(())
+}
+
 /// The names of the integer columns, one on each line.
 fn names_of_integers(alloc: Global, model: &Model) -> Result<Vec<u8>, AllocError> {
     let mut names = Vec::new(alloc);

@@ -4,7 +4,7 @@ use Rattle.std.specs.List.{flat_map}
 use Rattle.mpslp_builder.specs.ColumnLine.{entry_declared, pair_of, pair_if_some}
 use Rattle.mpslp_builder.specs.Calls.{row_name}
 use Rattle.mpslp_builder.specs.LineTables.{AreDeclared}
-use Rattle.mpslp_builder.specs.declared.lines.Entry.{Entry}
+use Rattle.mpslp_builder.specs.declared.entries.Entry.{Entry}
 use Rattle.mpslp_builder.proofs.LineLemmas.{follows_then, laid_then}
 use Rattle.mpslp_builder.proofs.tables.Tables.put_entries.Goals as goal
 

@@ -1,5 +1,5 @@
 use Rattle.mpslp_builder.proofs.Prelude.{◌≡◌, drop, those_of, first_refusal}
-use Rattle.mpslp_builder.proofs.refusals.refuse.Given as goal
+use Rattle.mpslp_builder.proofs.builder.queries.refuse.Given as goal
 
 -- the result is that of the remaining tests
 abbrev pub invariant-loop-holds : goal.invariant-loop-holds

@@ -6,7 +6,7 @@ use Rattle.mpslp_decimal.specs.Decimal.{Number}
 use Rattle.mpslp_model_core.specs.Numbered.{moved_cells, is_kept}
 use Rattle.mpslp_model_core.proofs.OnceLemmas.{never_falls-from_sort}
 use Rattle.mpslp_model_core.proofs.MovingLemmas.{renamed, all-from_each, each-of_map, each-kept, moved-from_any_order}
-use Rattle.mpslp_builder_parts.proofs.cells.Cells.into_moved.Goals as goal
+use Rattle.mpslp_builder_parts.proofs.cells.Cells.into_renumbered.Goals as goal
 
 pub renumbered-requires : goal.renumbered-requires
 renumbered-requires c =

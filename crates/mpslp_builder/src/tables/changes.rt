@@ -1,0 +1,182 @@
+//! What each declaration changes in the tables, by number.
+
+ghost use Rattle.std.specs.Prelude.{◌≡◌, ◌<◌, IsTrue, OnOk, OnErr, Some, None, true, false, suc, is_some};
+ghost use Rattle.std.specs.Ordering.{nat_cmp};
+ghost use Rattle.std.specs.FinMap.{find};
+ghost use Rattle.indexmap.specs.IndexMap.{index_map_len};
+ghost use Rattle.mpslp_builder.specs.Declaration.{has_name};
+ghost use Rattle.mpslp_builder.specs.Tables.{draft};
+ghost use Rattle.mpslp_builder.specs.Calls.{row_key_of, row_name, column_name, has_limits, cells_at, new_column, with_cell, with_bounds, IsSameTables, HasObjective, HasRowAdded, HasRowChanged, HasColumnAdded, HasColumnChanged, HasRhsPut};
+
+use crate::tables::{RowRef, Tables};
+use mpslp_builder_parts::{ColumnParts, ObjectiveParts, RowParts};
+use mpslp_decimal::{Decimal, PackedDecimal};
+use mpslp_model_core::PackedRowDefinition;
+use mpslp_types::{Limit, Name};
+use std::alloc::{AllocError, Global};
+
+/// The maximum number of rows: they and the objective have numbers of 32 bits.
+const MOST_ROWS: usize = 4_294_967_294;
+
+impl Tables {
+    /// Names the objective.
+    pub(crate) fn name_objective(&mut self, name: Name)
+        ensures { HasObjective self.old (record { name = name; rhs = None }) self.new }
+    {
+        self.objective = Some(ObjectiveParts { name, rhs: None });
+    }
+
+    /// Whether one more row can be numbered.
+    pub(crate) fn has_room(&self) -> bool
+        ensures { IsTrue result → index_map_len self.now.rows < MOST_ROWS }
+    {
+        self.rows.len() < MOST_ROWS
+    }
+
+    /// Adds a row without right-hand side and range. Its name must be new.
+    pub(crate) fn add_row(
+        &mut self,
+        name: Name,
+        definition: PackedRowDefinition,
+    ) -> Result<(), AllocError>
+        requires { has_name (draft None None self.old).rows name ≡ false }
+        ensures ok { OnOk result (HasRowAdded self.old name (record { definition = definition; rhs = None; range = None }) self.new) }
+        ensures err { OnErr result (IsSameTables self.old self.new) }
+    {
+        self.recent_row = self.rows.len();
+        let parts = RowParts::new(&definition);
+        self.rows.insert(name, parts)?;
+        Ok(())
+    }
+
+    /// Adds a column without coefficients. Its name must be new.
+    pub(crate) fn add_column(&mut self, alloc: Global, name: Name) -> Result<(), AllocError>
+        requires { has_name (draft None None self.old).columns name ≡ false }
+        ensures ok { OnOk result (HasColumnAdded self.old name new_column self.new) }
+        ensures err { OnErr result (IsSameTables self.old self.new) }
+    {
+        let parts = ColumnParts::new(alloc);
+        self.recent = self.columns.len();
+        self.columns.insert(name, parts)?;
+        Ok(())
+    }
+
+    /// Stores a coefficient at a free place.
+    pub(crate) fn put_cell(
+        &mut self,
+        column: usize,
+        row: u32,
+        value: Decimal,
+    ) -> Result<(), AllocError>
+        requires column { is_some (column_name self.old column) ≡ true }
+        requires absent { find nat_cmp row (cells_at self.old column) ≡ None }
+        ensures ok { OnOk result (HasColumnChanged self.old column (with_cell row value) self.new) }
+        ensures err { OnErr result (IsSameTables self.old self.new) }
+    {
+        self.recent_row = row.saturating_sub(1) as usize;
+        self.recent = column;
+        let (_key, parts) = self.columns.pair_mut(column);
+        parts.cells.put(row, value)
+    }
+
+    /// Stores the right-hand side of the row at an index, which must be declared by its type.
+    fn put_row_rhs(&mut self, index: usize, value: Decimal)
+        requires there { is_some (row_name self.old (suc index)) ≡ true }
+        requires typed { has_limits self.old (RowRef.Row index) ≡ false }
+        ensures { HasRowChanged self.old index (λ row. record row { rhs = Some value }) self.new }
+    {
+        self.recent_row = index;
+        let (_key, row) = self.rows.pair_mut(index);
+        row.put_rhs(value);
+    }
+
+    /// Stores the right-hand side of the objective.
+    fn put_objective_rhs(&mut self, value: Decimal)
+        requires { is_some self.old.objective ≡ true }
+        ensures { HasRhsPut self.old RowRef.Objective value self.new }
+    {
+        if let Some(objective) = &mut self.objective {
+            objective.rhs = Some(PackedDecimal::of(value));
+        }
+    }
+
+    /// Stores the right-hand side of the objective, or of a row, which must be declared by its type.
+    pub(crate) fn put_rhs(&mut self, place: RowRef, value: Decimal)
+        requires there { is_some (row_name self.old (row_key_of place)) ≡ true }
+        requires typed { has_limits self.old place ≡ false }
+        ensures { HasRhsPut self.old place value self.new }
+    {
+        match place {
+            RowRef::Objective => self.put_objective_rhs(value),
+            RowRef::Row(index) => self.put_row_rhs(index, value),
+        }
+    }
+
+    /// Stores the range of the row at an index, which must be declared by its type.
+    pub(crate) fn put_range(&mut self, index: usize, value: Decimal)
+        requires there { is_some (row_name self.old (suc index)) ≡ true }
+        requires typed { has_limits self.old (RowRef.Row index) ≡ false }
+        ensures { HasRowChanged self.old index (λ row. record row { range = Some value }) self.new }
+    {
+        self.recent_row = index;
+        let (_key, row) = self.rows.pair_mut(index);
+        row.put_range(value);
+    }
+
+    /// Marks a column.
+    pub(crate) fn put_mark(&mut self, column: usize)
+        requires { is_some (column_name self.old column) ≡ true }
+        ensures { HasColumnChanged self.old column (λ parts. record parts { marked = true }) self.new }
+    {
+        self.recent = column;
+        let (_key, parts) = self.columns.pair_mut(column);
+        parts.marked = true;
+    }
+
+    /// Makes a column integer.
+    pub(crate) fn put_integer(&mut self, column: usize)
+        requires { is_some (column_name self.old column) ≡ true }
+        ensures { HasColumnChanged self.old column (λ parts. record parts { integer = true }) self.new }
+    {
+        self.recent = column;
+        let (_key, parts) = self.columns.pair_mut(column);
+        parts.integer = true;
+    }
+
+    /// Makes a column binary.
+    pub(crate) fn put_binary(&mut self, column: usize)
+        requires { is_some (column_name self.old column) ≡ true }
+        ensures { HasColumnChanged self.old column (λ parts. record parts { binary = true }) self.new }
+    {
+        self.recent = column;
+        let (_key, parts) = self.columns.pair_mut(column);
+        parts.binary = true;
+    }
+
+    /// Makes a column semi-continuous.
+    pub(crate) fn put_semi(&mut self, column: usize)
+        requires { is_some (column_name self.old column) ≡ true }
+        ensures { HasColumnChanged self.old column (λ parts. record parts { semi = true }) self.new }
+    {
+        self.recent = column;
+        let (_key, parts) = self.columns.pair_mut(column);
+        parts.semi = true;
+    }
+
+    /// Stores the given bounds of a column.
+    pub(crate) fn put_bounds(
+        &mut self,
+        alloc: Global,
+        column: usize,
+        lower: Option<Limit>,
+        upper: Option<Limit>,
+    ) -> Result<(), AllocError>
+        requires { is_some (column_name self.old column) ≡ true }
+        ensures ok { OnOk result (HasColumnChanged self.old column (with_bounds lower upper) self.new) }
+        ensures err { OnErr result (IsSameTables self.old self.new) }
+    {
+        self.recent = column;
+        let (_key, parts) = self.columns.pair_mut(column);
+        parts.sides.put(alloc, lower, upper)
+    }
+}

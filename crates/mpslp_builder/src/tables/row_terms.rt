@@ -1,0 +1,193 @@
+//! The terms of a row by number: each column, which is declared if it is new, and its coefficient.
+
+ghost use Rattle.std.specs.Prelude.{◌≡◌, ℕ, List, IfOk, IfSome, None, Some, true, is_some};
+ghost use Rattle.std.specs.List.{flat_map};
+ghost use Rattle.mpslp_types.specs.Name.{IsMpsName};
+ghost use Rattle.mpslp_builder.specs.Declaration.{has_column};
+ghost use Rattle.mpslp_builder.specs.RowTerms.{term_declared};
+ghost use Rattle.mpslp_builder.specs.Tables.{draft, IsNumbered};
+ghost use Rattle.mpslp_builder.specs.Calls.{row_name, column_name};
+ghost use Rattle.mpslp_builder.specs.LineTables.{Follows};
+ghost use Rattle.mpslp_builder.specs.TermTables.{HasColumn, TermIsDeclaredUnless, TermsAreDeclaredUnless};
+
+use crate::row_terms::RowTerms;
+use crate::tables::Tables;
+use indexmap::IndexMap;
+use mpslp_decimal::Decimal;
+use mpslp_types::laws::each_name_is_legal;
+use mpslp_types::{BuildFault, HashSeed, Name};
+use std::alloc::{AllocError, Global};
+
+/// How many columns are looked up before their coefficients are stored. The look-ups do not wait for one another.
+const AHEAD: usize = 16;
+
+/// Consecutive numbers.
+fn numbers_from(first: usize) -> [usize; AHEAD] {
+    let mut numbers = [0usize; AHEAD];
+    for i in 0..AHEAD {
+        numbers[i] = first.saturating_add(i);
+    }
+    numbers
+}
+
+impl Tables {
+    /// The number of the first column, if as many columns as are looked up together probably follow the one that was used last in the
+    /// order of their declarations. Only the first and the last one are compared.
+    fn next_run(&self, terms: &[(Name, Decimal)]) -> Option<usize> {
+        if terms.len() < AHEAD {
+            return None;
+        }
+        let first = self.recent.saturating_add(1);
+        let last = first.saturating_add(AHEAD - 1);
+        let is_run = self.is_column(first, terms[0].0.as_bytes())
+            && self.is_column(last, terms[AHEAD - 1].0.as_bytes());
+        if is_run { Some(first) } else { None }
+    }
+
+    /// The numbers of the columns of the first terms, 0 where there is none.
+    fn numbers_of(&self, terms: &[(Name, Decimal)]) -> [usize; AHEAD] {
+        let mut numbers = [0usize; AHEAD];
+        let mut next = self.recent;
+        for i in 0..terms.len().min(AHEAD) {
+            if let Some(column) = self.column_from(terms[i].0.as_bytes(), next) {
+                numbers[i] = column;
+                next = column.saturating_add(1);
+            }
+        }
+        numbers
+    }
+
+    /// The numbers that the columns of the first terms may have, 0 where there is none. They only speed up later look-ups, so any
+    /// numbers are correct.
+    fn guesses(&self, row: u32, terms: &[(Name, Decimal)]) -> [usize; AHEAD] {
+        let count = terms.len().min(AHEAD);
+        let mut guesses = match self.next_run(terms) {
+            Some(first) => numbers_from(first),
+            None => self.numbers_of(terms),
+        };
+        // This reads the last coefficient of each column, after which the next one is stored. In a loop of their own the misses of
+        // the cache overlap.
+        for i in 0..count {
+            if self.has_cell(guesses[i], row) {
+                guesses[i] = 0;
+            }
+        }
+        guesses
+    }
+
+    /// The number of the column of this name. The column of the guessed number is compared first.
+    #[inline(always)]
+    fn column_from(&self, name: &[u8], guess: usize) -> Option<usize>
+        ensures number { IfSome result (λ i. column_name self.now i ≡ Some name.now) }
+        ensures found { is_some result ≡ has_column (draft None None self.now) name.now }
+    {
+        if self.is_column(guess, name) {
+            return Some(guess);
+        }
+        self.column_by_hash(name)
+    }
+
+    /// The number of the column of this name, which is declared if it is not yet.
+    fn term_column(&mut self, alloc: Global, name: &[u8], guess: usize) -> Result<usize, AllocError>
+        requires numbered { IsNumbered self.old }
+        requires legal { IsMpsName name.now }
+        ensures kept { Follows self.old self.new }
+        ensures rows { self.new.rows.entries ≡ self.old.rows.entries }
+        ensures ok { IfOk result (λ column. HasColumn self.old name.now column self.new) }
+    {
+        self.each_name_occurs_once();
+        match self.column_from(name, guess) {
+            Some(column) => Ok(column),
+            None => self.start_column(alloc, Name::from_legal(alloc, name)?),
+        }
+    }
+
+    /// Declares a term of a row, and its column if that is new.
+    #[inline(always)]
+    pub(crate) fn declare_term(
+        &mut self,
+        alloc: Global,
+        row: u32,
+        column: &[u8],
+        guess: usize,
+        value: Decimal,
+    ) -> Result<(), BuildFault>
+        requires numbered { IsNumbered self.old }
+        requires legal { IsMpsName column.now }
+        requires row { is_some (row_name self.old row) ≡ true }
+        ensures kept { Follows self.old self.new }
+        ensures rows { self.new.rows.entries ≡ self.old.rows.entries }
+        ensures declared { TermIsDeclaredUnless self.old row (column.now, value) result self.new }
+    {
+        let number = self.term_column(alloc, column, guess)?;
+        self.each_name_occurs_once();
+        if self.has_cell(number, row) {
+            return Err(BuildFault::DuplicateEntry);
+        }
+        self.put_value(number, row, value)?;
+        Ok(())
+    }
+
+    /// Declares terms of a row in order.
+    fn declare_rising(
+        &mut self,
+        alloc: Global,
+        row: u32,
+        terms: &[(Name, Decimal)],
+    ) -> Result<(), BuildFault>
+        requires numbered { IsNumbered self.old }
+        requires row { is_some (row_name self.old row) ≡ true }
+        ensures kept { Follows self.old self.new }
+        ensures rows { self.new.rows.entries ≡ self.old.rows.entries }
+        ensures declared { TermsAreDeclaredUnless self.old row terms.now result self.new }
+    {
+        let mut guesses = [0usize; AHEAD];
+        for k in 0..terms.len() {
+            if k % AHEAD == 0 {
+                guesses = self.guesses(row, &terms[k..]);
+            }
+            let term = &terms[k];
+            each_name_is_legal(&term.0);
+            self.declare_term(alloc, row, term.0.as_bytes(), guesses[k % AHEAD], term.1)?;
+        }
+        Ok(())
+    }
+
+    /// Declares terms of a row in order.
+    fn declare_others(
+        &mut self,
+        alloc: Global,
+        row: u32,
+        terms: &IndexMap<Name, Decimal, HashSeed>,
+    ) -> Result<(), BuildFault>
+        requires numbered { IsNumbered self.old }
+        requires row { is_some (row_name self.old row) ≡ true }
+        ensures kept { Follows self.old self.new }
+        ensures rows { self.new.rows.entries ≡ self.old.rows.entries }
+        ensures declared { TermsAreDeclaredUnless self.old row terms.now.entries result self.new }
+    {
+        for (name, value) in terms.iter() {
+            let guess = self.recent.saturating_add(1);
+            each_name_is_legal(name);
+            self.declare_term(alloc, row, name.as_bytes(), guess, *value)?;
+        }
+        Ok(())
+    }
+
+    /// Declares the terms of a row in order.
+    pub(crate) fn declare_terms(
+        &mut self,
+        alloc: Global,
+        row: u32,
+        terms: &RowTerms,
+    ) -> Result<(), BuildFault>
+        requires numbered { IsNumbered self.old }
+        requires row { is_some (row_name self.old row) ≡ true }
+        ensures kept { Follows self.old self.new }
+        ensures rows { self.new.rows.entries ≡ self.old.rows.entries }
+        ensures declared { TermsAreDeclaredUnless self.old row terms.now result self.new }
+    {
+        self.declare_rising(alloc, row, terms.rising.as_slice())?;
+        self.declare_others(alloc, row, &terms.others)
+    }
+}
