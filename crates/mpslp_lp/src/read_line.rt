@@ -142,7 +142,7 @@ fn take_tokens(context: &mut Context, state: &mut State, line: &[u8]) -> Result<
         (λ error. TakesToken (take_tokens context.old state.old (tokens line.now)) (Err error) context.new) }
 {
     let left = take_more_terms(context, state, tokens_of(line))?;
-    if left.are_at_end() {
+    if left.bytes_left().is_empty() {
         return Ok(());
     }
     take_others(context, state, left)

@@ -149,7 +149,7 @@ impl LpBuilder {
     }
 
     /// Keeps the memory of a completed row for the next one, unless it has very many terms.
-    pub(crate) fn keep_parts(&mut self, row: PartialRow)
+    pub(crate) fn keep_memory(&mut self, row: PartialRow)
         ensures { self.new ≡ self.old }
     {
         if row.parts.terms.are_few() {

@@ -132,7 +132,7 @@ pub fn declare_row(
     let lower = lower_limit(&row, relation, right);
     let upper = upper_limit(&row, relation, right);
     let answer = context.builder.declare_partial(&row, lower, upper);
-    context.builder.keep_parts(row);
+    context.builder.keep_memory(row);
     answer
 }
 

@@ -61,6 +61,11 @@ token_of found = record { kind = found.kind; start = found.start; text = found.t
 abbrev pub tokens_after : List ℕ → ℕ → List Token
 tokens_after line at = tokens_from at 0 (drop at line)
 
+-- these are the tokens of a text that begins somewhere in a line
+pub record AreTokensOf (left : List Token) (text : List ℕ) : Type 0 where
+  pub at : ℕ
+  pub are : left ≡ tokens_from at 0 text
+
 -- This is the first of these tokens: a slice of the line with at least one byte, and the others come after it.
 pub record IsNext (line : List ℕ) (at : ℕ) (found : Found) : Type 0 where
   pub tokens : tokens_after line at ≡ token_of found ∷ tokens_after line (found.start + length found.text.now)

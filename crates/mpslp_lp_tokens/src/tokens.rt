@@ -1,10 +1,10 @@
 //! The tokens of a line of LP text, found in one pass without an allocation.
 
-ghost use Rattle.std.specs.Prelude.{◌≡◌, ◌≤◌, [], IsTrue, length, MatchOption};
+ghost use Rattle.std.specs.Prelude.{◌≡◌, ◌≤◌, [], length, MatchOption};
 ghost use Rattle.std.specs.List.{prefix_len};
 ghost use Rattle.mpslp_lp_tokens.specs.Token.{is_blank, tokens};
 ghost use Rattle.std.specs.Iterator.{YieldsFirstBy, item_count};
-ghost use Rattle.mpslp_lp_tokens.specs.Scan.{token_of, tokens_after, IsNext};
+ghost use Rattle.mpslp_lp_tokens.specs.Scan.{token_of, tokens_after, AreTokensOf, IsNext};
 
 use crate::scan::front_at;
 use std::marker::Model;
@@ -120,12 +120,13 @@ impl<'a> Tokens<'a> {
         }
     }
 
-    /// Whether the end of the line is reached. If it is not, there may still be no more tokens.
+    /// The bytes of the line in which these tokens are found. If there are none, no token is left; if there are, they may still be
+    /// only spaces, tabs and a comment.
     #[inline(always)]
-    pub fn are_at_end(&self) -> bool
-        ensures { IsTrue result → self.now ≡ [] }
+    pub fn bytes_left(&self) -> &'a [u8]
+        ensures { AreTokensOf self.now result.now }
     {
-        self.at >= self.line.len()
+        &self.line[self.at..]
     }
 }
 

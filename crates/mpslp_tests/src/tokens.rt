@@ -1,7 +1,10 @@
 //! Tests of the tokens of LP lines.
 
 use mpslp_lp::{Section, TokenKind, next_token, tokens_of};
+use mpslp_lp_grammar::{Relation, Sign, TerminalKind, classify_found};
+use mpslp_lp_tokens::laws::each_word_has_lp_bytes;
 use mpslp_lp_tokens::{SectionWord, WordClass, class_of, is_word};
+use mpslp_model::FaultKind;
 use std::alloc::{AllocError, Global};
 use std::test::Fail;
 
@@ -196,5 +199,79 @@ fn tokens_once_more_are_the_same(rt: HostRuntime) {
     match tokens.next() {
         Some(token) => assert!(rt; token.start == 0),
         None => assert!(rt; false),
+    }
+}
+
+/// Whether these bytes of a line are left after so many tokens.
+fn leaves(line: &str, count: usize, wanted: &str) -> bool {
+    let mut tokens = tokens_of(line.as_bytes());
+    for _ in 0..count {
+        let _token = tokens.next();
+    }
+    tokens.bytes_left() == wanted.as_bytes()
+}
+
+#[test]
+fn bytes_after_tokens_are_left(rt: HostRuntime) {
+    assert!(rt; leaves(" x >= 2", 0, " x >= 2"));
+    assert!(rt; leaves(" x >= 2", 1, " >= 2"));
+    assert!(rt; leaves(" x >= 2", 3, ""));
+    assert!(rt; leaves("x \\ c", 1, " \\ c"));
+    assert!(rt; leaves("x \\ c", 2, ""));
+    assert!(rt; leaves("", 0, ""));
+}
+
+/// Lines, and what the grammar sees of their first tokens.
+const SEEN: &str = "x1|name
+e5|name like an exponent
+Free|another terminal
+12|number
+1e999|another error
+>=|at least
+- 3|minus
+::|sos
+->|indicator
+[|quadratic
+\\|nothing
+";
+
+fn text_of_terminal(kind: TerminalKind) -> &'static str {
+    match kind {
+        TerminalKind::Name => "name",
+        TerminalKind::Number(_) => "number",
+        TerminalKind::Compares(Relation::AtLeast) => "at least",
+        TerminalKind::Sign(Sign::Minus) => "minus",
+        _ => "another terminal",
+    }
+}
+
+fn text_of_error(kind: FaultKind) -> &'static str {
+    match kind {
+        FaultKind::NameLikeExponent => "name like an exponent",
+        FaultKind::Sos => "sos",
+        FaultKind::Indicator => "indicator",
+        FaultKind::Quadratic => "quadratic",
+        _ => "another error",
+    }
+}
+
+/// What the grammar sees of the first token of a line.
+fn first_seen(line: &str) -> &'static str {
+    let mut tokens = tokens_of(line.as_bytes());
+    each_word_has_lp_bytes(&tokens);
+    let Some(token) = tokens.next() else {
+        return "nothing";
+    };
+    match classify_found(token.kind, token.text) {
+        Ok(kind) => text_of_terminal(kind),
+        Err(kind) => text_of_error(kind),
+    }
+}
+
+#[test]
+fn grammar_sees_what_is_found(rt: HostRuntime) {
+    for case in SEEN.lines() {
+        let (line, wanted) = parts(case);
+        assert_eq!(rt; first_seen(line), wanted, "at {line}");
     }
 }
