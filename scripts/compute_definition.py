@@ -93,7 +93,7 @@ use Rattle.mpslp_model_core.specs.Model.{{LinearModel}}
 use Rattle.mpslp_model_core.specs.Model.{{Listing}}
 use Rattle.mpslp_builder.specs.Declaration.{{Draft, draft_of}}
 use Rattle.mpslp_builder.specs.Meaning.{{model_of}}
-use Rattle.mpslp_builder.proofs.Acceptance.{{means-from_none}}
+use Rattle.mpslp_builder.proofs.MeaningFromNoFault.{{means-from_none}}
 use Rattle.{module}.{{declarations_of, {declares}}}
 use Rattle.mpslp_canonical_mps.specs.CanonicalMps.{{text_of, listed_lines, canonical_mps}}
 use Rattle.mpslp_canonical_mps.proofs.DraftText.{{listing_in, is_in_order, listing_of-model}}

@@ -1,16 +1,204 @@
--- Lines of a column by number: what each step declares, and what is still known after it.
+-- The drafts that tables represent after calls, lines of a column by number, and terms of a row.
 use Rattle.mpslp_builder.proofs.Prelude
-use Prelude.{arith, rules, ◌≡◌, refl, sym, ap, ◌∙◌, ℕ, zero, suc, List, [], ◌∷◌, ◌++◌, Bool, true, false, cond, length, ◌≢◌, Option, Some}
-use Prelude.{None, is_some, slice_get, ◌||◌, Result, Ok, OnOk, OnErr, option_map, option_map_or, nat_cmp, is_eq, Ordering, Less, Equal}
-use Prelude.{Greater, nat_cmp_total, find, nat_cmp-IsAntisymmetric, find-put, set_value_at, Number, is_decimal, is_mps_name, Sense}
-use Prelude.{BuildFault, at, Draft, Declarations, with_declaration, with_declarations, declare_column, declare_marked, declare_coefficient}
-use Prelude.{has_row, has_column, refusals, refusals_in_turn, no_part, cells_of, name_of_row_key, draft, IsNumbered, row_name, column_name}
-use Prelude.{column_satisfies, cells_at, new_column, with_cell, IsOnceEach, IsSameTables, HasColumnAdded, HasColumnChanged, entry_declared}
-use Prelude.{TakesLine, AreDeclared, Follows, HasStarted, ColumnParts, Tables}
-use Rattle.mpslp_builder.proofs.{AnswerLemmas.{made_after}, MadeDrafts.{with_declarations-append, refusals_in_turn-append}}
-use Rattle.mpslp_builder.proofs.{RefusalLemmas.{join_none}, ReadingLemmas.{number_there}, TestLemmas.{integer_stated, cell_stated}}
-use Rattle.mpslp_builder.proofs.CallLemmas.{cell_added, cell_added_numbered, mark_added, column_changed_numbered, column_added}
-use Rattle.mpslp_builder.proofs.{CallLemmas.{column_added_numbered}, NameLemmas.{name_kept, names-more}}
+use Prelude.{arith, ◌≡◌, refl, sym, ap, subst, ◌∙◌, ℕ, zero, suc, List, [], ◌∷◌, ◌++◌, Bool, true, false, None, Some, Option, is_some}
+use Prelude.{slice_get, length, ◌<◌, ◌||◌, option_map, set_value_at, Number, Limit, Sense, RowDefinition, is_definition_by_limits, at}
+use Prelude.{with_declaration, with_declarations, declare_row, declare_objective, declare_column, declare_coefficient, declare_rhs}
+use Prelude.{declare_range, declare_marked, declare_integer, declare_binary, declare_semi, bounds_declared, has_row, has_column}
+use Prelude.{has_coefficient, cells_of, name_of_objective, draft_from, draft, AreNumbered, IsNumbered, row_key_of, row_name, row_satisfies}
+use Prelude.{column_name, new_column, with_cell, with_bounds, IsOnceEach, IsSameTables, HasObjective, HasRowAdded, HasRowChanged}
+use Prelude.{HasColumnAdded, HasColumnChanged, HasObjectiveChanged, HasRhsPut, ObjectiveParts, RowParts, ColumnParts, RowRef, Objective}
+use Prelude.{Tables, Draft, find, nat_cmp, cells_at, rules, cond, ◌≢◌, Result, Ok, OnOk, OnErr, option_map_or, is_eq, Ordering, Less, Equal}
+use Prelude.{Greater, nat_cmp_total, nat_cmp-IsAntisymmetric, find-put, is_decimal, is_mps_name, BuildFault, Declarations, refusals}
+use Prelude.{refusals_in_turn, no_part, name_of_row_key, column_satisfies, entry_declared, TakesLine, AreDeclared, Follows, HasStarted}
+use Prelude.{drop, get_or, not, inl, inr, ◌+◌, ◌≤◌, insert, Err, IfOk, ◌-◌, AllocError, list_any, flat_map, IsErrAnd, lookup, is_gt}
+use Prelude.{is_sorted, slice_get_read, flat_map-append, insert_end, list_any-append, same_bytes, bytes_cmp, OutOfMemory, UnknownRow}
+use Prelude.{DuplicateEntry, put-insert, found_nowhere, place_after, sorted-put, head_of, is_sorted-sorted_of, Answer, term_declared}
+use Prelude.{DeclaresInTurn, HasColumn, AreDeclaredUnless}
+use Rattle.mpslp_builder.{specs.declared.tables.RowRef.TheVariants.Row, proofs.TableDrafts.{column_draft, column_numbered, kept_numbered}}
+use Rattle.mpslp_builder.proofs.TableDrafts.{mark_draft, integer_draft, binary_draft, semi_draft, sides_draft, cell_draft, cell_numbered}
+use Rattle.mpslp_builder.proofs.TableDrafts.{row_draft, row_numbered, written_numbered, range_draft, rhs_draft, objective_draft}
+use Rattle.mpslp_builder.proofs.TableDrafts.{objective_numbered, objective_rhs_draft, objective_rhs_numbered, name_kept, names-more}
+use Rattle.mpslp_builder.proofs.ReadingLemmas.{entry_at, cell_at, number_there, integer_stated, cell_stated}
+use Rattle.mpslp_builder.proofs.MadeDrafts.{made_after, with_declarations-append, refusals_in_turn-append, put_again}
+use Rattle.mpslp_builder.proofs.{RefusalLemmas.join_none, DraftEntries.bytes_total, EntryLemmas.{any-name, one_of-names}}
+
+-- ---- the drafts that tables represent after each call
+
+abbrev Parts : Type 0
+Parts = Option ObjectiveParts × List (List ℕ × RowParts) × List (List ℕ × ColumnParts)
+
+numbered_as : (p q : Parts) → p ≡ q → AreNumbered q.0 q.1 q.2 → AreNumbered p.0 p.1 p.2
+numbered_as = grind arith
+
+-- an entry has the name of its number
+entry_named : {V : Type 0} (o : Option (List ℕ × V)) (k : List ℕ) (v : V) (name : List ℕ) → o ≡ Some (k, v)
+    → option_map (λ e. e.0) o ≡ Some name → k ≡ name
+entry_named = grind arith
+
+-- equal tables represent equal drafts
+pub same_tables : (sense : Option Sense) (constant : Option Number) (t u : Tables) → IsSameTables t u → draft sense constant u ≡ draft sense constant t
+same_tables = grind arith
+
+pub same_numbered : (t u : Tables) → IsSameTables t u → IsNumbered t → IsNumbered u
+same_numbered = grind arith
+
+pub objective_absent : (o : Option ObjectiveParts) → is_some (name_of_objective o) ≡ false → o ≡ None
+objective_absent = grind arith
+
+module _ (sense : Option Sense) (constant : Option Number) (t u : Tables) where
+  -- ---- a row
+
+  pub row_added : (k : List ℕ) (definition : RowDefinition) → IsNumbered t
+      → HasRowAdded t k (record { definition = definition; rhs = None; range = None }) u → has_row (draft sense constant t) k ≡ false
+      → draft sense constant u ≡ with_declaration (draft sense constant t) (declare_row k definition)
+  row_added k definition numbered h absent = (λ i. draft_from sense constant (h.objective i) (h.rows i) (h.columns i))
+      ∙ row_draft sense constant t.objective t.rows.entries t.columns.entries k definition numbered absent
+
+  pub row_added_numbered : (k : List ℕ) (definition : RowDefinition) → IsNumbered t
+      → HasRowAdded t k (record { definition = definition; rhs = None; range = None }) u → length t.rows.entries < 4294967294
+      → has_row (draft sense constant t) k ≡ false → IsNumbered u
+  row_added_numbered k definition numbered h few absent = numbered_as (u.objective, u.rows.entries, u.columns.entries)
+      (t.objective, t.rows.entries ++ (k, record { definition = definition; rhs = None; range = None }) ∷ [], t.columns.entries)
+      (λ i. (h.objective i, h.rows i, h.columns i)) (row_numbered sense constant t.objective t.rows.entries t.columns.entries k definition numbered few absent)
+
+  module _ (change : RowParts → RowParts) (i : ℕ) (h : HasRowChanged t i change u) where
+    rows_written : draft sense constant u ≡ draft_from sense constant t.objective (set_value_at t.rows.entries i (change h.parts)) t.columns.entries
+    rows_written = λ j. draft_from sense constant (h.written.objective j) (h.written.rows j) (h.written.columns j)
+
+    pub row_changed_numbered : IsNumbered t → IsNumbered u
+    row_changed_numbered numbered = numbered_as (u.objective, u.rows.entries, u.columns.entries)
+        (t.objective, set_value_at t.rows.entries i (change h.parts), t.columns.entries) (λ j. (h.written.objective j, h.written.rows j, h.written.columns j))
+        (written_numbered sense constant t.objective t.rows.entries t.columns.entries i h.key h.parts (change h.parts) h.was numbered)
+
+  module _ (numbered : IsNumbered t) (once : IsOnceEach t) (i : ℕ) (r : List ℕ) (row : row_name t (suc i) ≡ Some r) (x : Number) where
+    pub range_added : HasRowChanged t i (λ row. record row { range = Some x }) u
+        → draft sense constant u ≡ with_declaration (draft sense constant t) (declare_range r x)
+    range_added h = rows_written (λ row. record row { range = Some x }) i h ∙ range_draft sense constant t.objective t.rows.entries
+        t.columns.entries i h.key h.parts (record h.parts { range = Some x }) h.was x numbered once.rows refl
+        ∙ ap (λ (name : List ℕ). with_declaration (draft sense constant t) (declare_range name x))
+        (entry_named (slice_get t.rows.entries i) h.key h.parts r h.was row)
+
+    row_rhs_added : HasRowChanged t i (λ row. record row { rhs = Some x }) u
+        → draft sense constant u ≡ with_declaration (draft sense constant t) (declare_rhs r x)
+    row_rhs_added h = rows_written (λ row. record row { rhs = Some x }) i h ∙ rhs_draft sense constant t.objective t.rows.entries
+        t.columns.entries i h.key h.parts (record h.parts { rhs = Some x }) h.was x numbered once.rows refl ∙ ap (λ (name : List ℕ).
+        with_declaration (draft sense constant t) (declare_rhs name x)) (entry_named (slice_get t.rows.entries i) h.key h.parts r h.was row)
+
+  -- ---- the objective
+
+  pub objective_named : (name : List ℕ) → IsNumbered t → t.objective ≡ None → HasObjective t (record { name = name; rhs = None }) u
+      → draft sense constant u ≡ with_declaration (draft sense constant t) (declare_objective name)
+  objective_named name numbered none h = (λ i. draft_from sense constant (h.objective i) (h.rows i) (h.columns i))
+      ∙ objective_draft sense constant name t.rows.entries t.columns.entries
+      (subst (λ (o : Option ObjectiveParts). AreNumbered o t.rows.entries t.columns.entries) none numbered)
+      ∙ ap (λ (o : Option ObjectiveParts). with_declaration (draft_from sense constant o t.rows.entries t.columns.entries) (declare_objective name)) (sym none)
+
+  pub objective_named_numbered : (name : List ℕ) → IsNumbered t → t.objective ≡ None → HasObjective t (record { name = name; rhs = None }) u
+      → has_row (draft sense constant t) name ≡ false → IsNumbered u
+  objective_named_numbered name numbered none h absent = numbered_as (u.objective, u.rows.entries, u.columns.entries)
+      (Some (record { name = name; rhs = None }), t.rows.entries, t.columns.entries) (λ i. (h.objective i, h.rows i, h.columns i))
+      (objective_numbered sense constant name t.rows.entries t.columns.entries
+      (subst (λ (o : Option ObjectiveParts). AreNumbered o t.rows.entries t.columns.entries) none numbered)
+      (ap (λ (o : Option ObjectiveParts). has_row (draft_from sense constant o t.rows.entries t.columns.entries) name) (sym none) ∙ absent))
+
+  module _ (x : Number) (h : HasObjectiveChanged t (λ o. record o { rhs = Some x }) u) where
+    objective_rhs_added : (r : List ℕ) → row_name t zero ≡ Some r → h.parts.rhs ≡ None
+        → draft sense constant u ≡ with_declaration (draft sense constant t) (declare_rhs r x)
+    objective_rhs_added r is none = let name : h.parts.name ≡ r = let both : Some h.parts.name ≡ Some r = sym (ap name_of_objective h.was)
+        ∙ is in cc in (λ i. draft_from sense constant (h.written.objective i) (h.written.rows i) (h.written.columns i))
+        ∙ objective_rhs_draft sense constant h.parts x t.rows.entries t.columns.entries none
+        ∙ (λ i. with_declaration (draft_from sense constant (sym h.was i) t.rows.entries t.columns.entries) (declare_rhs (name i) x))
+
+    objective_rhs_numbered_too : IsNumbered t → IsNumbered u
+    objective_rhs_numbered_too numbered = numbered_as (u.objective, u.rows.entries, u.columns.entries)
+        (Some (record h.parts { rhs = Some x }), t.rows.entries, t.columns.entries) (λ i.
+        (h.written.objective i, h.written.rows i, h.written.columns i)) (objective_rhs_numbered sense constant h.parts x t.rows.entries
+        t.columns.entries (subst (λ (o : Option ObjectiveParts). AreNumbered o t.rows.entries t.columns.entries) h.was numbered))
+
+  no_rhs : (value : Option Number) (b : Bool) → (is_some value || b) ≡ false → value ≡ None
+  no_rhs = grind arith
+
+  -- a right-hand side that was not declared
+  pub rhs_added : IsNumbered t → IsOnceEach t → (p : RowRef) (r : List ℕ) (x : Number) (b : Bool) → row_name t (row_key_of p) ≡ Some r
+      → row_satisfies t p (λ o. is_some o.rhs || b) (λ row. is_some row.rhs || is_definition_by_limits row.definition) ≡ false
+      → HasRhsPut t p x u → draft sense constant u ≡ with_declaration (draft sense constant t) (declare_rhs r x)
+  rhs_added numbered once Objective r x b is absent h = grind (arith, no_rhs)
+  rhs_added numbered once (Row i) r x b is absent h = row_rhs_added numbered once i r is x h
+
+  pub rhs_added_numbered : (p : RowRef) (x : Number) → IsNumbered t → HasRhsPut t p x u → IsNumbered u
+  rhs_added_numbered Objective x numbered h = objective_rhs_numbered_too x h numbered
+  rhs_added_numbered (Row i) x numbered h = row_changed_numbered (λ row. record row { rhs = Some x }) i h numbered
+
+  -- ---- a column
+
+  pub column_added : (k : List ℕ) → HasColumnAdded t k new_column u → has_column (draft sense constant t) k ≡ false
+      → draft sense constant u ≡ with_declaration (draft sense constant t) (declare_column k)
+  column_added k h absent = (λ i. draft_from sense constant (h.objective i) (h.rows i) (h.columns i))
+      ∙ column_draft sense constant t.objective t.rows.entries t.columns.entries k absent
+
+  pub column_added_numbered : (k : List ℕ) → HasColumnAdded t k new_column u → IsNumbered t → IsNumbered u
+  column_added_numbered k h numbered =
+      numbered_as (u.objective, u.rows.entries, u.columns.entries) (t.objective, t.rows.entries, t.columns.entries ++ (k, new_column) ∷ [])
+      (λ i. (h.objective i, h.rows i, h.columns i)) (column_numbered sense constant t.objective t.rows.entries t.columns.entries k numbered)
+
+  module _ (change : ColumnParts → ColumnParts) (i : ℕ) (h : HasColumnChanged t i change u) where
+    columns_written : draft sense constant u ≡ draft_from sense constant t.objective t.rows.entries (set_value_at t.columns.entries i (change h.parts))
+    columns_written = λ j. draft_from sense constant (h.written.objective j) (h.written.rows j) (h.written.columns j)
+
+    numbered_written : AreNumbered t.objective t.rows.entries (set_value_at t.columns.entries i (change h.parts)) → IsNumbered u
+    numbered_written = numbered_as (u.objective, u.rows.entries, u.columns.entries)
+        (t.objective, t.rows.entries, set_value_at t.columns.entries i (change h.parts)) (λ j. (h.written.objective j, h.written.rows j, h.written.columns j))
+
+    -- a change that keeps the coefficients keeps their numbers
+    pub column_changed_numbered : cells_of (change h.parts) ≡ cells_of h.parts → IsNumbered t → IsNumbered u
+    column_changed_numbered kept numbered = numbered_written
+        (kept_numbered sense constant t.objective t.rows.entries t.columns.entries i h.key h.parts h.was (change h.parts) kept numbered)
+
+  module _ (once : IsOnceEach t) (i : ℕ) (c : List ℕ) (column : column_name t i ≡ Some c) where
+    -- what is declared of the name of the entry is declared of the name of the number
+    by_name : (change : ColumnParts → ColumnParts) (h : HasColumnChanged t i change u) (after : List ℕ → Draft) → draft_from sense constant
+        t.objective t.rows.entries (set_value_at t.columns.entries i (change h.parts)) ≡ after h.key → draft sense constant u ≡ after c
+    by_name change h after is = columns_written change i h ∙ is ∙ ap after (entry_named (slice_get t.columns.entries i) h.key h.parts c h.was column)
+
+    pub mark_added : HasColumnChanged t i (λ parts. record parts { marked = true }) u
+        → draft sense constant u ≡ with_declaration (draft sense constant t) (declare_marked c)
+    mark_added h = by_name (λ parts. record parts { marked = true }) h (λ name. with_declaration (draft sense constant t)
+        (declare_marked name)) (mark_draft sense constant t.objective t.rows.entries t.columns.entries i h.key h.parts h.was once.columns)
+
+    pub integer_added : HasColumnChanged t i (λ parts. record parts { integer = true }) u
+        → draft sense constant u ≡ with_declaration (draft sense constant t) (declare_integer c)
+    integer_added h = by_name (λ parts. record parts { integer = true }) h (λ name. with_declaration (draft sense constant t) (declare_integer name))
+        (integer_draft sense constant t.objective t.rows.entries t.columns.entries i h.key h.parts h.was once.columns)
+
+    pub binary_added : HasColumnChanged t i (λ parts. record parts { binary = true }) u
+        → draft sense constant u ≡ with_declaration (draft sense constant t) (declare_binary c)
+    binary_added h = by_name (λ parts. record parts { binary = true }) h (λ name. with_declaration (draft sense constant t)
+        (declare_binary name)) (binary_draft sense constant t.objective t.rows.entries t.columns.entries i h.key h.parts h.was once.columns)
+
+    pub semi_added : HasColumnChanged t i (λ parts. record parts { semi = true }) u
+        → draft sense constant u ≡ with_declaration (draft sense constant t) (declare_semi c)
+    semi_added h = by_name (λ parts. record parts { semi = true }) h (λ name. with_declaration (draft sense constant t) (declare_semi name))
+        (semi_draft sense constant t.objective t.rows.entries t.columns.entries i h.key h.parts h.was once.columns)
+
+    pub sides_added : (lower upper : Option Limit) → HasColumnChanged t i (with_bounds lower upper) u
+        → draft sense constant u ≡ with_declarations (draft sense constant t) (bounds_declared c lower upper)
+    sides_added lower upper h =
+        by_name (with_bounds lower upper) h (λ name. with_declarations (draft sense constant t) (bounds_declared name lower upper))
+        (sides_draft sense constant t.objective t.rows.entries t.columns.entries i h.key h.parts h.was lower upper once.columns)
+
+    module _ (numbered : IsNumbered t) (n : ℕ) (r : List ℕ) (row : row_name t n ≡ Some r) (x : Number) (h : HasColumnChanged t i (with_cell n x) u) where
+      pub cell_added : find nat_cmp n (cells_at t i) ≡ None
+          → draft sense constant u ≡ with_declaration (draft sense constant t) (declare_coefficient (at r c) x)
+      cell_added absent = by_name (with_cell n x) h (λ k. with_declaration (draft sense constant t) (declare_coefficient (at r k) x))
+          (cell_draft sense constant t.objective t.rows.entries t.columns.entries i h.key h.parts h.was numbered n r row x once.columns
+          (ap (λ (k : List ℕ). has_coefficient (draft sense constant t) (at r k)) (entry_named (slice_get t.columns.entries i) h.key h.parts
+          c h.was column) ∙ cell_at sense constant t once i c (entry_at t.columns.entries i c column) n r numbered row ∙ ap is_some absent))
+
+      pub cell_added_numbered : IsNumbered u
+      cell_added_numbered = numbered_written (with_cell n x) i h
+          (cell_numbered sense constant t.objective t.rows.entries t.columns.entries i h.key h.parts h.was numbered n r row x)
+
+-- ---- lines of a column by number: what each step declares, and what is still known after it
 
 -- ---- entries by number
 
@@ -29,19 +217,20 @@ added_there (e ∷ es) x = added_there es x
 -- ---- rows
 
 or_true : (b : Bool) → true ≡ (b || true)
-or_true b = grind arith
+or_true = grind arith
 
 -- a row, or the objective, with a number is declared
-pub row_there : (sense : Option Sense) (constant : Option Number) (t : Tables) (n : ℕ) (r : List ℕ) → row_name t n ≡ Some r → true ≡ has_row (draft sense constant t) r
+pub row_there : (sense : Option Sense) (constant : Option Number) (t : Tables) (n : ℕ) (r : List ℕ) → row_name t n ≡ Some r
+    → true ≡ has_row (draft sense constant t) r
 row_there sense constant t n r is = search (rules, or_true, number_there)
 
 -- ---- steps
 
 pub either_way : {A E P Q R : Type 0} (r : Result A E) → (P → R) → (Q → R) → OnOk r P → OnErr r Q → R
-either_way r f g p q = grind arith
+either_way = grind arith
 
 pub follows_same : (t u : Tables) → IsNumbered t → IsSameTables t u → Follows t u
-follows_same t u numbered h = grind arith
+follows_same = grind arith
 
 pub follows_then : (t u v : Tables) → Follows t u → Follows u v → Follows t v
 follows_then t u v a b = record {
@@ -53,24 +242,27 @@ follows_then t u v a b = record {
 
 -- unchanged tables have the same coefficients
 pub same_cells : (t u : Tables) (i m : ℕ) → IsSameTables t u → find nat_cmp m (cells_at u i) ≡ find nat_cmp m (cells_at t i)
-same_cells t u i m h = grind arith
+same_cells = grind arith
 
 pub laid_none : (t : Tables) → AreDeclared t [] t
-laid_none t = grind arith
+laid_none = grind arith
 
 pub laid_then : (t u v : Tables) (ds es : Declarations) → AreDeclared t ds u → AreDeclared u es v → AreDeclared t (ds ++ es) v
 laid_then t u v ds es a b = record {
   free = λ sense constant.
       refusals_in_turn-append ds es (draft sense constant t)
-      ∙ join_none (refusals_in_turn (draft sense constant t) ds) (refusals_in_turn (with_declarations (draft sense constant t) ds) es) (a.free sense constant)
+      ∙ join_none (refusals_in_turn (draft sense constant t) ds) (refusals_in_turn (with_declarations (draft sense constant t) ds) es)
+      (a.free sense constant)
       (ap (λ (d : Draft). refusals_in_turn d es) (sym (a.declared sense constant)) ∙ b.free sense constant);
   declared = λ sense constant.
-      b.declared sense constant ∙ ap (λ (d : Draft). with_declarations d es) (a.declared sense constant) ∙ sym (with_declarations-append ds es (draft sense constant t));
+      b.declared sense constant ∙ ap (λ (d : Draft). with_declarations d es) (a.declared sense constant)
+      ∙ sym (with_declarations-append ds es (draft sense constant t));
 }
 
 -- one declaration that has no error
 laid_one : (t u : Tables) (d : _) → ((sense : Option Sense) (constant : Option Number) → refusals (draft sense constant t) d ≡ [])
-    → ((sense : Option Sense) (constant : Option Number) → draft sense constant u ≡ with_declaration (draft sense constant t) d) → AreDeclared t (d ∷ []) u
+    → ((sense : Option Sense) (constant : Option Number) → draft sense constant u ≡ with_declaration (draft sense constant t) d)
+    → AreDeclared t (d ∷ []) u
 laid_one t u d free declared = record {
   free = λ sense constant. ap (λ (faults : List BuildFault). faults ++ []) (free sense constant);
   declared = declared;
@@ -82,8 +274,7 @@ module _ (t u : Tables) (numbered : IsNumbered t) where
     rows_same n = λ j. name_of_row_key (h.written.objective j) (h.written.rows j) n
 
     columns_same : (j : ℕ) (name : List ℕ) → column_name t j ≡ Some name → column_name u j ≡ Some name
-    columns_same j name is =
-        ap (λ (es : List (List ℕ × ColumnParts)). option_map (λ e. e.0) (slice_get es j)) h.written.columns
+    columns_same j name is = ap (λ (es : List (List ℕ × ColumnParts)). option_map (λ e. e.0) (slice_get es j)) h.written.columns
         ∙ name_kept t.columns.entries i j (change h.parts) ∙ is
 
     own_name : column_name t i ≡ Some h.key
@@ -93,22 +284,23 @@ module _ (t u : Tables) (numbered : IsNumbered t) where
     cells_were = ap (λ (o : Option (List ℕ × ColumnParts)). option_map_or (λ e. cells_of e.1) o []) h.was
 
     cells_are : cells_at u i ≡ cells_of (change h.parts)
-    cells_are =
-        ap (λ (es : List (List ℕ × ColumnParts)). option_map_or (λ e. cells_of e.1) (slice_get es i) []) h.written.columns
+    cells_are = ap (λ (es : List (List ℕ × ColumnParts)). option_map_or (λ e. cells_of e.1) (slice_get es i) []) h.written.columns
         ∙ written_there cells_of [] t.columns.entries i h.key h.parts (change h.parts) h.was
 
   module _ (once : IsOnceEach t) (i : ℕ) where
     -- ---- the mark
 
     module _ (h : HasColumnChanged t i (λ parts. record parts { marked = true }) u) (semi : column_satisfies t i (λ parts. parts.semi) ≡ false) where
-      mark_free : (c : List ℕ) → column_name t i ≡ Some c → (sense : Option Sense) (constant : Option Number) → refusals (draft sense constant t) (declare_marked c) ≡ []
+      mark_free : (c : List ℕ) → column_name t i ≡ Some c → (sense : Option Sense) (constant : Option Number)
+          → refusals (draft sense constant t) (declare_marked c) ≡ []
       mark_free c is sense constant = integer_stated constant t once i c is (number_there no_part t.columns.entries i c is) false (sym semi)
 
-      mark_draft : (c : List ℕ) → column_name t i ≡ Some c → (sense : Option Sense) (constant : Option Number) → draft sense constant u ≡ with_declaration (draft sense constant t) (declare_marked c)
-      mark_draft c is sense constant = mark_added sense constant t u once i c is h
+      mark_draft_line : (c : List ℕ) → column_name t i ≡ Some c → (sense : Option Sense) (constant : Option Number)
+          → draft sense constant u ≡ with_declaration (draft sense constant t) (declare_marked c)
+      mark_draft_line c is sense constant = mark_added sense constant t u once i c is h
 
       pub mark_laid : (c : List ℕ) → column_name t i ≡ Some c → AreDeclared t (declare_marked c ∷ []) u
-      mark_laid c is = laid_one t u (declare_marked c) (mark_free c is) (mark_draft c is)
+      mark_laid c is = laid_one t u (declare_marked c) (mark_free c is) (mark_draft_line c is)
 
       pub mark_follows : Follows t u
       mark_follows =
@@ -116,43 +308,44 @@ module _ (t u : Tables) (numbered : IsNumbered t) where
           let c = h.key in
           let is = own_name change i h in record {
             numbered = column_changed_numbered None None t u change i h refl numbered;
-            made = λ sense constant made. made_after (declare_marked c) (mark_draft c is sense constant) made refl (mark_free c is sense constant) refl;
+            made = λ sense constant made. made_after (declare_marked c) (mark_draft_line c is sense constant) made refl
+                (mark_free c is sense constant) refl;
             rows = rows_same change i h;
             columns = columns_same change i h;
           }
 
       pub mark_cells : cells_at u i ≡ cells_at t i
-      mark_cells =
-          let change : ColumnParts → ColumnParts = λ parts. record parts { marked = true } in
-          cells_are change i h ∙ sym (cells_were change i h)
+      mark_cells = let change : ColumnParts → ColumnParts = λ parts. record parts { marked = true } in cells_are change i h
+          ∙ sym (cells_were change i h)
 
     -- ---- a coefficient
 
     module _ (n : ℕ) (r : List ℕ) (row : row_name t n ≡ Some r) (x : Number) (h : HasColumnChanged t i (with_cell n x) u) (absent : find nat_cmp n (cells_at t i) ≡ None) where
-      cell_free : (c : List ℕ) → column_name t i ≡ Some c → (sense : Option Sense) (constant : Option Number) → refusals (draft sense constant t) (declare_coefficient (at r c) x) ≡ []
-      cell_free c is sense constant =
-          cell_stated constant t once i c is (number_there no_part t.columns.entries i c is) n r false numbered row (row_there None constant t n r row) (sym (ap is_some absent))
+      cell_free : (c : List ℕ) → column_name t i ≡ Some c → (sense : Option Sense) (constant : Option Number)
+          → refusals (draft sense constant t) (declare_coefficient (at r c) x) ≡ []
+      cell_free c is sense constant = cell_stated constant t once i c is (number_there no_part t.columns.entries i c is) n r false numbered
+          row (row_there None constant t n r row) (sym (ap is_some absent))
 
-      cell_draft : (c : List ℕ) → column_name t i ≡ Some c → (sense : Option Sense) (constant : Option Number) → draft sense constant u ≡ with_declaration (draft sense constant t) (declare_coefficient (at r c) x)
-      cell_draft c is sense constant = cell_added sense constant t u once i c is numbered n r row x h absent
+      cell_draft_line : (c : List ℕ) → column_name t i ≡ Some c → (sense : Option Sense) (constant : Option Number)
+          → draft sense constant u ≡ with_declaration (draft sense constant t) (declare_coefficient (at r c) x)
+      cell_draft_line c is sense constant = cell_added sense constant t u once i c is numbered n r row x h absent
 
       pub cell_laid : (c : List ℕ) → column_name t i ≡ Some c → AreDeclared t (entry_declared c (r, x)) u
-      cell_laid c is = laid_one t u (declare_coefficient (at r c) x) (cell_free c is) (cell_draft c is)
+      cell_laid c is = laid_one t u (declare_coefficient (at r c) x) (cell_free c is) (cell_draft_line c is)
 
       pub cell_follows : is_decimal x ≡ true → Follows t u
       cell_follows decimal =
           let c = h.key in
           let is = own_name (with_cell n x) i h in record {
             numbered = cell_added_numbered None None t u once i c is numbered n r row x h;
-            made = λ sense constant made. made_after (declare_coefficient (at r c) x) (cell_draft c is sense constant) made decimal (cell_free c is sense constant) refl;
+            made = λ sense constant made. made_after (declare_coefficient (at r c) x) (cell_draft_line c is sense constant) made decimal
+                (cell_free c is sense constant) refl;
             rows = rows_same (with_cell n x) i h;
             columns = columns_same (with_cell n x) i h;
           }
 
       pub cell_others : (m : ℕ) → m ≢ n → find nat_cmp m (cells_at u i) ≡ find nat_cmp m (cells_at t i)
-      cell_others m other =
-          ap (find nat_cmp m) (cells_are (with_cell n x) i h)
-          ∙ find-put nat_cmp nat_cmp_total m n x (cells_of h.parts)
+      cell_others m other = ap (find nat_cmp m) (cells_are (with_cell n x) i h) ∙ find-put nat_cmp nat_cmp_total m n x (cells_of h.parts)
           ∙ ap (λ (b : Bool). cond b (Some x) (find nat_cmp m (cells_of h.parts))) (apart (nat_cmp m n) refl)
           ∙ ap (find nat_cmp m) (sym (cells_were (with_cell n x) i h))
         where
@@ -164,7 +357,8 @@ module _ (t u : Tables) (numbered : IsNumbered t) where
   -- ---- a new column
 
   module _ (k : List ℕ) (h : HasColumnAdded t k new_column u) (absent : has_column (draft None None t) k ≡ false) where
-    start_draft : (sense : Option Sense) (constant : Option Number) → draft sense constant u ≡ with_declaration (draft sense constant t) (declare_column k)
+    start_draft : (sense : Option Sense) (constant : Option Number)
+        → draft sense constant u ≡ with_declaration (draft sense constant t) (declare_column k)
     start_draft sense constant = column_added sense constant t u k h absent
 
     pub start_follows : is_mps_name k ≡ true → Follows t u
@@ -180,7 +374,8 @@ module _ (t u : Tables) (numbered : IsNumbered t) where
     pub started : HasStarted t k (length t.columns.entries) u
     started =
         let here : slice_get u.columns.entries (length t.columns.entries) ≡ Some (k, new_column) =
-        ap (λ (es : List (List ℕ × ColumnParts)). slice_get es (length t.columns.entries)) h.columns ∙ added_there t.columns.entries (k, new_column) in record {
+        ap (λ (es : List (List ℕ × ColumnParts)). slice_get es (length t.columns.entries)) h.columns
+        ∙ added_there t.columns.entries (k, new_column) in record {
           named = ap (option_map (λ (e : List ℕ × ColumnParts). e.0)) here;
           declared = laid_one t u (declare_column k) (λ sense constant. refl) start_draft;
           cells = ap (λ (o : Option (List ℕ × ColumnParts)). option_map_or (λ e. cells_of e.1) o []) here;
@@ -188,6 +383,191 @@ module _ (t u : Tables) (numbered : IsNumbered t) where
         }
 
 -- a column that is declared may be declared again
-pub taken_next : (earlier later : Draft) (column : List ℕ) (more : Declarations) → with_declaration earlier (declare_column column) ≡ earlier → refusals_in_turn earlier more ≡ []
+pub taken_next : (earlier later : Draft) (column : List ℕ) (more : Declarations)
+    → with_declaration earlier (declare_column column) ≡ earlier → refusals_in_turn earlier more ≡ []
     → later ≡ with_declarations earlier more → TakesLine earlier (declare_column column ∷ more) (Ok true) later
-taken_next earlier later column more again free declared = grind arith
+taken_next = grind arith
+
+-- ---- terms of a row: how they are kept, and what each step of their declarations does to the tables
+
+-- ---- the terms that are kept
+
+abbrev Terms : Type 0
+Terms = List (List ℕ × Number)
+
+-- a name that is greater than the last one is not there
+pub above_absent : (name : List ℕ) (terms : Terms) → is_sorted bytes_cmp terms ≡ true → option_map_or
+    (λ last. is_gt (bytes_cmp name last.0)) (slice_get terms (length terms - 1)) true ≡ true → find bytes_cmp name terms ≡ None
+above_absent = grind (arith, place_after, bytes_total, found_nowhere, arith)
+
+-- and comes after all
+pub above_sorted : (name : List ℕ) (value : Number) (terms : Terms) → is_sorted bytes_cmp terms ≡ true → option_map_or (λ last. is_gt
+    (bytes_cmp name last.0)) (slice_get terms (length terms - 1)) true ≡ true → is_sorted bytes_cmp (terms ++ (name, value) ∷ []) ≡ true
+above_sorted name value terms sorted above = let following = place_after bytes_cmp bytes_total name terms sorted above in
+    ap (is_sorted bytes_cmp) (sym (insert_end terms (name, value)) ∙ ap (λ (i : ℕ). insert terms i (name, value)) following
+    ∙ sym (put-insert bytes_cmp name value terms (above_absent name terms sorted above))) ∙ sorted-put bytes_cmp bytes_total name value terms sorted
+
+-- a name is among those of terms if it is found
+pub any-found : (name : List ℕ) (terms : Terms) → list_any (λ term. same_bytes name term.0) terms ≡ is_some (find bytes_cmp name terms)
+any-found name terms = sym (any-name name terms) ∙ one_of-names name terms
+
+pub any-looked_up : (name : List ℕ) (terms : Terms) → list_any (λ term. same_bytes name term.0) terms ≡ is_some (lookup (same_bytes name) terms)
+any-looked_up name [] = refl
+any-looked_up name (term ∷ terms) = grind (arith, any-looked_up name terms)
+
+-- in two lists one after the other
+pub any-both : (name : List ℕ) (first more : Terms) (b : Bool) → is_some (find bytes_cmp name first) ≡ false
+    → list_any (λ term. same_bytes name term.0) more ≡ b → list_any (λ term. same_bytes name term.0) (first ++ more) ≡ b
+any-both name first more b absent is = list_any-append (λ (term : List ℕ × Number). same_bytes name term.0) first more
+    ∙ (λ i. (any-found name first ∙ absent) i || is i)
+
+pub any-first : (name : List ℕ) (first more : Terms) → is_some (find bytes_cmp name first) ≡ true
+    → list_any (λ term. same_bytes name term.0) (first ++ more) ≡ true
+any-first name first more there = list_any-append (λ (term : List ℕ × Number). same_bytes name term.0) first more
+    ∙ ap (λ (b : Bool). b || list_any (λ term. same_bytes name term.0) more) (any-found name first ∙ there)
+
+pub any-none : (name : List ℕ) (terms : Terms) → length terms ≡ 0 → list_any (λ term. same_bytes name term.0) terms ≡ false
+any-none name [] h = refl
+any-none name (term ∷ terms) h = absurd (omega arith)
+
+-- a name that is not in the first list
+pub any-more : (name key : List ℕ) (first more all : Terms) (r : Result Bool AllocError) → first ++ more ≡ all → key ≡ name
+    → is_some (find bytes_cmp name first) ≡ false → IfOk r (λ is_new. list_any (λ term. same_bytes key term.0) more ≡ not is_new)
+    → IfOk r (λ is_new. list_any (λ term. same_bytes name term.0) all ≡ not is_new)
+any-more = grind (arith, any-both)
+
+-- ---- steps
+
+-- a column that is declared may be declared again
+pub there_laid : (t : Tables) (name : List ℕ) (i : ℕ) → column_name t i ≡ Some name → AreDeclared t (declare_column name ∷ []) t
+there_laid = grind (arith, put_again, is_sorted-sorted_of, bytes_total, number_there)
+
+pub unless_then : (t u v : Tables) (ds es : Declarations) (answer : Answer) → AreDeclared t ds u → AreDeclaredUnless u es answer v
+    → AreDeclaredUnless t (ds ++ es) answer v
+unless_then t u v ds es (Ok x) a b = laid_then t u v ds es a b
+unless_then t u v ds es (Err fault) a (inl none) = inl none
+unless_then t u v ds es (Err fault) a (inr first) =
+    inr (λ sense constant.
+    let before = draft sense constant t in
+    ap head_of (
+    refusals_in_turn-append ds es before
+    ∙ ap (λ (faults : List BuildFault). faults ++ refusals_in_turn (with_declarations before ds) es) (a.free sense constant)
+    ∙ ap (λ (all : Draft). refusals_in_turn all es) (sym (a.declared sense constant))
+    )
+    ∙ first sense constant)
+
+-- there is no memory
+pub unless_memory : (t u : Tables) (ds : Declarations) (answer : Answer) → IsErrAnd answer (λ fault. fault ≡ OutOfMemory)
+    → AreDeclaredUnless t ds answer u
+unless_memory = grind arith
+
+-- the error that is reported
+pub unless_reported : (t u : Tables) (ds : Declarations) (answer : Answer) (fault : BuildFault) → IsErrAnd answer (λ stated. stated ≡ fault)
+    → AreDeclaredUnless t ds (Err fault) u → AreDeclaredUnless t ds answer u
+unless_reported t u ds (Ok x) fault stated h = absurd stated
+unless_reported t u ds (Err other) fault stated h = grind arith
+
+head-first : (faults more : List BuildFault) (fault : BuildFault) → head_of faults ≡ Some fault → head_of (faults ++ more) ≡ Some fault
+head-first = grind arith
+
+-- an error of the first declarations is the first of all
+pub unless_err : (t u v : Tables) (ds es : Declarations) (fault : BuildFault) → AreDeclaredUnless t ds (Err fault) u
+    → AreDeclaredUnless t (ds ++ es) (Err fault) v
+unless_err = grind (arith, inl, inr, refusals_in_turn-append, head-first)
+
+-- the coefficient is declared already
+pub taken_place : (t u v : Tables) (once : IsOnceEach u) (numbered : IsNumbered u) (n i : ℕ) (r c : List ℕ) (x : Number) → HasColumn t c i u
+    → row_name u n ≡ Some r → true ≡ is_some (find nat_cmp n (cells_at u i)) → AreDeclaredUnless t (term_declared r (c, x)) (Err DuplicateEntry) v
+taken_place t u v once numbered n i r c x column row stated = inr (λ sense constant. ap
+    (λ (all : Draft). head_of (refusals all (declare_coefficient (at r c) x) ++ [])) (sym (column.declared.declared sense constant))
+    ∙ ap (λ (faults : List BuildFault). head_of (faults ++ [])) (cell_stated constant u once i c column.named
+    (number_there no_part u.columns.entries i c column.named) n r true numbered row (row_there None constant u n r row) stated))
+
+-- a coefficient of any row that there is
+pub cell_follows_there : (t u : Tables) → IsNumbered t → IsOnceEach t → (i n : ℕ) → is_some (row_name t n) ≡ true → (x : Number)
+    → HasColumnChanged t i (with_cell n x) u → find nat_cmp n (cells_at t i) ≡ None → is_decimal x ≡ true → Follows t u
+cell_follows_there t u numbered once i n row x h absent decimal = by (row_name t n) refl row
+  where
+    by : (name : Option (List ℕ)) → row_name t n ≡ name → is_some name ≡ true → Follows t u
+    by None is there = cc
+    by (Some name) is there = cell_follows t u numbered once i n name is x h absent decimal
+
+-- the other coefficients of the column are the same
+pub cell_others_there : (t u : Tables) → IsNumbered t → IsOnceEach t → (i n : ℕ) → is_some (row_name t n) ≡ true → (x : Number)
+    → HasColumnChanged t i (with_cell n x) u → find nat_cmp n (cells_at t i) ≡ None → (m : ℕ) → m ≢ n
+    → find nat_cmp m (cells_at u i) ≡ find nat_cmp m (cells_at t i)
+cell_others_there t u numbered once i n row x h absent m other = by (row_name t n) refl row
+  where
+    by : (name : Option (List ℕ)) → row_name t n ≡ name → is_some name ≡ true → find nat_cmp m (cells_at u i) ≡ find nat_cmp m (cells_at t i)
+    by None is there = cc
+    by (Some name) is there = cell_others t u numbered once i n name is x h absent m other
+
+-- ---- terms in turn
+
+pub rest_at : {X : Type 0} (f : X → Declarations) (xs : List X) (k : ℕ) (x : X) → slice_get xs k ≡ Some x
+    → flat_map f (drop k xs) ≡ f x ++ flat_map f (drop (suc k) xs)
+rest_at f [] k x h = cc
+rest_at f (y ∷ xs) zero x h = grind arith
+rest_at f (y ∷ xs) (suc k) x h = rest_at f xs k x h
+
+-- what is left decides: whatever comes of these declarations comes of those, too
+abbrev pub Decides : Tables → Declarations → Tables → Declarations → Type 0
+Decides u left t all = (answer : Answer) (v : Tables) → AreDeclaredUnless u left answer v → AreDeclaredUnless t all answer v
+
+pub decides_next : (t u v : Tables) (first left all : Declarations) → AreDeclared u first v → Decides u (first ++ left) t all → Decides v left t all
+decides_next = grind (arith, unless_then)
+
+-- an error of the next of these declarations decides
+pub decides_err : (t u v : Tables) (first left all : Declarations) (answer : Answer) (fault : BuildFault) → IsErrAnd answer (λ stated.
+    stated ≡ fault) → AreDeclaredUnless u first (Err fault) v → Decides u (first ++ left) t all → AreDeclaredUnless t all answer v
+decides_err t u v first left all answer fault stated refused before =
+    before answer v (unless_reported u v (first ++ left) answer fault stated (unless_err u v v first left fault refused))
+
+-- nothing is left
+pub decides_all : (t u : Tables) (all : Declarations) → Decides u [] t all → AreDeclared t all u
+decides_all t u all before = before (Ok tt) u (laid_none u)
+
+-- the same of the drafts of builders
+pub in_turn : (sense : Option Sense) (constant : Option Number) (t u : Tables) (ds : Declarations) (answer : Answer)
+    → AreDeclaredUnless t ds answer u → DeclaresInTurn (draft sense constant t) ds answer (draft sense constant u)
+in_turn = grind arith
+
+next_is : (k : ℕ) → suc k ≡ k + 1
+next_is k = omega arith
+
+pub rest_of : {X : Type 0} (f : X → Declarations) (xs : List X) (k : ℕ) (x : X) → k < length xs → x ≡ get_or xs k x
+    → flat_map f (drop k xs) ≡ f x ++ flat_map f (drop (k + 1) xs)
+rest_of {X} f xs k x inside here = rest_at f xs k x (slice_get_read xs (length xs) k x refl inside here)
+    ∙ ap (λ (n : ℕ). f x ++ flat_map f (drop n xs)) (next_is k)
+
+-- of two lists one after the other
+pub both_parts : {X : Type 0} (f : X → Declarations) (first more given all : List X) → given ≡ first → first ++ more ≡ all
+    → flat_map f all ≡ flat_map f given ++ flat_map f more
+both_parts {X} f first more given all is seen = grind (arith, flat_map-append)
+
+pub none_first : (first more : Terms) → first ++ more ≡ [] → length first ≡ 0
+none_first [] more h = refl
+none_first (term ∷ first) more h = cc
+
+-- no row has the name, and there is a term
+pub rows_unknown : (all : Draft) (row : List ℕ) (terms : Terms) → has_row all row ≡ false → (terms ≡ [] → ⊥)
+    → head_of (refusals_in_turn all (flat_map (term_declared row) terms)) ≡ Some UnknownRow
+rows_unknown all row [] absent some = absurd (some refl)
+rows_unknown all row (term ∷ terms) absent some = grind arith
+
+pub drop_none : {X : Type 0} (k : ℕ) (xs : List X) → length xs ≤ k → drop k xs ≡ []
+drop_none zero (x ∷ xs) h = absurd (omega arith)
+drop_none (suc k) (x ∷ xs) h = drop_none k xs (omega arith)
+drop_none _ _ h = refl
+
+module _ (t u v : Tables) (name column : List ℕ) (term : List ℕ × Number) (rest left all : Declarations) (named : column ≡ term.0) (split : left ≡ term_declared name term ++ rest) (before : Decides u left t all) where
+  decides : Decides u (term_declared name (column, term.1) ++ rest) t all
+  decides = grind arith
+
+  -- after the next term
+  pub term_laid : AreDeclared u (term_declared name (column, term.1)) v → Decides v rest t all
+  term_laid = grind (arith, decides_next, decides)
+
+  pub term_refused : (answer : Answer) (fault : BuildFault) → IsErrAnd answer (λ stated. stated ≡ fault)
+      → AreDeclaredUnless u (term_declared name (column, term.1)) (Err fault) v → AreDeclaredUnless t all answer v
+  term_refused answer fault stated refused = decides_err t u v (term_declared name (column, term.1)) rest all answer fault stated refused decides

@@ -47,19 +47,15 @@ one = whole (pos 1)
 -- ---- the calls of a builder in turn
 
 abbrev first_calls : Declarations
-first_calls =
-    declare_objective f ∷ declare_objective (codes "g") ∷ declare_row f (by_type AtMost) ∷ declare_row r (by_type AtMost)
+first_calls = declare_objective f ∷ declare_objective (codes "g") ∷ declare_row f (by_type AtMost) ∷ declare_row r (by_type AtMost)
     ∷ declare_row s (by_limits one_limit one_limit) ∷ declare_rhs s one ∷ declare_column x ∷ declare_column x
-    ∷ declare_coefficient (at (codes "q") x) one ∷ declare_coefficient (at r y) one ∷ declare_coefficient (at r x) one ∷ declare_coefficient (at r x) one
-    ∷ declare_rhs r (whole (pos 4)) ∷ declare_rhs r (whole (pos 4)) ∷ declare_range f one ∷ declare_range r (number (pos 1) (pos 20))
-    ∷ declare_range r (whole (negsuc 1)) ∷ declare_range r (whole (negsuc 1)) ∷ []
+    ∷ declare_coefficient (at (codes "q") x) one ∷ declare_coefficient (at r y) one ∷ declare_coefficient (at r x) one
+    ∷ declare_coefficient (at r x) one ∷ declare_rhs r (whole (pos 4)) ∷ declare_rhs r (whole (pos 4)) ∷ declare_range f one
+    ∷ declare_range r (number (pos 1) (pos 20)) ∷ declare_range r (whole (negsuc 1)) ∷ declare_range r (whole (negsuc 1)) ∷ []
 
-first_answers : answers empty_draft first_calls
-    ≡ None ∷ Some builds.SecondObjective ∷ Some builds.DuplicateRow ∷ None
-    ∷ None ∷ Some builds.DuplicateRhs ∷ None ∷ None
-    ∷ Some builds.UnknownRow ∷ Some builds.UnknownColumn ∷ None ∷ Some builds.DuplicateEntry
-    ∷ None ∷ Some builds.DuplicateRhs ∷ Some builds.RangeOnFree ∷ Some builds.InfiniteValue
-    ∷ None ∷ Some builds.DuplicateRange ∷ []
+first_answers : answers empty_draft first_calls ≡ None ∷ Some builds.SecondObjective ∷ Some builds.DuplicateRow ∷ None ∷ None
+    ∷ Some builds.DuplicateRhs ∷ None ∷ None ∷ Some builds.UnknownRow ∷ Some builds.UnknownColumn ∷ None ∷ Some builds.DuplicateEntry ∷ None
+    ∷ Some builds.DuplicateRhs ∷ Some builds.RangeOnFree ∷ Some builds.InfiniteValue ∷ None ∷ Some builds.DuplicateRange ∷ []
 first_answers = refl
 
 abbrev ranged : Draft
@@ -86,19 +82,18 @@ pub bound_calls-right : map (λ row. row.0) bound_calls ≡ map (λ row. row.1) 
 bound_calls-right = refl
 
 abbrev last_calls : Declarations
-last_calls =
-    declare_marked x ∷ declare_integer x ∷ declare_binary y ∷ declare_constant (whole (pos 5)) ∷ declare_rhs f one
+last_calls = declare_marked x ∷ declare_integer x ∷ declare_binary y ∷ declare_constant (whole (pos 5)) ∷ declare_rhs f one
     ∷ declare_sense Maximize ∷ declare_sense Maximize ∷ []
 
-last_answers : answers bounded last_calls
-    ≡ None ∷ None ∷ Some builds.UnknownColumn ∷ None ∷ Some builds.DuplicateRhs ∷ None ∷ Some builds.DuplicateSense ∷ []
+last_answers : answers bounded last_calls ≡ None ∷ None ∷ Some builds.UnknownColumn ∷ None ∷ Some builds.DuplicateRhs ∷ None
+    ∷ Some builds.DuplicateSense ∷ []
 last_answers = refl
 
 abbrev finished : Draft
 finished = after bounded last_calls
 
-its_rows : maps.entries (model_of finished).rows
-    ≡ (r, record { lower = Finite (whole (pos 2)); upper = Finite (whole (pos 4)) }) ∷ (s, record { lower = one_limit; upper = one_limit }) ∷ []
+its_rows : maps.entries (model_of finished).rows ≡ (r, record { lower = Finite (whole (pos 2)); upper = Finite (whole (pos 4)) })
+    ∷ (s, record { lower = one_limit; upper = one_limit }) ∷ []
 unfolding trailing_zeros
 its_rows = maps.entries-from_sorted bytes_cmp _ tt
 
@@ -115,8 +110,8 @@ its_sense : (model_of finished).sense ≡ Maximize
 its_sense = refl
 
 -- a right-hand side of the objective is its negated constant
-constant_by_rhs : answers empty_draft (declare_objective f ∷ declare_rhs f (whole (negsuc 4)) ∷ declare_rhs f (whole (negsuc 4)) ∷ declare_constant one ∷ [])
-    ≡ None ∷ None ∷ Some builds.DuplicateRhs ∷ Some builds.DuplicateRhs ∷ []
+constant_by_rhs : answers empty_draft (declare_objective f ∷ declare_rhs f (whole (negsuc 4)) ∷ declare_rhs f (whole (negsuc 4))
+    ∷ declare_constant one ∷ []) ≡ None ∷ None ∷ Some builds.DuplicateRhs ∷ Some builds.DuplicateRhs ∷ []
 constant_by_rhs = refl
 
 negated_constant : (model_of (draft_of (declare_objective f ∷ declare_rhs f (whole (negsuc 4)) ∷ []))).constant ≡ whole (pos 5)
@@ -133,8 +128,8 @@ range_of_free_row : refusals with_free_row (declare_range r one) ≡ builds.Rang
 range_of_free_row = refl
 
 -- a second range of a row is a duplicate, even if the first is rejected
-ranges_in_turn : refusals_in_turn with_free_row (declare_range r one ∷ declare_range r one ∷ [])
-    ≡ builds.RangeOnFree ∷ builds.DuplicateRange ∷ builds.RangeOnFree ∷ []
+ranges_in_turn : refusals_in_turn with_free_row (declare_range r one ∷ declare_range r one ∷ []) ≡ builds.RangeOnFree
+    ∷ builds.DuplicateRange ∷ builds.RangeOnFree ∷ []
 ranges_in_turn = refl
 
 -- ---- bounds

@@ -1,12 +1,9 @@
 -- The order of names: by their first bytes, then by all bytes.
 use Rattle.std.proofs.Common.{◌≡◌, refl, sym, ap, subst, ◌∙◌, ℕ, zero, suc, ◌+◌, ◌-◌, ◌*◌, ◌^◌, ◌<◌, ◌≤◌, List, [], ◌∷◌, get_or, arith}
-use Rattle.std.specs.Ordering.{nat_cmp, ordering_then, ordering_reverse}
-use Rattle.std.specs.Cmp.{nat_cmp_total, ranked, tied_itself}
-use Rattle.std.specs.declared.cmp.Ordering.{Ordering}
-use Rattle.std.specs.declared.cmp.Ordering.TheVariants.{Less, Equal, Greater}
-use Rattle.std.specs.FinMap.{nat_cmp-IsAntisymmetric}
+use Rattle.std.specs.{Ordering.{nat_cmp, ordering_then, ordering_reverse}, Cmp.{nat_cmp_total, ranked, tied_itself}}
+use Rattle.std.specs.{declared.cmp.Ordering.{Ordering, TheVariants.{Less, Equal, Greater}}, FinMap.nat_cmp-IsAntisymmetric}
 use Rattle.mpslp_types.specs.Name.{bytes_cmp}
-use Rattle.mpslp_model_core.proofs.KeyLemmas.{bytes_total, tied_names}
+use Rattle.mpslp_model_core.proofs.CellLemmas.{bytes_total, tied_names}
 use Rattle.mpslp_builder_parts.specs.Ordered.{front_value}
 
 -- the weight of a byte that is followed by so many others

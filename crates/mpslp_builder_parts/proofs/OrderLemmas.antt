@@ -1,19 +1,12 @@
 -- Entries in the order of their names.
-use Rattle.std.proofs.Common.{◌≡◌, refl, sym, ap, subst, ◌∙◌, ℕ, zero, suc, ◌+◌, ◌<◌, List, [], ◌∷◌, length, map, get_or, arith, true, false, nat_lt, IsPermutation}
-use Rattle.std.specs.Prelude.{Result, Ok, Err, IfOk, slice_index}
-use Rattle.std.specs.Ordering.{is_lt, nat_cmp, ordering_then}
-use Rattle.std.specs.Cmp.{IsTotalOrder, nat_cmp_total, then_total, on_total}
-use Rattle.std.specs.List.{All}
-use Rattle.std.specs.List.Sorted.{IsSortedBy}
-use Rattle.std.proofs.lemmas.Bool.Decides.{nat_tests}
-use Rattle.std.proofs.lemmas.List.{get_or-map, length-map}
-use Rattle.mpslp_types.specs.Name.{bytes_cmp}
-use Rattle.mpslp_model_core.proofs.KeyLemmas.{bytes_total}
-use Rattle.mpslp_model_core.proofs.MovingLemmas.{all-from_each}
-use Rattle.mpslp_types.proofs.EachLemmas.{Each}
-use Rattle.std.proofs.lemmas.List.Sorted.{IsPermutation-map, All-permutation}
-use Rattle.mpslp_builder_parts.specs.Ordered.{name_at, front_value, front_at, front_cmp}
-use Rattle.mpslp_builder_parts.specs.declared.order.Front.{Front}
+use Rattle.std.proofs.Common.{◌≡◌, refl, sym, ap, subst, ◌∙◌, ℕ, zero, suc, ◌+◌, ◌<◌, List, [], ◌∷◌, length, map, get_or, arith, true}
+use Rattle.std.proofs.Common.{false, nat_lt, IsPermutation}
+use Rattle.std.proofs.lemmas.{Bool.Decides.nat_tests, List.{get_or-map, length-map, Sorted.{IsPermutation-map, All-permutation}}}
+use Rattle.std.specs.{Prelude.{Result, Ok, Err, IfOk, slice_index}, Ordering.{is_lt, nat_cmp, ordering_then}}
+use Rattle.std.specs.{Cmp.{IsTotalOrder, nat_cmp_total, then_total, on_total}, List.{All, Sorted.IsSortedBy}}
+use Rattle.mpslp_types.{specs.Name.bytes_cmp, proofs.EachLemmas.Each}
+use Rattle.mpslp_model_core.proofs.{CellLemmas.bytes_total, RenumberLemmas.all-from_each}
+use Rattle.mpslp_builder_parts.specs.{Ordered.{name_at, front_value, front_at, front_cmp}, declared.order.Front.Front}
 use Rattle.mpslp_builder_parts.proofs.FrontLemmas.{AreBytes, front-then}
 
 pub name_at-entry : {V : Type 0} (entries : List (List ℕ × V)) (n : ℕ) (e : List ℕ × V) → n < length entries → e ≡ get_or entries n e → (get_or entries n e).0 ≡ name_at entries n

@@ -1,17 +1,11 @@
 -- The numbers of rows before and after they are sorted.
-use Rattle.std.proofs.Common.{◌≡◌, refl, sym, ap, subst, ◌∙◌, ℕ, zero, suc, ◌+◌, ◌<◌, List, [], ◌∷◌, length, map, get_or, arith, Bool, true, false, cond, IsPermutation}
-use Rattle.std.specs.Prelude.{◌≢◌, Option, Some, None, slice_get, slice_index}
-use Rattle.std.specs.Ordering.{eq_by_cmp, nat_cmp}
-use Rattle.std.specs.Cmp.{nat_cmp_total}
-use Rattle.std.specs.FinMap.{find}
-use Rattle.std.specs.List.{Contains, cons_option, range_with_len}
-use Rattle.std.specs.List.Sorted.{IsStrictlySortedBy}
+use Rattle.std.proofs.Common.{◌≡◌, refl, sym, ap, subst, ◌∙◌, ℕ, zero, suc, ◌+◌, ◌<◌, List, [], ◌∷◌, length, map, get_or, arith, Bool, true}
+use Rattle.std.proofs.Common.{false, cond, IsPermutation}
 use Rattle.std.proofs.lemmas.List.Sorted.{IsPermutation-map, All-permutation, Contains-permutation, length_permutation}
-use Rattle.std.proofs.lemmas.List.FromFn.{length-range_with_len, get_or-range_with_len}
-use Rattle.std.proofs.lemmas.Map.Keys.{sorted_from_strictly_increasing}
-use Rattle.mpslp_model_core.specs.Numbered.{IsOnceBy}
-use Rattle.mpslp_model_core.proofs.CellLemmas.{number_tied}
-use Rattle.mpslp_model_core.proofs.OnceLemmas.{once-permutation, once-from_rising}
+use Rattle.std.proofs.lemmas.{List.FromFn.{length-range_with_len, get_or-range_with_len}, Map.Keys.sorted_from_strictly_increasing}
+use Rattle.std.specs.{Prelude.{◌≢◌, Option, Some, None, slice_get, slice_index}, Ordering.{eq_by_cmp, nat_cmp}, Cmp.nat_cmp_total}
+use Rattle.std.specs.{FinMap.find, List.{Contains, cons_option, range_with_len, Sorted.IsStrictlySortedBy}}
+use Rattle.mpslp_model_core.{specs.Numbered.IsOnceBy, proofs.CellLemmas.{number_tied, once-permutation, once-from_rising}}
 use Rattle.mpslp_builder_parts.specs.Ordered.{entries_at}
 
 -- ---- a list in which each number occurs once

@@ -1,13 +1,5 @@
-pub mod AnswerLemmas
-pub mod ArrayLemmas
-pub mod CountLemmas
 pub mod DefinesLemmas
 pub mod KnownLemmas
-pub mod NumberLemmas
-pub mod StepLemmas
-pub mod StoredLemmas
-pub mod StoredTexts
 pub mod StatedDraft
-pub mod StatedItems
+pub mod NumberLemmas
 pub mod StatedMeaning
-pub mod StatedValues

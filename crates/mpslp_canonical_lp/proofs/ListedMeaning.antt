@@ -2,7 +2,7 @@
 use Rattle.mpslp_canonical_lp.proofs.Prelude
 use Prelude.{ap, List, [], ℕ, Option, unwrap_or, LinearModel, IsSound, listing_of, Sense, Minimize, draft_of, AreConsistent, DraftMeans}
 use Prelude.{Means}
-use Rattle.mpslp_builder.proofs.GivenBack.{model-back, columns-back, no-negative_upper, binary-within}
+use Rattle.mpslp_builder.proofs.EntryLemmas.{model-back, columns-back, no-negative_upper, binary-within}
 use Rattle.mpslp_canonical_lp.proofs.{TextWalk.{listed_declarations}, SoundListing.{sound-listing}, ListedParts.{drafted}}
 use Rattle.mpslp_canonical_lp.proofs.MeantObjective.{sense-drafted, objective-drafted, constant-back}
 use Rattle.mpslp_canonical_lp.proofs.{MeantRows.{rows-back, finite-rows, exact-rows}, NamedColumns.{columns-drafted}}

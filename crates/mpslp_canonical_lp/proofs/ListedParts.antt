@@ -5,7 +5,7 @@ use Prelude.{flat_map, append-nil, flat_map-append, Number, is_zero, have_same_v
 use Prelude.{by_limits, Declaration, declare_sense, declare_objective, declare_constant, declare_row, Declarations, Draft, draft_of, Sense}
 use Prelude.{Limit, MinusInf, Finite, PlusInf, flat_map-flat_map, flat_map-none, named, Limits, row_limits, term_declared}
 use Prelude.{objective_declared, Term, objective_terms, row_terms, is_integer_column, is_semi_column}
-use Rattle.mpslp_builder.proofs.FlatLemmas.{flat-same}
+use Rattle.mpslp_builder.proofs.SlotLemmas.{flat-same}
 use Rattle.mpslp_canonical_lp.proofs.{ObjectiveWalk.{terms_declared, constant_declared, objective_made}, TailWalk.{general_made, semi_made}}
 use Rattle.mpslp_canonical_lp.proofs.{BoundsWalk.{column_made}, RowWalk.{left_of}}
 use Rattle.mpslp_canonical_lp.proofs.TextWalk.{row_left, row_relation, row_right, row_made, listed_declarations}

@@ -7,7 +7,7 @@ use Prelude.{Draft, empty_draft, with_declarations, bounds_declared, constant_of
 use Prelude.{rhs_values-all, with_declarations-append, limits_by, term_declared, objective_declared, AtLeast, Term, objective_terms}
 use Prelude.{row_terms, is_integer_column, is_semi_column}
 use Rattle.mpslp_types.proofs.EachLemmas.{Each}
-use Rattle.mpslp_builder.proofs.KeptParts.{Stays, stays-all}
+use Rattle.mpslp_builder.proofs.SlotLemmas.{Stays, stays-all}
 use Rattle.mpslp_canonical_lp.proofs.{PhraseLemmas.{column_and}, ObjectiveWalk.{terms_declared, constant_declared}}
 use Rattle.mpslp_canonical_lp.proofs.{TailWalk.{general_made, semi_made}, BoundsWalk.{bound_made, column_made}}
 use Rattle.mpslp_canonical_lp.proofs.{TextWalk.{row_made, listed_declarations}, ListedParts.{form_stated, drafted}}

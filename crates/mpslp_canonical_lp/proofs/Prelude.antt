@@ -29,24 +29,25 @@ pub use Rattle.mpslp_types.specs.Name.{has_name_length, is_like_exponent, is_res
 pub use Rattle.mpslp_types.specs.{declared.faults.Fault.{Fault}, declared.kinds.Kind.{Kind}, declared.kinds.Limit.{Limit}}
 pub use Rattle.mpslp_types.specs.{declared.kinds.Limit.TheVariants.{MinusInf, Finite, PlusInf}, declared.kinds.Sense.{Sense}}
 pub use Rattle.mpslp_types.specs.declared.kinds.Sense.TheVariants.{Minimize, Maximize}
-pub use Rattle.mpslp_model_core.proofs.PutsLemmas.{puts, puts-give, finds_own, some_append_left, equal_from, find-front, some_cons}
-pub use Rattle.mpslp_model_core.proofs.PutsLemmas.{some_append_right}
+pub use Rattle.mpslp_model_core.proofs.CellLemmas.{puts, puts-give, finds_own, some_append_left, equal_from, find-front, some_cons}
+pub use Rattle.mpslp_model_core.proofs.CellLemmas.{some_append_right}
 pub use Rattle.mpslp_model_core.specs.Limits.{plain_limits, has_infinite_rhs}
 pub use Rattle.mpslp_model_core.specs.Model.{Column, LinearModel, IsSound, listing_of, Column as ColumnOf, Row, CoefficientKey, Listing}
 pub use Rattle.mpslp_model_core.specs.Model.{key_cmp, is_sound_row, is_sound_column, is_sound_coefficient}
-pub use Rattle.mpslp_builder.proofs.CoefficientLemmas.{flat_map-none, flat_map-flat_map}
-pub use Rattle.mpslp_builder.proofs.{DistinctLemmas.{IsNew, Apart, distinct-append, distinct-flat_map}, DraftEntries.{same_key}}
-pub use Rattle.mpslp_builder.proofs.DraftLemmas.{row_part, rhs_part, column_part, coefficient_part, lower_part, upper_part, marked_part}
-pub use Rattle.mpslp_builder.proofs.DraftLemmas.{integer_part, binary_part, semi_part, coefficients-all, lowers-all, uppers-all, marked-all}
-pub use Rattle.mpslp_builder.proofs.DraftLemmas.{integers-all, binaries-all, semis-all, rhs_values-all, rows-all, columns-all}
+pub use Rattle.mpslp_builder.proofs.SlotLemmas.{flat_map-none, flat_map-flat_map}
+pub use Rattle.mpslp_builder.proofs.{EntryLemmas.{IsNew, Apart, distinct-append, distinct-flat_map}, DraftEntries.same_key}
+pub use Rattle.mpslp_builder.proofs.DraftEntries.{row_part, rhs_part, column_part, coefficient_part, lower_part, upper_part, marked_part}
+pub use Rattle.mpslp_builder.proofs.DraftEntries.{integer_part, binary_part, semi_part, coefficients-all, lowers-all, uppers-all}
+pub use Rattle.mpslp_builder.proofs.DraftEntries.{marked-all}
+pub use Rattle.mpslp_builder.proofs.DraftEntries.{integers-all, binaries-all, semis-all, rhs_values-all, rows-all, columns-all}
 pub use Rattle.mpslp_builder.proofs.EntryLemmas.{stated, all_stated, puts-kept, found-each, then_stated, puts-own, find-kept, find-stated}
 pub use Rattle.mpslp_builder.proofs.EntryLemmas.{sorted-stated, sorted-kept}
-pub use Rattle.mpslp_builder.proofs.{LaterDrafts.{itself_named, value_in}, MadeDrafts.{with_declarations-append, refusals_in_turn-append}}
-pub use Rattle.mpslp_builder.proofs.{MeaningFromNoFault.{sorted-mapped}, NamedEntries.{named, found-any, any-name, own-found}}
+pub use Rattle.mpslp_builder.proofs.{SlotLemmas.{itself_named, value_in}, MadeDrafts.{with_declarations-append, refusals_in_turn-append}}
+pub use Rattle.mpslp_builder.proofs.{MeaningFromNoFault.sorted-mapped, EntryLemmas.{named, found-any, any-name, own-found}}
 pub use Rattle.mpslp_builder.proofs.RefusalLemmas.{are_known_in_turn, consistent-from_none, none-from_fine_in_turn}
 pub use Rattle.mpslp_builder.proofs.SlotLemmas.{has-put, same_name}
-pub use Rattle.mpslp_builder.proofs.SortedDrafts.{IsSortedDraft, sorted-draft_of, key_total, bytes_total, tied_names}
-pub use Rattle.mpslp_builder.proofs.SoundParts.{lower_of, upper_of, bounded_so, bounded_finite, column_sides, row_sides}
+pub use Rattle.mpslp_builder.proofs.DraftEntries.{IsSortedDraft, sorted-draft_of, key_total_sorted as key_total, bytes_total, tied_names}
+pub use Rattle.mpslp_builder.proofs.DraftEntries.{lower_of, upper_of, bounded_so, bounded_finite, column_sides, row_sides}
 pub use Rattle.mpslp_builder.specs.Consistency.{is_known, AreConsistent, Slot, row_slot, rhs_slot, range_slot, coefficient_slot, lower_slot}
 pub use Rattle.mpslp_builder.specs.Consistency.{upper_slot, same_slot, slots_of, all_slots, sense_slot, objective_slot, constant_slot}
 pub use Rattle.mpslp_builder.specs.Consistency.{is_allowed, has_objective_rhs, has_one_constant, has_objective}

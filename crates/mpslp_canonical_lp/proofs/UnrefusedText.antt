@@ -12,7 +12,7 @@ use Prelude.{consistent-from_none, none-from_fine_in_turn, limits_by, AtMost, At
 use Prelude.{is_integer_column, is_semi_column, unfit, own-found, row_sides, column_sides, lower_of, upper_of, bounded_finite}
 use Rattle.std.specs.Cmp.Lexicographic.{nat_list_eq_equiv}
 use Rattle.mpslp_types.proofs.EachLemmas.{Each}
-use Rattle.mpslp_builder.proofs.WellFormed.{fresh-from_once}
+use Rattle.mpslp_builder.proofs.RefusalLemmas.{fresh-from_once}
 use Rattle.mpslp_canonical_lp.proofs.{PrintableLemmas.{fit-from_sound}, PhraseLemmas.{column_and}, BoundsWalk.{bound_made, column_made}}
 use Rattle.mpslp_canonical_lp.proofs.{TextWalk.{IsRow, listed_declarations}, CanonicalText.{IsPlainText}}
 use Rattle.mpslp_canonical_lp.proofs.{SoundListing.{IsSoundListing, sound-listing}, ListedParts.{drafted}}

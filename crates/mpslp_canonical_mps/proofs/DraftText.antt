@@ -26,9 +26,7 @@ abbrev pub is_in_order : Listing → Bool
 is_in_order m = is_sorted bytes_cmp m.rows && (is_sorted bytes_cmp m.columns && is_sorted key_cmp m.coefficients)
 
 pub listing_of-model : (all : Draft) → is_in_order (listing_in all) ≡ true → listing_of (model_of all) ≡ listing_in all
-listing_of-model all h =
-    let m = listing_in all in
-    let more = second_so _ _ h in
+listing_of-model all h = let m = listing_in all in let more = second_so _ _ h in
     let rows = entries-from_sorted bytes_cmp m.rows (T_from _ (first_so _ _ h)) in
     let columns = entries-from_sorted bytes_cmp m.columns (T_from _ (first_so _ _ more)) in
     let coefficients = entries-from_sorted key_cmp m.coefficients (T_from _ (second_so _ _ more)) in
@@ -47,8 +45,8 @@ line_text-from_passes bytes output passes sorted text =
 abbrev pub printed_of : List ℕ → (Bool × Bool × Bool × List BuildFault × Option Fault) × Bool × List ℕ
 printed_of bytes = (tests bytes, is_in_order (listing_in (draft_in bytes)), text_of (listed_lines (listing_in (draft_in bytes))))
 
-pub each-printed : (rows : List (List ℕ × List ℕ)) → map (λ row. printed_of row.0) rows ≡ map (λ row. ((true, true, true, [], None), true, row.1)) rows
-    → Each (λ row. IsPrinted row.0 row.1) rows
+pub each-printed : (rows : List (List ℕ × List ℕ)) → map (λ row. printed_of row.0) rows
+    ≡ map (λ row. ((true, true, true, [], None), true, row.1)) rows → Each (λ row. IsPrinted row.0 row.1) rows
 each-printed [] h = tt
 each-printed (row ∷ rows) h =
     let here = ap (λ its. get_or its 0 (printed_of row.0)) h in (

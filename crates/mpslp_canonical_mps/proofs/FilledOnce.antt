@@ -14,12 +14,11 @@ use Prelude.{printed_coefficients, sym, is_some, negated, Row, at_name, tied_nam
 use Prelude.{find-stated, one_of-names, none_there, Kind, Limit, PrintedBound, printed_bounds, suc, ◌<◌, append-nil, flat_map-append}
 use Prelude.{filter, Sense, Each-filter, declare_objective, flat_map-flat_map, sorted-kept, flat-same, own-found, is_integer_column}
 use Prelude.{is_plain_column}
-use Rattle.mpslp_canonical_mps.proofs.CanonicalContents.{to_cell, cells_in, to_row, sides_in, row_range, to_bound, bounds_in, group_in}
-use Rattle.mpslp_canonical_mps.proofs.{CoefficientMap.{place_at}, ColumnsWalk.{Cell, cell_decl, cells_of}, DraftMaps.{IsSoundListing}}
-use Rattle.mpslp_canonical_mps.proofs.{EarlyWalk.{sense_decl}, ListedContents.{whole_of}}
-use Rattle.mpslp_canonical_mps.proofs.ListedParts.{value_stated, side_stated, range_stated, own_side, sides-made, ranges-made, made_of}
-use Rattle.mpslp_canonical_mps.proofs.ListedParts.{listed_decl, cells-made, whole-parts}
-use Rattle.mpslp_canonical_mps.proofs.RowsWalk.{row_decl, Side, side_decl, range_decl, BoundForm, lower, upper, bound_decl, decl_at}
+use Rattle.mpslp_canonical_mps.proofs.WholeWalk.{to_cell, cells_in, to_row, sides_in, row_range, to_bound, bounds_in, group_in, sense_decl}
+use Rattle.mpslp_canonical_mps.proofs.{WholeWalk.whole_of, DraftMaps.{place_at, IsSoundListing, value_stated, side_stated, range_stated}}
+use Rattle.mpslp_canonical_mps.proofs.DraftMaps.{own_side, sides-made, ranges-made, made_of, listed_decl, cells-made, whole-parts}
+use Rattle.mpslp_canonical_mps.proofs.SectionWalks.{Cell, cell_decl, cells_of, row_decl, Side, side_decl, range_decl, BoundForm, lower}
+use Rattle.mpslp_canonical_mps.proofs.SectionWalks.{upper, bound_decl, decl_at}
 
 -- ---- slots of different kinds
 
@@ -49,7 +48,8 @@ other-new n slot [] is none = refl
 other-new n slot (later ∷ slots) is none = grind (arith, same-rank, other-new n slot slots is none.1)
 
 -- slots of one kind before slots of others
-pub join-ranks : (n : ℕ) (xs ys : List Slot) → are_distinct same_slot xs ≡ true → are_distinct same_slot ys ≡ true → AllOf n xs → NoneOf n ys → are_distinct same_slot (xs ++ ys) ≡ true
+pub join-ranks : (n : ℕ) (xs ys : List Slot) → are_distinct same_slot xs ≡ true → are_distinct same_slot ys ≡ true → AllOf n xs
+    → NoneOf n ys → are_distinct same_slot (xs ++ ys) ≡ true
 join-ranks = grind (arith, distinct-append, Each-weaker, other-new)
 
 -- ---- slots of names
@@ -58,13 +58,13 @@ any-map : {X Y : Type 0} (p : Y → Bool) (f : X → Y) (xs : List X) → list_a
 any-map p f [] = refl
 any-map p f (x ∷ xs) = ap (λ b. p (f x) || b) (any-map p f xs)
 
-pub distinct-map : {K : Type 0} (same : K → K → Bool) (make : K → Slot) → ((a b : K) → same_slot (make a) (make b) ≡ same a b) → (keys : List K)
-    → are_distinct same_slot (map make keys) ≡ are_distinct same keys
+pub distinct-map : {K : Type 0} (same : K → K → Bool) (make : K → Slot) → ((a b : K) → same_slot (make a) (make b) ≡ same a b)
+    → (keys : List K) → are_distinct same_slot (map make keys) ≡ are_distinct same keys
 distinct-map same make h [] = refl
 distinct-map {K} same make h (key ∷ keys) = grind (arith, any-map, distinct-map same make h keys)
 
-pub distinct-names : {X : Type 0} (make : List ℕ → Slot) → ((a b : List ℕ) → same_slot (make a) (make b) ≡ same_bytes a b) → (es : List (List ℕ × X)) → is_sorted bytes_cmp es ≡ true
-    → are_distinct same_slot (map make (names_in es)) ≡ true
+pub distinct-names : {X : Type 0} (make : List ℕ → Slot) → ((a b : List ℕ) → same_slot (make a) (make b) ≡ same_bytes a b)
+    → (es : List (List ℕ × X)) → is_sorted bytes_cmp es ≡ true → are_distinct same_slot (map make (names_in es)) ≡ true
 distinct-names make h es sorted = distinct-map same_bytes make h _ ∙ distinct-sorted bytes_cmp bytes_total same_bytes same_name es sorted
 
 pub slots-flat : (ds : Declarations) → all_slots ds ≡ flat_map slots_of ds
@@ -89,30 +89,30 @@ column-new row column other h [] = refl
 column-new row column other h (cell ∷ cells) = grind (arith, place_at, to_cell, and_none, column-new row column other h cells)
 
 -- nor is one of another row
-row-new : (coefficients : List (CoefficientKey × Number)) (row column : List ℕ) (rows : List (List ℕ)) → list_any (λ later. same_bytes later row) rows ≡ false
-    → IsNew same_slot (coefficient_slot (place_at row column)) (flat_map cell_slot (map (to_cell column) (filter_map (cell_at coefficients column) rows)))
+row-new : (coefficients : List (CoefficientKey × Number)) (row column : List ℕ) (rows : List (List ℕ))
+    → list_any (λ later. same_bytes later row) rows ≡ false → IsNew same_slot (coefficient_slot (place_at row column))
+    (flat_map cell_slot (map (to_cell column) (filter_map (cell_at coefficients column) rows)))
 row-new coefficients row column [] h = refl
-row-new coefficients row column (x ∷ rows) h =
-    let parts = nor _ _ h in
+row-new coefficients row column (x ∷ rows) h = let parts = nor _ _ h in
     by (find key_cmp (place_at x column) coefficients) parts.0 (row-new coefficients row column rows parts.1)
   where
-    by : (o : Option Number) → same_bytes x row ≡ false
-        → IsNew same_slot (coefficient_slot (place_at row column)) (flat_map cell_slot (map (to_cell column) (filter_map (cell_at coefficients column) rows)))
-        → IsNew same_slot (coefficient_slot (place_at row column)) (flat_map cell_slot (map (to_cell column) (cons_option (option_map (λ (value : Number). (x, value)) o) (filter_map (cell_at coefficients column) rows))))
+    by : (o : Option Number) → same_bytes x row ≡ false → IsNew same_slot (coefficient_slot (place_at row column)) (flat_map cell_slot
+        (map (to_cell column) (filter_map (cell_at coefficients column) rows))) → IsNew same_slot (coefficient_slot (place_at row column))
+        (flat_map cell_slot (map (to_cell column) (cons_option (option_map (λ (value : Number). (x, value)) o) (filter_map (cell_at coefficients column) rows))))
     by = grind arith
 
 -- the coefficients of a column are in different rows
-pub column-distinct : (coefficients : List (CoefficientKey × Number)) (column : List ℕ) (rows : List (List ℕ)) → are_distinct same_bytes rows ≡ true
-    → are_distinct same_slot (flat_map cell_slot (map (to_cell column) (filter_map (cell_at coefficients column) rows))) ≡ true
+pub column-distinct : (coefficients : List (CoefficientKey × Number)) (column : List ℕ) (rows : List (List ℕ)) → are_distinct same_bytes
+    rows ≡ true → are_distinct same_slot (flat_map cell_slot (map (to_cell column) (filter_map (cell_at coefficients column) rows))) ≡ true
 column-distinct coefficients column [] h = refl
-column-distinct coefficients column (row ∷ rows) h =
-    let any = list_any (λ later. same_bytes later row) rows in
+column-distinct coefficients column (row ∷ rows) h = let any = list_any (λ later. same_bytes later row) rows in
     by (find key_cmp (place_at row column) coefficients) (row-new coefficients row column rows (not_so _ (first_so _ _ h)))
     (column-distinct coefficients column rows (second_so _ _ h))
   where
-    by : (o : Option Number) → IsNew same_slot (coefficient_slot (place_at row column)) (flat_map cell_slot (map (to_cell column) (filter_map (cell_at coefficients column) rows)))
-        → are_distinct same_slot (flat_map cell_slot (map (to_cell column) (filter_map (cell_at coefficients column) rows))) ≡ true
-        → are_distinct same_slot (flat_map cell_slot (map (to_cell column) (cons_option (option_map (λ (value : Number). (row, value)) o) (filter_map (cell_at coefficients column) rows)))) ≡ true
+    by : (o : Option Number) → IsNew same_slot (coefficient_slot (place_at row column))
+        (flat_map cell_slot (map (to_cell column) (filter_map (cell_at coefficients column) rows))) → are_distinct same_slot
+        (flat_map cell_slot (map (to_cell column) (filter_map (cell_at coefficients column) rows))) ≡ true → are_distinct same_slot
+        (flat_map cell_slot (map (to_cell column) (cons_option (option_map (λ (value : Number). (row, value)) o) (filter_map (cell_at coefficients column) rows)))) ≡ true
     by = grind arith
 
 pub any-turned : (q : List ℕ) (names : List (List ℕ)) → list_any (λ later. same_bytes later q) names ≡ is_one_of names q
@@ -125,7 +125,8 @@ rows-distinct = search (rules, both_so, so_not, any-turned, distinct-sorted, byt
 abbrev pub column_slots : Listing → List ℕ × Column → List Slot
 column_slots m column = flat_map cell_slot (cells_in m column)
 
-line_text-distinct : (column objective : List ℕ) (cells : List (List ℕ × Number)) → are_distinct same_slot (flat_map cell_slot (map (to_cell column) cells)) ≡ true
+line_text-distinct : (column objective : List ℕ) (cells : List (List ℕ × Number))
+    → are_distinct same_slot (flat_map cell_slot (map (to_cell column) cells)) ≡ true
     → are_distinct same_slot (flat_map cell_slot (map (to_cell column) (printed_coefficients objective cells))) ≡ true
 line_text-distinct = grind arith
 
@@ -139,9 +140,11 @@ AreOther (column ∷ columns) = Each (λ later. same_bytes later.0 column.0 ≡ 
 
 pub sorted-other : (columns : List (List ℕ × Column)) → is_sorted bytes_cmp columns ≡ true → AreOther columns
 sorted-other [] h = tt
-sorted-other (column ∷ columns) h = grind (arith, later_differ, sorted-other columns (second_so (below_all bytes_cmp column.0 columns) (is_sorted bytes_cmp columns) h))
+sorted-other (column ∷ columns) h =
+    grind (arith, later_differ, sorted-other columns (second_so (below_all bytes_cmp column.0 columns) (is_sorted bytes_cmp columns) h))
 
-pub other-append : (xs ys : List (List ℕ × Column)) → AreOther xs → AreOther ys → Each (λ x. Each (λ y. same_bytes y.0 x.0 ≡ false) ys) xs → AreOther (xs ++ ys)
+pub other-append : (xs ys : List (List ℕ × Column)) → AreOther xs → AreOther ys → Each (λ x. Each (λ y. same_bytes y.0 x.0 ≡ false) ys) xs
+    → AreOther (xs ++ ys)
 other-append [] ys h k apart = k
 other-append (x ∷ xs) ys h k apart = (Each-append _ xs ys h.0 apart.0, other-append xs ys h.1 k apart.1)
 
@@ -158,9 +161,9 @@ columns-apart m (column ∷ columns) h = (
 )
 
 -- The coefficients of columns of different names fill different slots.
-pub coefficients-distinct : (m : Listing) → IsSoundListing m → (columns : List (List ℕ × Column)) → AreOther columns → are_distinct same_slot (flat_map (column_slots m) columns) ≡ true
-coefficients-distinct m h columns other =
-    distinct-flat_map same_slot _ columns (Each-all _ (own-distinct m h) columns) (columns-apart m columns other)
+pub coefficients-distinct : (m : Listing) → IsSoundListing m → (columns : List (List ℕ × Column)) → AreOther columns
+    → are_distinct same_slot (flat_map (column_slots m) columns) ≡ true
+coefficients-distinct m h columns other = distinct-flat_map same_slot _ columns (Each-all _ (own-distinct m h) columns) (columns-apart m columns other)
 
 -- ---- slots of names are of one kind
 
@@ -182,8 +185,7 @@ no-objective [] = refl
 no-objective (name ∷ names) = no-objective names
 
 pub row_slots-distinct : (m : Listing) → IsSoundListing m → are_distinct same_slot (row_slots m) ≡ true
-row_slots-distinct m h =
-    both_so _ _ (so_not _ (no-objective (m.objective ∷ names_in m.rows)))
+row_slots-distinct m h = both_so _ _ (so_not _ (no-objective (m.objective ∷ names_in m.rows)))
     (distinct-map same_bytes row_slot (λ a b. refl) (m.objective ∷ names_in m.rows) ∙ rows-distinct m h)
 
 -- ---- right-hand sides and ranges
@@ -198,15 +200,15 @@ side_values m = stated m.objective (value_stated (negated m.constant)) ++ all_st
 pub sides-fill : (m : Listing) → flat_map (made_of slots_of side_decl) (sides_in m) ≡ map rhs_slot (names_in (side_values m))
 sides-fill m = filled-names rhs_slot _ ∙ ap (λ sides. map rhs_slot (names_in sides)) (sides-made m)
 
-pub ranges-fill : (m : Listing) → flat_map (made_of slots_of range_decl) (flat_map row_range m.rows) ≡ map range_slot (names_in (all_stated range_stated m.rows))
+pub ranges-fill : (m : Listing)
+    → flat_map (made_of slots_of range_decl) (flat_map row_range m.rows) ≡ map range_slot (names_in (all_stated range_stated m.rows))
 ranges-fill m = filled-names range_slot _ ∙ ap (λ ranges. map range_slot (names_in ranges)) (ranges-made m.rows)
 
 -- the objective is not a row, so no row declares a right-hand side of its name
 objective-new : (m : Listing) → IsSoundListing m → list_any (λ later. same_bytes later m.objective) (names_in (all_stated side_stated m.rows)) ≡ false
-objective-new m h =
-    let absent : at_name m.rows m.objective ≡ None = none_there _ (sym (one_of-names m.objective m.rows) ∙ h.no_row) in
-    any-turned m.objective _ ∙ one_of-names m.objective _
-    ∙ ap is_some (find-stated bytes_cmp side_stated bytes_total tied_names m.objective m.rows h.rows_sorted ∙ ap (then_stated side_stated) absent)
+objective-new m h = let absent : at_name m.rows m.objective ≡ None = none_there _ (sym (one_of-names m.objective m.rows) ∙ h.no_row) in
+    any-turned m.objective _ ∙ one_of-names m.objective _ ∙ ap is_some
+    (find-stated bytes_cmp side_stated bytes_total tied_names m.objective m.rows h.rows_sorted ∙ ap (then_stated side_stated) absent)
 
 pub side_slots-distinct : (m : Listing) → IsSoundListing m → are_distinct same_slot (map rhs_slot (names_in (side_values m))) ≡ true
 side_slots-distinct m h = distinct-map same_bytes rhs_slot (λ a b. refl) (names_in (side_values m)) ∙ by (value_stated (negated m.constant))
@@ -218,8 +220,10 @@ side_slots-distinct m h = distinct-map same_bytes rhs_slot (λ a b. refl) (names
     by None = rows
     by (Some d) = both_so _ _ (so_not _ (objective-new m h)) rows
 
-pub range_slots-distinct : (m : Listing) → IsSoundListing m → are_distinct same_slot (map range_slot (names_in (all_stated range_stated m.rows))) ≡ true
-range_slots-distinct m h = distinct-names range_slot (λ a b. refl) (all_stated range_stated m.rows) (sorted-stated bytes_cmp range_stated m.rows h.rows_sorted)
+pub range_slots-distinct : (m : Listing) → IsSoundListing m
+    → are_distinct same_slot (map range_slot (names_in (all_stated range_stated m.rows))) ≡ true
+range_slots-distinct m h =
+    distinct-names range_slot (λ a b. refl) (all_stated range_stated m.rows) (sorted-stated bytes_cmp range_stated m.rows h.rows_sorted)
 
 -- the slots that the bounds of a column fill
 abbrev slots_at : List ℕ → List PrintedBound → List Slot
@@ -230,10 +234,12 @@ bound_slots column = flat_map (made_of slots_of bound_decl) (bounds_in column)
 
 -- ---- these are the two bounds of the column
 
-each-form : (P : Slot → Type 0) (name : List ℕ) → P (lower_slot name) → P (upper_slot name) → (form : BoundForm) (value : Number) → Each P (flat_map slots_of (decl_at form name value))
+each-form : (P : Slot → Type 0) (name : List ℕ) → P (lower_slot name) → P (upper_slot name) → (form : BoundForm) (value : Number)
+    → Each P (flat_map slots_of (decl_at form name value))
 each-form = grind arith
 
-each-slot : (P : Slot → Type 0) (name : List ℕ) → P (lower_slot name) → P (upper_slot name) → (line_text : List PrintedBound) → Each P (slots_at name line_text)
+each-slot : (P : Slot → Type 0) (name : List ℕ) → P (lower_slot name) → P (upper_slot name) → (line_text : List PrintedBound)
+    → Each P (slots_at name line_text)
 each-slot P name l u [] = tt
 each-slot P name l u (bound ∷ line_text) = grind (arith, to_bound, each-form, each-slot P name l u line_text)
 
@@ -268,8 +274,7 @@ bounds-apart (column ∷ columns) h = (
 
 -- The bounds that are declared of different columns fill different slots.
 pub bounds-distinct : (columns : List (List ℕ × Column)) → AreOther columns → are_distinct same_slot (flat_map bound_slots columns) ≡ true
-bounds-distinct columns other =
-    distinct-flat_map same_slot bound_slots columns
+bounds-distinct columns other = distinct-flat_map same_slot bound_slots columns
     (Each-all _ (λ column. sides-once column.0 column.1.kind column.1.lower column.1.upper) columns) (bounds-apart columns other)
 
 -- ---- sections, each of a higher rank than those before it
@@ -289,10 +294,8 @@ Sections n (section ∷ sections) = Section n section × Sections (suc n) sectio
 
 none-above : (low n : ℕ) → low < n → (sections : List (List Slot)) → Sections n sections → NoneOf low (joined sections)
 none-above low n below [] h = tt
-none-above low n below (section ∷ sections) h =
-    Each-append _ section _
-    (Each-weaker (λ slot. rank slot ≡ n) (λ slot. rank slot ≡ low → ⊥) (λ slot is other. omega (arith, is, other, below)) section h.0.rank)
-    (none-above low _ (omega (arith, below)) sections h.1)
+none-above low n below (section ∷ sections) h = Each-append _ section _ (Each-weaker (λ slot. rank slot ≡ n) (λ slot. rank slot ≡ low → ⊥)
+    (λ slot is other. omega (arith, is, other, below)) section h.0.rank) (none-above low _ (omega (arith, below)) sections h.1)
 
 joined-once : (n : ℕ) (sections : List (List Slot)) → Sections n sections → are_distinct same_slot (joined sections) ≡ true
 joined-once n [] h = refl
@@ -315,30 +318,27 @@ abbrev IsFound : Listing → List ℕ × Column → Type 0
 IsFound m column = at_name m.columns column.0 ≡ Some column.1
 
 -- a name has one column, of one type
-kinds_differ : (m : Listing) (x y : List ℕ × Column) → IsFound m x → is_plain_column x ≡ true → IsFound m y → is_integer_column y ≡ true → same_bytes y.0 x.0 ≡ false
+kinds_differ : (m : Listing) (x y : List ℕ × Column) → IsFound m x → is_plain_column x ≡ true → IsFound m y → is_integer_column y ≡ true
+    → same_bytes y.0 x.0 ≡ false
 kinds_differ = search (rules, same_name, not_so)
 
-parts-differ : (m : Listing) → IsSoundListing m → Each (λ x. Each (λ y. same_bytes y.0 x.0 ≡ false) (filter is_integer_column m.columns)) (filter is_plain_column m.columns)
-parts-differ m h =
-    let own = own-found m.columns h.columns_sorted in
-    Each-filter _ is_plain_column m.columns
-    (Each-weaker _ _
-    (λ x found plain.
-    Each-filter _ is_integer_column m.columns
-    (Each-weaker _ _
-    (λ y there integer. kinds_differ m x y found plain there integer) m.columns own)) m.columns own)
+parts-differ : (m : Listing) → IsSoundListing m
+    → Each (λ x. Each (λ y. same_bytes y.0 x.0 ≡ false) (filter is_integer_column m.columns)) (filter is_plain_column m.columns)
+parts-differ m h = let own = own-found m.columns h.columns_sorted in
+    Each-filter _ is_plain_column m.columns (Each-weaker _ _ (λ x found plain. Each-filter _ is_integer_column m.columns
+    (Each-weaker _ _ (λ y there integer. kinds_differ m x y found plain there integer) m.columns own)) m.columns own)
 
 listed-other : (m : Listing) → IsSoundListing m → AreOther (listed_columns m)
 listed-other = grind (arith, other-append, sorted-other, sorted-kept, parts-differ)
 
-cells-fill : (m : Listing) (marked : Bool) → ((cell : Cell) → made_of slots_of (cell_decl marked) cell ≡ cell_slot cell) → (columns : List (List ℕ × Column))
+cells-fill : (m : Listing) (marked : Bool) → ((cell : Cell) → made_of slots_of (cell_decl marked) cell ≡ cell_slot cell)
+    → (columns : List (List ℕ × Column))
     → flat_map (made_of slots_of (cell_decl marked)) (cells_of (map (group_in m) columns)) ≡ flat_map (column_slots m) columns
 cells-fill = grind (arith, flat-same, made_of, cell_decl, cell_slot, cells_of, group_in, cells-made)
 
-columns-fill : (m : Listing)
-    → flat_map (made_of slots_of (cell_decl false)) (cells_of (map (group_in m) (filter is_plain_column m.columns)))
-    ++ flat_map (made_of slots_of (cell_decl true)) (cells_of (map (group_in m) (filter is_integer_column m.columns)))
-    ≡ flat_map (column_slots m) (listed_columns m)
+columns-fill : (m : Listing) → flat_map (made_of slots_of (cell_decl false))
+    (cells_of (map (group_in m) (filter is_plain_column m.columns))) ++ flat_map (made_of slots_of (cell_decl true))
+    (cells_of (map (group_in m) (filter is_integer_column m.columns))) ≡ flat_map (column_slots m) (listed_columns m)
 columns-fill = grind (arith, cells-fill, flat_map-append, column_slots)
 
 column-rank : (m : Listing) (column : List ℕ × Column) → AllOf 2 (column_slots m column)
@@ -347,7 +347,8 @@ column-rank = grind (arith, Each-flat_map, Each-all)
 columns-section : (m : Listing) → IsSoundListing m → Section 2 (flat_map (column_slots m) (listed_columns m))
 columns-section m h = record {
   once = coefficients-distinct m h (listed_columns m) (listed-other m h);
-  rank = Each-flat_map (λ slot. rank slot ≡ 2) (column_slots m) (listed_columns m) (Each-all (λ column. AllOf 2 (column_slots m column)) (column-rank m) (listed_columns m));
+  rank = Each-flat_map (λ slot. rank slot ≡ 2) (column_slots m) (listed_columns m)
+      (Each-all (λ column. AllOf 2 (column_slots m column)) (column-rank m) (listed_columns m));
 }
 
 -- ---- BOUNDS
@@ -365,23 +366,20 @@ bounds-fill columns = flat_map-flat_map _ bounds_in columns
 -- ---- all sections
 
 abbrev sections : Listing → List (List Slot)
-sections m =
-    sense_slots m.sense ∷ row_slots m ∷ flat_map (column_slots m) (listed_columns m) ∷ map rhs_slot (names_in (side_values m))
+sections m = sense_slots m.sense ∷ row_slots m ∷ flat_map (column_slots m) (listed_columns m) ∷ map rhs_slot (names_in (side_values m))
     ∷ map range_slot (names_in (all_stated range_stated m.rows)) ∷ flat_map bound_slots m.columns ∷ []
 
 sections-once : (m : Listing) → IsSoundListing m → Sections 0 (sections m)
-sections-once m h =
-    let rows : Section 1 (row_slots m) = record { once = row_slots-distinct m h; rank = (refl, all-named 1 row_slot (λ _. refl) (m.objective ∷ names_in m.rows)) } in
+sections-once m h = let rows : Section 1 (row_slots m) = record { once = row_slots-distinct m h; rank = (refl, all-named 1 row_slot (λ _. refl) (m.objective ∷ names_in m.rows)) } in
     let side_names = names_in (side_values m) in
     let sides : Section 3 (map rhs_slot side_names) = record { once = side_slots-distinct m h; rank = all-named 3 rhs_slot (λ _. refl) side_names } in
-    let range_names = names_in (all_stated range_stated m.rows) in
-    let ranges : Section 4 (map range_slot range_names) = record { once = range_slots-distinct m h; rank = all-named 4 range_slot (λ _. refl) range_names } in
+    let range_names = names_in (all_stated range_stated m.rows) in let ranges : Section 4
+    (map range_slot range_names) = record { once = range_slots-distinct m h; rank = all-named 4 range_slot (λ _. refl) range_names } in
     (sense-section m.sense, (rows, (columns-section m h, (sides, (ranges, (bounds-section m h, tt))))))
 
 sections-fill : (m : Listing) → flat_map slots_of (listed_decl m) ≡ joined (sections m)
-sections-fill m =
-    whole-parts slots_of (whole_of m)
-    ∙ (λ i. sense_slots m.sense ++ ((slots_of (declare_objective m.objective) ++ rows-fill m.rows i) ++ (columns-fill m i ++ (sides-fill m i ++ (ranges-fill m i ++ last_fill i)))))
+sections-fill m = whole-parts slots_of (whole_of m) ∙ (λ i. sense_slots m.sense ++ ((slots_of (declare_objective m.objective)
+    ++ rows-fill m.rows i) ++ (columns-fill m i ++ (sides-fill m i ++ (ranges-fill m i ++ last_fill i)))))
   where
     last_fill : flat_map (made_of slots_of bound_decl) (flat_map bounds_in m.columns) ≡ flat_map bound_slots m.columns ++ []
     last_fill = bounds-fill m.columns ∙ sym (append-nil (flat_map bound_slots m.columns))

@@ -1,25 +1,266 @@
--- The draft of the canonical declarations of a well-formed model means the model.
+-- The canonical declarations of a well-formed listing are consistent, and mean its model.
 use Rattle.mpslp_canonical_mps.proofs.Prelude
-use Prelude.{arith, ◌≡◌, refl, sym, ap, ◌∙◌, List, [], ◌∷◌, ◌++◌, ℕ, Bool, true, false, not, map, Option, Some, None, is_some, unwrap_or}
-use Prelude.{◌&&◌, list_all, eq_by_cmp, Number, IsDecimal, is_infinite_size, zero_number, negated, have_same_value, zero-is, same_decimal}
-use Prelude.{LinearModel, Row, Column, is_sound_row, is_sound_column, IsSound, Listing, listing_of, plain_limits, has_infinite_rhs}
-use Prelude.{equal_from, bytes_cmp, is_bounded_decimal, is_lower_side, is_upper_side, are_sides, Sense, Minimize, Maximize, Limit, MinusInf}
-use Prelude.{Finite, PlusInf, Free, so_not, Each, Each-weaker, Each-both, Each-map, Each-all, list_all-from_Each, RowDefinition, by_type}
-use Prelude.{Declaration, declare_sense, declare_objective, declare_row, declare_rhs, declare_range, declare_column, declare_coefficient}
-use Prelude.{declare_lower, declare_upper, declare_marked, declare_semi, Declarations, Draft, empty_draft, with_declarations, at_name}
-use Prelude.{has_name, column_of, constant_of, rhs_or_zero, row_limits, row_entry, row_passes, DraftMeans, row_back, side-stated}
-use Prelude.{column_back, bytes_total, tied_names, model-back, columns-back, no-negative_upper, binary-within, Stays, stays-all, rules}
-use Prelude.{first_there, then_stated, stated, own-found, row_sides, row_distance, column_sides, column_suited, bounded_so, lower_of}
-use Prelude.{upper_of, printed_type, printed_rhs, printed_range}
-use Rattle.mpslp_canonical_mps.proofs.{CoefficientMap.{coefficients-kept}, ColumnsWalk.{Cell}}
-use Rattle.mpslp_canonical_mps.proofs.DraftMaps.{IsSoundListing, drafted, rows-drafted, right_side-at, range-at, lower-at, upper-at}
-use Rattle.mpslp_canonical_mps.proofs.DraftMaps.{columns-drafted, marked-at, integers-drafted, binaries-drafted, semis-at, sound-listing}
-use Rattle.mpslp_canonical_mps.proofs.{EarlyWalk.{sense_decl}, GoodWhole.{objective-no-row}, ListedContents.{whole_of}}
-use Rattle.mpslp_canonical_mps.proofs.ListedParts.{form_stated, value_stated, side_stated, range_stated, column_lower, column_upper}
-use Rattle.mpslp_canonical_mps.proofs.{ListedParts.{each-whole}, PrintableLemmas.{side-decimal, negated-decimal}}
-use Rattle.mpslp_canonical_mps.proofs.RowsWalk.{BoundForm, fixed, free, no_lower, no_upper, semi_upper, decl_at}
-use Rattle.mpslp_canonical_mps.proofs.WholeWalk.{Whole, whole_decl}
-use Rattle.mpslp_canonical_mps.proofs.RowsWalk as forms
+use Prelude.{arith, ◌≡◌, refl, ap, ◌∙◌, List, [], ◌∷◌, ℕ, Bool, true, false, not, cond, map, Option, Some, None, is_some, filter}
+use Prelude.{filter_map, flat_map, cons_option, option_map, first_so, second_so, find, is_sorted, Number, IsDecimal, number-text}
+use Prelude.{same_bytes, marker, bytes_cmp, is_nonempty, Sense, Minimize, Maximize, Each, Each-weaker, Each-map, Each-flat_map, Each-filter}
+use Prelude.{Each-all, Column, CoefficientKey, key_cmp, is_sound_row, is_sound_column, has_integer_kind, Listing, puts, Declaration}
+use Prelude.{declare_objective, Draft, empty_draft, with_declaration, with_declarations, at_name, has_name, flat_map-flat_map, column_part}
+use Prelude.{columns-all, same_key, bytes_total, key_total, tied_names, then_stated, find-kept, found-each, sorted-kept, kept-all}
+use Prelude.{own-found, at-mapped, named, row_named, column_named, no_marker, later_differ, cell_at, printed_coefficients}
+use Prelude.{is_integer_column, is_plain_column, sym, ◌++◌, option_map_or, is_zero, zero_number, negated, is_bounded_decimal, is_lower_side}
+use Prelude.{is_upper_side, Kind, Limit, back, Each-append, Row, by_type, is_free_definition, is_free_row, row_part, rows-all, puts-own}
+use Prelude.{one_of-names, names_sorted, row_sides, row_distance, column_sides, bounded_so, bounded_finite, lower_of, upper_of, none_there}
+use Prelude.{printed_type, printed_rhs, printed_range, PrintedBound, printed_bounds, unwrap_or, ◌&&◌, list_all, eq_by_cmp, is_infinite_size}
+use Prelude.{have_same_value, zero-is, same_decimal, LinearModel, IsSound, listing_of, plain_limits, has_infinite_rhs, equal_from}
+use Prelude.{are_sides, MinusInf, Finite, PlusInf, Free, so_not, Each-both, list_all-from_Each, RowDefinition, declare_sense, declare_row}
+use Prelude.{declare_rhs, declare_range, declare_column, declare_coefficient, declare_lower, declare_upper, declare_marked, declare_semi}
+use Prelude.{Declarations, column_of, constant_of, rhs_or_zero, row_limits, row_entry, row_passes, DraftMeans, row_back, side-stated}
+use Prelude.{column_back, model-back, columns-back, no-negative_upper, binary-within, Stays, stays-all, rules, first_there, stated}
+use Prelude.{column_suited, ◌||◌, list_any, texts_ties, has_bounded_distance, are_distinct, Integer, both_so, or_left, or_right, has_row}
+use Prelude.{has_column, is_integer, is_semi, is_objective, is_known, is_allowed, declares_objective, same_slot, all_slots, AreConsistent}
+use Prelude.{is_semi_kind, itself_named}
+use Rattle.mpslp_canonical_mps.proofs.WholeWalk.{to_row, to_cell, cells_in, group_in, to_side, side_unless_zero, row_side, sides_in}
+use Rattle.mpslp_canonical_mps.proofs.WholeWalk.{row_range, to_bound, bounds_in, sense_decl, AreColumns, whole_of, draft_at_columns}
+use Rattle.mpslp_canonical_mps.proofs.WholeWalk.{IsGoodWhole, draft_at_sides, Whole, whole_decl, form_of}
+use Rattle.mpslp_canonical_mps.proofs.DraftMaps.{place_at, IsSoundListing, plain-only, own_column, from_cells, cells-made, form_stated}
+use Rattle.mpslp_canonical_mps.proofs.DraftMaps.{row_forms, rows-made, coefficients-kept, drafted, rows-drafted, right_side-at, range-at}
+use Rattle.mpslp_canonical_mps.proofs.DraftMaps.{lower-at, upper-at, columns-drafted, marked-at, integers-drafted, binaries-drafted}
+use Rattle.mpslp_canonical_mps.proofs.DraftMaps.{semis-at, sound-listing, value_stated, side_stated, range_stated, column_lower}
+use Rattle.mpslp_canonical_mps.proofs.DraftMaps.{column_upper, each-whole, row-at, listed_decl}
+use Rattle.mpslp_canonical_mps.proofs.SectionWalks.{cell_decl, GoodCell, AreOf, cells_of, IsGroup, AreApart, AreAbsent, Cell, row_decl}
+use Rattle.mpslp_canonical_mps.proofs.SectionWalks.{GoodBound, Side, ReadsAs, BoundForm, fixed, free, no_lower, no_upper, semi_upper}
+use Rattle.mpslp_canonical_mps.proofs.SectionWalks.{decl_at, Bound, bound_decl, RowItem, side_decl, range_decl}
+use Rattle.mpslp_canonical_mps.proofs.PrintableLemmas.{Holds, side-decimal, range-decimal, negated-decimal}
+use Rattle.mpslp_canonical_mps.proofs.SectionWalks as forms
+
+-- ---- COLUMNS of a well-formed listing: the columns are separate, and each has good lines. The sections of the
+-- canonical text of a well-formed listing meet the conditions for following them
+
+-- ---- columns
+
+group-own : (name : List ℕ) (cells : List (List ℕ × Number)) → AreOf name (map (to_cell name) cells)
+group-own name [] = tt
+group-own name (cell ∷ cells) = (refl, group-own name cells)
+
+group-some : (name objective : List ℕ) (cells : List (List ℕ × Number))
+    → is_nonempty (map (to_cell name) (printed_coefficients objective cells)) ≡ true
+group-some = grind arith
+
+pub groups-good : (m : Listing) (columns : List (List ℕ × Column)) → Each IsGroup (map (group_in m) columns)
+groups-good m columns = Each-map IsGroup _ columns
+    (Each-all _ (λ column. record { some = group-some column.0 m.objective _; own = group-own column.0 _ }) columns)
+
+pub groups-apart : (m : Listing) (columns : List (List ℕ × Column)) → is_sorted bytes_cmp columns ≡ true → AreApart (map (group_in m) columns)
+groups-apart m [] h = tt
+groups-apart m (column ∷ columns) h = (
+  Each-map _ _ columns (later_differ column.0 columns (first_so _ _ h)),
+  groups-apart m columns (second_so _ _ h),
+)
+
+-- a row that may be printed, and a decimal
+abbrev IsGoodPair : List ℕ × Number → Type 0
+IsGoodPair cell = (same_bytes cell.0 marker ≡ false) × IsDecimal cell.1
+
+pairs-good : (coefficients : List (CoefficientKey × Number)) (column : List ℕ) → Each (λ e. IsDecimal e.1) coefficients → (rows : List
+    (List ℕ)) → Each (λ row. same_bytes row marker ≡ false) rows → Each IsGoodPair (filter_map (cell_at coefficients column) rows)
+pairs-good coefficients column h [] names = tt
+pairs-good coefficients column h (row ∷ rows) names =
+    by (find key_cmp (place_at row column) coefficients) refl (pairs-good coefficients column h rows names.1)
+  where
+    by : (o : Option Number) → find key_cmp (place_at row column) coefficients ≡ o → Each IsGoodPair (filter_map (cell_at coefficients column) rows)
+        → Each IsGoodPair (cons_option (option_map (λ (value : Number). (row, value)) o) (filter_map (cell_at coefficients column) rows))
+    by None is more = more
+    by (Some d) is more = ((names.0, found-each key_cmp key_total same_key _ coefficients h (place_at row column) d is), more)
+
+line_text-good : (objective : List ℕ) (cells : List (List ℕ × Number)) → same_bytes objective marker ≡ false → Each IsGoodPair cells
+    → Each IsGoodPair (printed_coefficients objective cells)
+line_text-good = grind arith
+
+cells-good : (m : Listing) → IsSoundListing m → (column : List ℕ × Column) → is_sound_column column ≡ true → Each GoodCell (cells_in m column)
+cells-good m h column sound =
+    let names : Each (λ row. same_bytes row marker ≡ false) (m.objective ∷ map (λ row. row.0) m.rows) = (
+      no_marker m.objective h.objective,
+      Each-map _ _ m.rows (Each-weaker _ _ (λ row k. no_marker row.0 (row_named row k)) m.rows h.rows),
+    ) in
+    let values = Each-weaker _ _ (λ entry k. first_so _ _ k) m.coefficients h.coefficients in
+    let pairs = line_text-good m.objective _ (no_marker m.objective h.objective)
+    (pairs-good m.coefficients column.0 values (m.objective ∷ map (λ row. row.0) m.rows) names) in
+    Each-map GoodCell _ _
+    (Each-weaker IsGoodPair _ (λ cell k. record { name = column_named column sound; row = k.0; text = number-text cell.1 k.1 }) _ pairs)
+
+pub kept_sound : (p : List ℕ × Column → Bool) (columns : List (List ℕ × Column)) → Each (λ column. is_sound_column column ≡ true) columns
+    → Each (λ column. is_sound_column column ≡ true) (filter p columns)
+kept_sound p columns h = Each-filter _ p columns (Each-weaker _ _ (λ column k _. k) columns h)
+
+pub groups-cells : (m : Listing) → IsSoundListing m → (columns : List (List ℕ × Column))
+    → Each (λ column. is_sound_column column ≡ true) columns → Each GoodCell (cells_of (map (group_in m) columns))
+groups-cells m h columns sound = Each-flat_map GoodCell _ _ (Each-map _ _ columns (Each-weaker _ _ (cells-good m h) columns sound))
+
+-- no column is declared before COLUMNS
+abbrev KeepsColumns : Declaration → Type 0
+KeepsColumns d = (all : Draft) → (with_declaration all d).columns ≡ all.columns
+
+no-columns : (m : Listing) → (draft_at_columns (whole_of m)).columns ≡ []
+no-columns m = kept-all (λ all. all.columns) _ (Each-flat_map KeepsColumns row_decl (map to_row m.rows)
+    (Each-all (λ row. Each KeepsColumns (row_decl row)) (λ row. (λ all. refl, tt)) (map to_row m.rows)))
+    (with_declaration (with_declarations empty_draft (sense_decl m.sense)) (declare_objective m.objective)) ∙ at_start m.sense
+  where
+    at_start : (sense : Sense) → (with_declarations empty_draft (sense_decl sense)).columns ≡ []
+    at_start Minimize = refl
+    at_start Maximize = refl
+
+-- the lines of columns declare these columns
+after-columns : (m : Listing) (columns : List (List ℕ × Column)) (all : Draft) → all.columns ≡ [] → is_sorted bytes_cmp columns ≡ true
+    → (with_declarations all (flat_map (cell_decl false) (cells_of (map (group_in m) columns)))).columns ≡ map named columns
+after-columns m columns all none h = let cells = cells_of (map (group_in m) columns) in
+    let made : flat_map column_part (flat_map (cell_decl false) cells) ≡ from_cells own_column m columns = flat_map-flat_map column_part
+    (cell_decl false) cells ∙ cells-made own_column m columns in columns-all (flat_map (cell_decl false) cells) all ∙ ap (λ es. puts
+    bytes_cmp es all.columns) made ∙ ap (λ base. puts bytes_cmp (from_cells own_column m columns) base) none ∙ plain-only m columns h
+
+integer-absent : (m : Listing) → IsSoundListing m → (column : List ℕ × Column) → at_name m.columns column.0 ≡ Some column.1
+    → is_integer_column column ≡ true → has_name (map named (filter is_plain_column m.columns)) column.0 ≡ false
+integer-absent m h column is integer = ap is_some (at-mapped _ column.0 _) ∙ ap (λ o. is_some (then_stated {V = Unit {0}} (λ _. Some tt) o))
+    (find-kept bytes_cmp bytes_total tied_names (λ c. not (has_integer_kind c)) column.0 m.columns h.columns_sorted
+    ∙ ap (then_stated (λ c. cond (not (has_integer_kind c)) (Some c) None)) is ∙ ap (λ b. cond (not b) (Some column.1) None) integer)
+
+integers-absent : (m : Listing) → IsSoundListing m → (all : Draft) → all.columns ≡ map named (filter is_plain_column m.columns)
+    → AreAbsent all (map (group_in m) (filter is_integer_column m.columns))
+integers-absent m h all are = Each-map _ _ _ (Each-filter _ is_integer_column m.columns (Each-weaker _ _ (λ column is integer. ap
+    (λ es. has_name es column.0) are ∙ integer-absent m h column is integer) m.columns (own-found m.columns h.columns_sorted)))
+
+none-there : (m : Listing) (all : Draft) → all.columns ≡ [] → (columns : List (List ℕ × Column)) → AreAbsent all (map (group_in m) columns)
+none-there m all none columns = Each-map _ _ columns (Each-all _ (λ column. ap (λ es. has_name es column.0) none) columns)
+
+pub are-columns : (m : Listing) → IsSoundListing m → AreColumns (whole_of m).plain (whole_of m).integers (draft_at_columns (whole_of m))
+are-columns m h =
+    let plain = filter is_plain_column m.columns in
+    let integers = filter is_integer_column m.columns in
+    let sorted_plain = sorted-kept bytes_cmp is_plain_column m.columns h.columns_sorted in
+    let before = draft_at_columns (whole_of m) in
+    let between = with_declarations before (flat_map (cell_decl false) (cells_of (map (group_in m) plain))) in
+    record {
+      plain_groups = groups-good m plain;
+      integer_groups = groups-good m integers;
+      plain_apart = groups-apart m plain sorted_plain;
+      integers_apart = groups-apart m integers (sorted-kept bytes_cmp is_integer_column m.columns h.columns_sorted);
+      plain_absent = none-there m before (no-columns m) plain;
+      integers_absent = integers-absent m h between (after-columns m plain before (no-columns m) sorted_plain);
+      plain_cells = groups-cells m h plain (kept_sound is_plain_column m.columns h.columns);
+      integer_cells = groups-cells m h integers (kept_sound is_integer_column m.columns h.columns);
+    }
+
+-- ---- right-hand sides and ranges are read as the numbers from which they were printed
+
+reads-side : (row : List ℕ) (value : Number) → IsDecimal value → Each ReadsAs (side_unless_zero row value)
+reads-side row value d =
+    elim (is_zero value) as (λ b. Each ReadsAs (cond b [] (to_side row value ∷ []))) [ true ↦ tt | false ↦ (number-text value d, tt) ]
+
+reads-sides : (m : Listing) → IsSoundListing m → Each ReadsAs (sides_in m)
+reads-sides m h = Each-append ReadsAs (side_unless_zero m.objective (negated m.constant)) (flat_map row_side m.rows)
+    (reads-side m.objective (negated m.constant) (negated-decimal m.constant h.constant))
+    (Each-flat_map ReadsAs row_side m.rows (Each-weaker (λ row. is_sound_row row ≡ true) (λ row. Each ReadsAs (row_side row)) (λ row k.
+    reads-side row.0 (printed_rhs row.1.lower row.1.upper) (side-decimal row.1.lower row.1.upper (row_sides row k))) m.rows h.rows))
+
+reads-ranges : (m : Listing) → IsSoundListing m → Each ReadsAs (flat_map row_range m.rows)
+reads-ranges m h = Each-flat_map ReadsAs row_range m.rows (Each-weaker _ _ one m.rows h.rows)
+  where
+    one : (row : List ℕ × Row) → is_sound_row row ≡ true → Each ReadsAs (row_range row)
+    one row k = by (printed_range row.1.lower row.1.upper) (range-decimal row.1.lower row.1.upper (row_distance row k))
+      where
+        by : (o : Option Number) → Holds IsDecimal o → Each ReadsAs (option_map_or (λ value. to_side row.0 value ∷ []) o [])
+        by None d = tt
+        by (Some value) d = (number-text value d, tt)
+
+-- ---- no right-hand side is that of an N row
+
+abbrev KeepsRows : Declaration → Type 0
+KeepsRows d = (all : Draft) → (with_declaration all d).rows ≡ all.rows
+
+rows-made-of : (m : Listing) → (draft_at_columns (whole_of m)).rows ≡ puts bytes_cmp (row_forms m.rows) []
+rows-made-of = grind (arith, sense_decl, row_decl, to_row, rows-all, puts, flat_map-flat_map, row_part, rows-made, row_forms)
+
+columns-keep : (plain integers : List Cell) (all : Draft)
+    → (with_declarations all (flat_map (cell_decl false) plain ++ flat_map (cell_decl true) integers)).rows ≡ all.rows
+columns-keep plain integers all = kept-all (λ d. d.rows) _ (Each-append KeepsRows _ _ (Each-flat_map KeepsRows (cell_decl false) plain
+    (Each-all (λ cell. Each KeepsRows (cell_decl false cell)) (λ cell. (λ _. refl, (λ _. refl, tt))) plain)) (Each-flat_map KeepsRows (cell_decl true)
+    integers (Each-all (λ cell. Each KeepsRows (cell_decl true cell)) (λ cell. (λ _. refl, (λ _. refl, (λ _. refl, tt)))) integers))) all
+
+rows-at-sides : (m : Listing) → IsSoundListing m → (draft_at_sides (whole_of m)).rows ≡ row_forms m.rows
+rows-at-sides m h = columns-keep (cells_of (whole_of m).plain) (cells_of (whole_of m).integers) (draft_at_columns (whole_of m))
+    ∙ rows-made-of m ∙ puts-own bytes_cmp bytes_total tied_names (row_forms m.rows) (names_sorted form_stated m.rows h.rows_sorted)
+
+abbrev is_free_in : Option Row → Bool
+is_free_in o = option_map_or is_free_definition (then_stated (λ row. Some (form_stated row)) o) false
+
+free-at : (m : Listing) → IsSoundListing m → (q : List ℕ) → is_free_row (draft_at_sides (whole_of m)) q ≡ is_free_in (at_name m.rows q)
+free-at m h q = ap (λ es. option_map_or is_free_definition (at_name es q) false) (rows-at-sides m h)
+    ∙ ap (λ o. option_map_or is_free_definition o false) (at-mapped form_stated q m.rows)
+
+-- an N row has no right-hand side
+free-side : (l u : Limit) → is_free_definition (by_type (printed_type l u)) ≡ true → is_zero (printed_rhs l u) ≡ true
+free-side = grind arith
+
+pub objective-no-row : (m : Listing) → IsSoundListing m → at_name m.rows m.objective ≡ None
+objective-no-row m h = none_there _ (sym (one_of-names m.objective m.rows) ∙ h.no_row)
+
+abbrev IsBoundIn : Listing → Side → Type 0
+IsBoundIn m side = is_free_row (draft_at_sides (whole_of m)) side.row ≡ false
+
+sides-bound : (m : Listing) → IsSoundListing m → Each (λ (side : Side). is_free_row (draft_at_sides (whole_of m)) side.row ≡ false) (sides_in m)
+sides-bound m h = Each-append _ _ _ mine (Each-flat_map _ row_side m.rows (Each-weaker _ _ one m.rows (own-found m.rows h.rows_sorted)))
+  where
+    mine : Each (IsBoundIn m) (side_unless_zero m.objective (negated m.constant))
+    mine = elim (is_zero (negated m.constant)) as (λ b. Each (IsBoundIn m) (cond b [] (to_side m.objective (negated m.constant) ∷ []))) [
+      | true ↦ tt
+      | false ↦ (free-at m h m.objective ∙ ap is_free_in (objective-no-row m h), tt)
+    ]
+
+    one : (row : List ℕ × Row) → at_name m.rows row.0 ≡ Some row.1 → Each (IsBoundIn m) (row_side row)
+    one row is = by (is_zero (printed_rhs row.1.lower row.1.upper)) refl
+      where
+        by : (b : Bool) → is_zero (printed_rhs row.1.lower row.1.upper) ≡ b
+            → Each (IsBoundIn m) (cond b [] (to_side row.0 (printed_rhs row.1.lower row.1.upper) ∷ []))
+        by true e = tt
+        by false e = (
+          free-at m h row.0 ∙ ap is_free_in is ∙ back (is_free_definition (form_stated row.1))
+              (is_zero (printed_rhs row.1.lower row.1.upper)) (free-side row.1.lower row.1.upper) e,
+          tt,
+        )
+
+-- ---- bounds
+
+abbrev IsBounded : PrintedBound → Type 0
+IsBounded bound = Holds (λ d. is_bounded_decimal d ≡ true) bound.value
+
+all-bounded : (kind : Kind) (l u : Limit) → is_lower_side l ≡ true → is_upper_side u ≡ true → Each IsBounded (printed_bounds kind l u)
+all-bounded = grind arith
+
+good-bound : (name : List ℕ) (bound : PrintedBound) → IsBounded bound → GoodBound (to_bound name bound)
+good-bound name bound h = by bound.value h
+  where
+    by : (o : Option Number) → Holds (λ d. is_bounded_decimal d ≡ true) o → GoodBound (to_bound name (record { type = bound.type; value = o }))
+    by None k = record { text = number-text zero_number refl; finite = refl }
+    by (Some d) k = record { text = number-text d (bounded_so d k); finite = bounded_finite d k }
+
+bounds-good : (m : Listing) → IsSoundListing m → Each GoodBound (flat_map bounds_in m.columns)
+bounds-good m h = Each-flat_map GoodBound bounds_in m.columns (Each-weaker _ _ one m.columns h.columns)
+  where
+    one : (column : List ℕ × Column) → is_sound_column column ≡ true → Each GoodBound (bounds_in column)
+    one column k = let sides = column_sides column k in let line_text = printed_bounds column.1.kind column.1.lower column.1.upper in
+        Each-map GoodBound _ line_text (Each-weaker IsBounded _ (good-bound column.0) line_text (all-bounded column.1.kind column.1.lower
+        column.1.upper (lower_of column.1.lower column.1.upper sides) (upper_of column.1.lower column.1.upper sides)))
+
+-- ---- all sections
+
+pub good-whole : (m : Listing) → IsSoundListing m → IsGoodWhole (whole_of m)
+good-whole m h = record {
+  objective = h.objective;
+  rows = Each-map _ to_row m.rows (Each-weaker _ _ row_named m.rows h.rows);
+  columns = are-columns m h;
+  late = record { sides = reads-sides m h; bound = sides-bound m h; ranges = reads-ranges m h; bounds = bounds-good m h };
+}
+
+-- ---- the draft of the canonical declarations of a well-formed model means the model
 
 -- ---- what is declared once, or not at all
 
@@ -57,29 +298,30 @@ each-kind P w sense h = each-whole P w (record {
     of_form no_upper x v = (h.of_upper x PlusInf, tt)
     of_form semi_upper x v = (h.of_semi x, (h.of_upper x (Finite v), tt))
 
-sense-keeps : {X : Type 0} (part : Draft → X) (value : X) (s : Sense) → ((t : Sense) → Stays part value (declare_sense t)) → Each (Stays part value) (sense_decl s)
+sense-keeps : {X : Type 0} (part : Draft → X) (value : X) (s : Sense) → ((t : Sense) → Stays part value (declare_sense t))
+    → Each (Stays part value) (sense_decl s)
 sense-keeps = grind arith
 
 pub constant-drafted : (m : Listing) → (drafted m).constant ≡ None
-constant-drafted m =
-    stays-all _ None _
-    (each-kind (Stays (λ d. d.constant) None) (whole_of m) (sense-keeps (λ d. d.constant) None m.sense (λ _ all is. is)) (search rules)) empty_draft refl
+constant-drafted m = stays-all _ None _ (each-kind (Stays (λ d. d.constant) None) (whole_of m)
+    (sense-keeps (λ d. d.constant) None m.sense (λ _ all is. is)) (search rules)) empty_draft refl
 
 -- from the objective on
-first-named : (name : List ℕ) (s : Sense) (more : Declarations) → Each (Stays (λ d. d.objective) (Some name)) (sense_decl s ++ (declare_objective name ∷ more))
+first-named : (name : List ℕ) (s : Sense) (more : Declarations)
+    → Each (Stays (λ d. d.objective) (Some name)) (sense_decl s ++ (declare_objective name ∷ more))
     → (with_declarations empty_draft (sense_decl s ++ (declare_objective name ∷ more))).objective ≡ Some name
 first-named = grind (arith, stays-all)
 
 pub objective-drafted : (m : Listing) → (drafted m).objective ≡ Some m.objective
-objective-drafted m =
-    first-named m.objective m.sense _
-    (each-kind (Stays (λ d. d.objective) (Some m.objective)) (whole_of m) (sense-keeps (λ d. d.objective) (Some m.objective) m.sense (λ _ all is. is)) (search rules))
+objective-drafted m = first-named m.objective m.sense _ (each-kind (Stays (λ d. d.objective) (Some m.objective)) (whole_of m)
+    (sense-keeps (λ d. d.objective) (Some m.objective) m.sense (λ _ all is. is)) (search rules))
 
 abbrev stated_sense : Sense → Option Sense
 stated_sense Minimize = None
 stated_sense Maximize = Some Maximize
 
-first-sense : (s : Sense) (more : Declarations) → Each (Stays (λ d. d.sense) (stated_sense s)) (sense_decl s ++ more) → (with_declarations empty_draft (sense_decl s ++ more)).sense ≡ stated_sense s
+first-sense : (s : Sense) (more : Declarations) → Each (Stays (λ d. d.sense) (stated_sense s)) (sense_decl s ++ more)
+    → (with_declarations empty_draft (sense_decl s ++ more)).sense ≡ stated_sense s
 first-sense = grind (arith, stays-all)
 
 own_sense : (s : Sense) → Each (Stays (λ d. d.sense) (stated_sense s)) (sense_decl s)
@@ -89,9 +331,8 @@ sense-back : (s : Sense) → unwrap_or (stated_sense s) Minimize ≡ s
 sense-back = grind arith
 
 pub sense-drafted : (m : Listing) → unwrap_or (drafted m).sense Minimize ≡ m.sense
-sense-drafted m =
-    ap (λ (o : Option Sense). unwrap_or o Minimize) (first-sense m.sense _
-    (each-kind (Stays (λ d. d.sense) (stated_sense m.sense)) (whole_of m) (own_sense m.sense) (search rules))) ∙ sense-back m.sense
+sense-drafted m = ap (λ (o : Option Sense). unwrap_or o Minimize) (first-sense m.sense
+    _ (each-kind (Stays (λ d. d.sense) (stated_sense m.sense)) (whole_of m) (own_sense m.sense) (search rules))) ∙ sense-back m.sense
 
 -- ---- the constant
 
@@ -118,7 +359,8 @@ first_none = grind arith
 no_some : {X : Type 0} (x : X) → ◌≡◌ {A = Option X} None (Some x) → ⊥
 no_some x e = cc
 
-pub other-name : (m : Listing) → IsSoundListing m → (row : List ℕ × Row) → at_name m.rows row.0 ≡ Some row.1 → eq_by_cmp bytes_cmp row.0 m.objective ≡ false
+pub other-name : (m : Listing) → IsSoundListing m → (row : List ℕ × Row) → at_name m.rows row.0 ≡ Some row.1
+    → eq_by_cmp bytes_cmp row.0 m.objective ≡ false
 other-name m h row is = by (eq_by_cmp bytes_cmp row.0 m.objective) refl
   where
     by : (b : Bool) → eq_by_cmp bytes_cmp row.0 m.objective ≡ b → b ≡ false
@@ -129,16 +371,19 @@ pub side-back : (m : Listing) → IsSoundListing m → (row : List ℕ × Row) �
     → rhs_or_zero (drafted m) row.0 ≡ printed_rhs row.1.lower row.1.upper
 side-back = grind (arith, stated, value_stated, drafted, right_side-at, first_there, then_stated, side_stated, stated-other, other-name, first_none, value-back, side-decimal, row_sides)
 
-pub range-back : (m : Listing) → IsSoundListing m → (row : List ℕ × Row) → at_name m.rows row.0 ≡ Some row.1 → at_name (drafted m).ranges row.0 ≡ printed_range row.1.lower row.1.upper
+pub range-back : (m : Listing) → IsSoundListing m → (row : List ℕ × Row) → at_name m.rows row.0 ≡ Some row.1
+    → at_name (drafted m).ranges row.0 ≡ printed_range row.1.lower row.1.upper
 range-back m h row is = range-at m h row.0 ∙ ap (then_stated range_stated) is
 
 abbrev pub stated_row : List ℕ × Row → List ℕ × RowDefinition
 stated_row row = (row.0, form_stated row.1)
 
-pub limits-back : (m : Listing) → IsSoundListing m → (row : List ℕ × Row) → is_sound_row row ≡ true → at_name m.rows row.0 ≡ Some row.1 → row_limits (drafted m) (stated_row row) ≡ Some row.1
+pub limits-back : (m : Listing) → IsSoundListing m → (row : List ℕ × Row) → is_sound_row row ≡ true → at_name m.rows row.0 ≡ Some row.1
+    → row_limits (drafted m) (stated_row row) ≡ Some row.1
 limits-back = grind (arith, form_stated, side-back, range-back, row_back, row_sides, row_distance)
 
-entry-back : (m : Listing) → IsSoundListing m → (row : List ℕ × Row) → is_sound_row row ≡ true → at_name m.rows row.0 ≡ Some row.1 → row_entry (drafted m) (stated_row row) ≡ row
+entry-back : (m : Listing) → IsSoundListing m → (row : List ℕ × Row) → is_sound_row row ≡ true → at_name m.rows row.0 ≡ Some row.1
+    → row_entry (drafted m) (stated_row row) ≡ row
 entry-back m h row sound is = ap (λ o. (row.0, unwrap_or o (plain_limits Free zero_number))) (limits-back m h row sound is)
 
 each-back : {X Y : Type 0} (f : X → Y) (g : Y → X) (xs : List X) → Each (λ x. g (f x) ≡ x) xs → map g (map f xs) ≡ xs
@@ -152,8 +397,7 @@ pub own-rows : (m : Listing) → IsSoundListing m → Each (IsOwnRow m) m.rows
 own-rows m h = Each-both _ _ _ (λ row k is. (k, is)) m.rows h.rows (own-found m.rows h.rows_sorted)
 
 pub rows-back : (m : Listing) → IsSoundListing m → map (row_entry (drafted m)) (drafted m).rows ≡ m.rows
-rows-back m h =
-    ap (map (row_entry (drafted m))) (rows-drafted m h)
+rows-back m h = ap (map (row_entry (drafted m))) (rows-drafted m h)
     ∙ each-back stated_row (row_entry (drafted m)) m.rows (Each-weaker _ _ (λ row k. entry-back m h row k.0 k.1) m.rows (own-rows m h))
 
 -- ---- columns
@@ -171,18 +415,13 @@ finite-upper : (u : Limit) (b : Number) → is_upper_side u ≡ true → u ≡ F
 finite-upper u b h e = bounded_so b (sym (ap is_upper_side e) ∙ h)
 
 pub bounds-back : (m : Listing) → IsSoundListing m → (column : List ℕ × Column) → IsOwnColumn m column → column_of (drafted m) column.0 ≡ column.1
-bounds-back m h column k =
-    let l = column.1.lower in
-    let u = column.1.upper in
-    let sides = column_sides column k.0 in
-    let lower_side = lower_of l u sides in
-    let upper_side = upper_of l u sides in
-    column_back have_same_value (drafted m) column.0 column.1 (lower-at m h column.0 ∙ ap (then_stated column_lower) k.1) (upper-at m h column.0 ∙ ap (then_stated column_upper) k.1)
-    (marked-at m h column.0 column.1 k.1) (ap (λ (es : List (List ℕ × Unit {0})). has_name es column.0) (integers-drafted m)) (ap (λ (es : List (List ℕ × Unit {0})). has_name es column.0) (binaries-drafted m))
-    (semis-at m h column.0 column.1 (column_suited column k.0) k.1)
-    lower_side upper_side
-    (λ a b p q e. same_decimal a b (finite-lower l a lower_side p) (finite-upper u b upper_side q) e)
-    (λ a p z. zero-is a (finite-lower l a lower_side p) z)
+bounds-back m h column k = let l = column.1.lower in let u = column.1.upper in let sides = column_sides column k.0 in
+    let lower_side = lower_of l u sides in let upper_side = upper_of l u sides in column_back have_same_value (drafted m) column.0 column.1
+    (lower-at m h column.0 ∙ ap (then_stated column_lower) k.1) (upper-at m h column.0 ∙ ap (then_stated column_upper) k.1)
+    (marked-at m h column.0 column.1 k.1) (ap (λ (es : List (List ℕ × Unit {0})). has_name es column.0) (integers-drafted m))
+    (ap (λ (es : List (List ℕ × Unit {0})). has_name es column.0) (binaries-drafted m))
+    (semis-at m h column.0 column.1 (column_suited column k.0) k.1) lower_side upper_side (λ a b p q e. same_decimal a b
+    (finite-lower l a lower_side p) (finite-upper u b upper_side q) e) (λ a p z. zero-is a (finite-lower l a lower_side p) z)
 
 each-column_back : (m : Listing) → IsSoundListing m → Each (λ column. column_of (drafted m) column.0 ≡ column.1) m.columns
 each-column_back m h = Each-weaker _ _ (bounds-back m h) m.columns (own-columns m h)
@@ -198,7 +437,8 @@ finite_size = grind arith
 finite-side : (l u : Limit) → are_sides l u ≡ true → has_infinite_rhs (by_type (printed_type l u)) (printed_rhs l u) (printed_range l u) ≡ false
 finite-side = grind (arith, and_false, finite_size)
 
-finite-row : (m : Listing) → IsSoundListing m → (row : List ℕ × Row) → IsOwnRow m row → not (row_passes (drafted m) has_infinite_rhs (stated_row row)) ≡ true
+finite-row : (m : Listing) → IsSoundListing m → (row : List ℕ × Row) → IsOwnRow m row
+    → not (row_passes (drafted m) has_infinite_rhs (stated_row row)) ≡ true
 finite-row = grind (arith, so_not, drafted, form_stated, side-back, range-back, finite-side, row_sides)
 
 -- The draft of the canonical declarations of a well-formed model means it.
@@ -230,3 +470,211 @@ draft-means m sound =
       no_negative_upper = no-negative_upper all listing.columns declared back h.columns;
       binary_within = binary-within all listing.columns declared back (binaries-drafted listing);
     }
+
+-- ---- the canonical declarations of a well-formed listing are consistent, if no slot is filled twice
+
+-- ---- what exists
+
+column-there : (m : Listing) → IsSoundListing m → (column : List ℕ × Column) → at_name m.columns column.0 ≡ Some column.1
+    → has_column (drafted m) column.0 ≡ true
+column-there m h column is = ap (λ es. has_name es column.0) (columns-drafted m h)
+    ∙ ap is_some (at-mapped _ column.0 m.columns ∙ ap (then_stated (λ _. Some tt)) is)
+
+objective-there : (m : Listing) → has_row (drafted m) m.objective ≡ true
+objective-there = grind (arith, or_left, drafted, objective-drafted, itself_named)
+
+row-there : (m : Listing) → IsSoundListing m → (row : List ℕ × Row) → at_name m.rows row.0 ≡ Some row.1 → has_row (drafted m) row.0 ≡ true
+row-there = grind (arith, or_right, drafted, row-at, then_stated, form_stated)
+
+-- ---- all that is named is declared
+
+abbrev Known : Listing → Declaration → Type 0
+Known m d = is_known (drafted m) d ≡ true
+
+abbrev KnownCell : Listing → Cell → Type 0
+KnownCell m cell = (has_row (drafted m) cell.row ≡ true) × (has_column (drafted m) cell.column ≡ true)
+
+rows-of-cells : (P : List ℕ → Type 0) (coefficients : List (CoefficientKey × Number)) (column : List ℕ) (rows : List (List ℕ)) → Each P rows
+    → Each (λ cell. P cell.0) (filter_map (cell_at coefficients column) rows)
+rows-of-cells P coefficients column [] h = tt
+rows-of-cells P coefficients column (row ∷ rows) h = grind (arith, place_at, rows-of-cells P coefficients column rows h.1)
+
+line_text-rows : (P : List ℕ → Type 0) (objective : List ℕ) (cells : List (List ℕ × Number)) → P objective → Each (λ cell. P cell.0) cells
+    → Each (λ cell. P cell.0) (printed_coefficients objective cells)
+line_text-rows = grind arith
+
+known-cells : (m : Listing) → IsSoundListing m → (column : List ℕ × Column) → at_name m.columns column.0 ≡ Some column.1
+    → Each (KnownCell m) (cells_in m column)
+known-cells m h column is =
+    let rows = line_text-rows _ m.objective _ (objective-there m)
+    (rows-of-cells (λ n. has_row (drafted m) n ≡ true) m.coefficients column.0 (m.objective ∷ map (λ row. row.0) m.rows) (
+      objective-there m,
+      Each-map _ _ m.rows (Each-weaker _ _ (λ row k. row-there m h row k.1) m.rows (own-rows m h)),
+    )) in
+    Each-map _ _ _
+    (Each-weaker _ _ (λ cell k. (k, column-there m h column is)) _ rows)
+
+known-groups : (m : Listing) → IsSoundListing m → (p : List ℕ × Column → Bool) → Each (KnownCell m) (cells_of (map (group_in m) (filter p m.columns)))
+known-groups m h p = Each-flat_map _ _ _ (Each-map _ _ _ (Each-filter _ p m.columns (Each-weaker _ _ (λ column k _. known-cells m h column k.1) m.columns (own-columns m h))))
+
+known-coefficient : (m : Listing) (cell : Cell) → KnownCell m cell → (has_row (drafted m) cell.row && has_column (drafted m) cell.column) ≡ true
+known-coefficient m cell k = both_so _ _ k.0 k.1
+
+known-side : (m : Listing) (row : List ℕ) (value : Number) → has_row (drafted m) row ≡ true
+    → Each (λ (side : Side). Each (Known m) (side_decl side)) (side_unless_zero row value)
+known-side = grind arith
+
+known-range : (m : Listing) (row : List ℕ) (o : Option Number) → has_row (drafted m) row ≡ true
+    → Each (λ (side : Side). Each (Known m) (range_decl side)) (option_map_or (λ value. to_side row value ∷ []) o [])
+known-range = grind arith
+
+known-form : (m : Listing) (form : BoundForm) (x : List ℕ) (v : Number) → has_column (drafted m) x ≡ true → Each (Known m) (decl_at form x v)
+known-form = grind arith
+
+known-bounds : (m : Listing) (name : List ℕ) → has_column (drafted m) name ≡ true → (line_text : List PrintedBound)
+    → Each (λ (b : Bound). Each (Known m) (bound_decl b)) (map (to_bound name) line_text)
+known-bounds m name k [] = tt
+known-bounds m name k (bound ∷ line_text) = (known-form m _ name _ k, known-bounds m name k line_text)
+
+known-sense : (m : Listing) (s : Sense) → Each (Known m) (sense_decl s)
+known-sense = grind arith
+
+pub all-known : (m : Listing) → IsSoundListing m → list_all (is_known (drafted m)) (listed_decl m) ≡ true
+all-known m h = list_all-from_Each (is_known (drafted m)) (listed_decl m) (each-whole (Known m) (whole_of m) (record {
+  sense = known-sense m m.sense;
+  objective = refl;
+  rows = Each-all (λ (row : RowItem). Each (Known m) (row_decl row)) (λ row. (refl, tt)) (whole_of m).rows;
+  plain = Each-weaker (KnownCell m) (λ (cell : Cell). Each (Known m) (cell_decl false cell))
+      (λ cell k. (refl, (known-coefficient m cell k, tt))) (cells_of (whole_of m).plain) (known-groups m h is_plain_column);
+  integers = Each-weaker (KnownCell m) (λ (cell : Cell). Each (Known m) (cell_decl true cell))
+      (λ cell k. (refl, (k.1, (known-coefficient m cell k, tt)))) (cells_of (whole_of m).integers) (known-groups m h is_integer_column);
+  sides = Each-append (λ (side : Side). Each (Known m) (side_decl side)) (side_unless_zero m.objective (negated m.constant))
+      (flat_map row_side m.rows) (known-side m m.objective (negated m.constant) (objective-there m))
+      (Each-flat_map (λ (side : Side). Each (Known m) (side_decl side)) row_side m.rows
+      (Each-weaker (IsOwnRow m) (λ row. Each (λ (side : Side). Each (Known m) (side_decl side)) (row_side row))
+      (λ row k. known-side m row.0 (printed_rhs row.1.lower row.1.upper) (row-there m h row k.1)) m.rows (own-rows m h)));
+  ranges = Each-flat_map (λ (side : Side). Each (Known m) (range_decl side)) row_range m.rows
+      (Each-weaker (IsOwnRow m) (λ row. Each (λ (side : Side). Each (Known m) (range_decl side)) (row_range row))
+      (λ row k. known-range m row.0 (printed_range row.1.lower row.1.upper) (row-there m h row k.1)) m.rows (own-rows m h));
+  bounds = Each-flat_map (λ (b : Bound). Each (Known m) (bound_decl b)) bounds_in m.columns
+      (Each-weaker (IsOwnColumn m) (λ column. Each (λ (b : Bound). Each (Known m) (bound_decl b)) (bounds_in column))
+      (λ column k. known-bounds m column.0 (column-there m h column k.1) (printed_bounds column.1.kind column.1.lower column.1.upper))
+      m.columns (own-columns m h));
+}))
+
+-- ---- all is allowed
+
+abbrev Allowed : Listing → Declaration → Type 0
+Allowed m d = is_allowed (drafted m) d ≡ true
+
+range-not_free : (l u : Limit) (d : Number) → printed_range l u ≡ Some d → is_free_definition (by_type (printed_type l u)) ≡ false
+range-not_free = grind arith
+
+range-bounded : (l u : Limit) → has_bounded_distance l u ≡ true → Holds (λ d. is_bounded_decimal d ≡ true) (printed_range l u)
+range-bounded MinusInf u h = tt
+range-bounded (Finite a) MinusInf h = tt
+range-bounded (Finite a) PlusInf h = tt
+range-bounded PlusInf u h = tt
+range-bounded (Finite a) (Finite b) h = grind (arith)
+
+no_false : (a b : Bool) → a ≡ false → b ≡ false → not (a || b) ≡ true
+no_false = grind arith
+
+allowed-range : (m : Listing) → IsSoundListing m → (row : List ℕ × Row) → IsOwnRow m row
+    → Each (λ (side : Side). Each (Allowed m) (range_decl side)) (row_range row)
+allowed-range m h row k = by (printed_range row.1.lower row.1.upper) refl (range-bounded row.1.lower row.1.upper (row_distance row k.0))
+  where
+    not_mine : is_objective (drafted m) row.0 ≡ false
+    not_mine = ap (λ o. option_map_or (same_bytes row.0) o false) (objective-drafted m) ∙ texts_ties row.0 m.objective ∙ other-name m h row k.1
+
+    not_free : (d : Number) → printed_range row.1.lower row.1.upper ≡ Some d → is_free_row (drafted m) row.0 ≡ false
+    not_free d e = ap (λ o. option_map_or is_free_definition o false) (row-at m h row.0 ∙ ap (then_stated (λ r. Some (form_stated r))) k.1)
+        ∙ range-not_free row.1.lower row.1.upper d e
+
+    by : (o : Option Number) → printed_range row.1.lower row.1.upper ≡ o → Holds (λ d. is_bounded_decimal d ≡ true) o
+        → Each (λ (side : Side). Each (Allowed m) (range_decl side)) (option_map_or (λ value. to_side row.0 value ∷ []) o [])
+    by None e b = tt
+    by (Some d) e b = ((both_so _ _ (no_false _ _ not_mine (not_free d e)) (second_so _ _ b), tt), tt)
+
+-- ---- no column is both integer and semi-continuous
+
+own-semi : (m : Listing) → IsSoundListing m → (column : List ℕ × Column) → IsOwnColumn m column
+    → is_semi (drafted m) column.0 ≡ is_semi_kind column.1.kind
+own-semi = grind (arith, semis-at, column_suited)
+
+own-integer : (m : Listing) → IsSoundListing m → (column : List ℕ × Column) → IsOwnColumn m column
+    → is_integer (drafted m) column.0 ≡ is_integer_column column
+own-integer = grind (arith, marked-at, integers-drafted, binaries-drafted)
+
+integer-not_semi : (kind : Kind) (l u : Limit) → is_integer_column ([], record { kind = kind; lower = l; upper = u }) ≡ true
+    → is_semi_kind kind ≡ false
+integer-not_semi = grind arith
+
+abbrev AllowedCell : Listing → Cell → Type 0
+AllowedCell m cell = Each (Allowed m) (cell_decl true cell)
+
+-- a column of the integer block is not semi-continuous
+allowed-integers : (m : Listing) → IsSoundListing m → Each (AllowedCell m) (cells_of (map (group_in m) (filter is_integer_column m.columns)))
+allowed-integers m h = Each-flat_map _ _ _ (Each-map _ _ _ (Each-filter _ is_integer_column m.columns (Each-weaker _ _ one m.columns (own-columns m h))))
+  where
+    one : (column : List ℕ × Column) → IsOwnColumn m column → is_integer_column column ≡ true → Each (AllowedCell m) (cells_in m column)
+    one column k integer = let other = so_not _ (own-semi m h column k ∙ integer-not_semi column.1.kind column.1.lower column.1.upper integer) in
+        Each-map _ _ _ (Each-all _ (λ cell. (refl, (other, (refl, tt)))) _)
+
+abbrev is_semi_form : BoundForm → Bool
+is_semi_form semi_upper = true
+is_semi_form _ = false
+
+allowed-form : (m : Listing) (form : BoundForm) (x : List ℕ) (v : Number) → (is_semi_form form ≡ true → is_integer (drafted m) x ≡ false)
+    → Each (Allowed m) (decl_at form x v)
+allowed-form = grind arith
+
+allowed-line_text : (m : Listing) (name : List ℕ) (line_text : List PrintedBound)
+    → Each (λ (b : PrintedBound). is_semi_form (form_of b.type) ≡ true → is_integer (drafted m) name ≡ false) line_text
+    → Each (λ (b : Bound). Each (Allowed m) (bound_decl b)) (map (to_bound name) line_text)
+allowed-line_text m name [] h = tt
+allowed-line_text m name (bound ∷ line_text) h = (allowed-form m _ name _ h.0, allowed-line_text m name line_text h.1)
+
+-- a bound that would declare an integer column semi-continuous is not printed
+abbrev HasNoSemi : PrintedBound → Type 0
+HasNoSemi bound = is_semi_form (form_of bound.type) ≡ false
+
+integer-plain : (l u : Limit) → Each HasNoSemi (printed_bounds Integer l u)
+integer-plain = grind arith
+
+allowed-bounds : (m : Listing) → IsSoundListing m → (column : List ℕ × Column) → IsOwnColumn m column
+    → Each (λ (b : Bound). Each (Allowed m) (bound_decl b)) (bounds_in column)
+allowed-bounds m h column k = allowed-line_text m column.0 _ (by column.1.kind column.1.lower column.1.upper (own-integer m h column k))
+  where
+    silent : (b c : Bool) → b ≡ false → b ≡ true → c ≡ false
+    silent b c e f = cc
+
+    by : (kind : Kind) (l u : Limit) → is_integer (drafted m) column.0 ≡ is_integer_column ([], record { kind = kind; lower = l; upper = u }) → Each
+        (λ (b : PrintedBound). is_semi_form (form_of b.type) ≡ true → is_integer (drafted m) column.0 ≡ false) (printed_bounds kind l u)
+    by = grind arith
+
+allowed-sense : (m : Listing) (s : Sense) → Each (Allowed m) (sense_decl s)
+allowed-sense = grind arith
+
+pub all-allowed : (m : Listing) → IsSoundListing m → list_all (is_allowed (drafted m)) (listed_decl m) ≡ true
+all-allowed m h = list_all-from_Each (is_allowed (drafted m)) (listed_decl m) (each-whole (Allowed m) (whole_of m) (record {
+  sense = allowed-sense m m.sense;
+  objective = refl;
+  rows = Each-all (λ (row : RowItem). Each (Allowed m) (row_decl row)) (λ row. (refl, tt)) (whole_of m).rows;
+  plain = Each-all (λ (cell : Cell). Each (Allowed m) (cell_decl false cell)) (λ cell. (refl, (refl, tt))) (cells_of (whole_of m).plain);
+  integers = allowed-integers m h;
+  sides = Each-all (λ (side : Side). Each (Allowed m) (side_decl side)) (λ side. (refl, tt)) (sides_in m);
+  ranges = Each-flat_map _ row_range m.rows
+      (Each-weaker _ _ (allowed-range m h) m.rows (own-rows m h));
+  bounds = Each-flat_map _ bounds_in m.columns
+      (Each-weaker _ _ (allowed-bounds m h) m.columns (own-columns m h));
+}))
+
+-- ---- the objective
+
+named-first : (name : List ℕ) (s : Sense) (more : Declarations) → list_any declares_objective (sense_decl s ++ (declare_objective name ∷ more)) ≡ true
+named-first = grind arith
+
+-- The canonical declarations of a well-formed listing are consistent, if no slot is filled twice.
+pub consistent-if_once : (m : Listing) → IsSoundListing m → are_distinct same_slot (all_slots (listed_decl m)) ≡ true → AreConsistent (listed_decl m)
+consistent-if_once = grind (arith, named-first, drafted, constant-drafted, all-known, all-allowed)

@@ -1,23 +1,253 @@
--- The canonical lines of a well-formed model can be printed: their fields are names, numbers and words of the format.
+-- Canonical lines can be printed, and are read as they were printed.
 use Rattle.mpslp_canonical_mps.proofs.Prelude
-use Prelude.{arith, ◌≡◌, refl, List, [], ◌∷◌, ◌++◌, length, ℕ, Bool, true, map, ltb-true, leb-true, Option, Some, None, nat_lt, nat_le}
-use Prelude.{filter, filter_map, list_all, flat_map, option_map, first_so, second_so, Ordering, find, Number, IsDecimal, zero_number}
-use Prelude.{negated, is_mps_name, has_name_length, is_visible, marker, is_lower_side, is_upper_side, are_sides, has_bounded_distance}
-use Prelude.{Sense, Kind, Limit, Finite, RowType, Each, Each-weaker, Each-append, Each-map, Each-flat_map, Each-filter, Each-from_list_all}
-use Prelude.{LinearModel, Row, Column, CoefficientKey, key_cmp, is_sound_row, is_sound_column, IsSound, Listing, listing_of, Fields}
-use Prelude.{letter_of, opening_word, closing_word, letters_of, Section, Name, Rows, Columns, Rhs, Ranges, Bounds, EndData, BoundType}
-use Prelude.{printed_rhs, printed_range, PrintedBound, printed_lower, printed_upper, printed_bounds, Lines, header_line, under_header}
-use Prelude.{sense_lines, objective_line, row_line, rows_section, coefficient_line, cell_at, column_coefficients, printed_coefficients}
-use Prelude.{column_lines, is_integer_column, is_plain_column, marker_line, integer_part, columns_section, vector_line, rhs_lines}
-use Prelude.{row_rhs_lines, rhs_section, range_lines, ranges_section, bound_line, column_bound_lines, bounds_section, listed_lines}
-use Prelude.{canonical_lines, bounded_so, row_sides, row_distance, column_sides}
-use Rattle.mpslp_canonical_mps.proofs.{NumberWords.{number-word}, TextLemmas.{Word, Words, IsPrintable}}
+use Prelude.{◌≡◌, refl, ap, ◌∙◌, List, [], ◌∷◌, ◌++◌, length, ℕ, Bool, true, false, cond, map, arith, ◌<◌, ◌≤◌, ◌*◌, length-append}
+use Prelude.{nat_tests, append-nil, nat_lt, nat_le, ◌==◌, filter, codes, slice_split, list_all, flat_map, lines, is_visible, both_so, Each}
+use Prelude.{Each-weaker, Each-append, list_all-from_Each, Fields, skipped, header, data_line, header_of, content_of, fields, is_blank}
+use Prelude.{is_comment, outside_comment, is_legal_line, is_legal_byte, has_legal_length, MAX_LINE_LEN, IsPlain, lines-with_line_feeds}
+use Prelude.{PrintedLine, heading, short_line, long_line, fields_text, line_text, text_of, content_in, rules, sym, subst, suc, ◌+◌, take}
+use Prelude.{drop, ◌||◌, Ok, list_any, before_first, after_first, position_or_len, first_so, second_so, Number, IsDecimal, is_digit}
+use Prelude.{is_point, is_exponent_mark, without_sign, are_digits, exponent_part, is_literal, number_of, number_text, after-none}
+use Prelude.{number-text, read-short, nor, Each-from_list_all, ltb-true, leb-true, Option, Some, None, filter_map, option_map, Ordering}
+use Prelude.{find, zero_number, negated, is_mps_name, has_name_length, marker, is_lower_side, is_upper_side, are_sides}
+use Prelude.{has_bounded_distance, Sense, Kind, Limit, Finite, RowType, Each-map, Each-flat_map, Each-filter, LinearModel, Row, Column}
+use Prelude.{CoefficientKey, key_cmp, is_sound_row, is_sound_column, IsSound, Listing, listing_of, letter_of, opening_word, closing_word}
+use Prelude.{letters_of, Section, Name, Rows, Columns, Rhs, Ranges, Bounds, EndData, BoundType, printed_rhs, printed_range, PrintedBound}
+use Prelude.{printed_lower, printed_upper, printed_bounds, Lines, header_line, under_header, sense_lines, objective_line, row_line}
+use Prelude.{rows_section, coefficient_line, cell_at, column_coefficients, printed_coefficients, column_lines, is_integer_column}
+use Prelude.{is_plain_column, marker_line, integer_part, columns_section, vector_line, rhs_lines, row_rhs_lines, rhs_section, range_lines}
+use Prelude.{ranges_section, bound_line, column_bound_lines, bounds_section, listed_lines, canonical_lines, bounded_so, row_sides}
+use Prelude.{row_distance, column_sides, Each-all, begins, is_end, canonical_mps, AreReadAsPrinted}
+use Rattle.std.specs.Prelude.{not}
+
+-- ---- printed lines are read back unchanged
+
+-- ---- fields
+
+visible-solid : (b : ℕ) → is_visible b ≡ true → is_blank b ≡ false
+visible-solid = grind (arith, nat_tests)
+
+abbrev IsSolid : ℕ → Type 0
+IsSolid b = is_blank b ≡ false
+
+-- a field that is printed: 1 to 255 visible bytes
+pub record Word (w : List ℕ) : Type 0 where
+  pub some : 0 < length w
+  pub short : length w ≤ 255
+  pub visible : Each (λ b. is_visible b ≡ true) w
+
+solid : (w : List ℕ) → Word w → Each IsSolid w
+solid w h = Each-weaker _ IsSolid visible-solid w h.visible
+
+split-word : (w rest : List ℕ) → Each IsSolid w → slice_split is_blank (w ++ 32 ∷ rest) ≡ w ∷ slice_split is_blank rest
+split-word [] rest h = refl
+split-word (b ∷ bs) rest h = rw (h.0, split-word bs rest h.1) refl
+
+split-last : (w : List ℕ) → Each IsSolid w → slice_split is_blank w ≡ w ∷ []
+split-last [] h = refl
+split-last (b ∷ bs) h = rw (h.0, split-last bs h.1) refl
+
+abbrev has_bytes : List ℕ → Bool
+has_bytes run = nat_lt 0 (length run)
+
+keep-word : (w : List ℕ) (more : Fields) → Word w → filter has_bytes (w ∷ more) ≡ w ∷ filter has_bytes more
+keep-word = grind arith
+
+fields-word : (w rest : List ℕ) → Word w → fields (w ++ 32 ∷ rest) ≡ w ∷ fields rest
+fields-word = grind (arith, split-word, solid, keep-word)
+
+fields-last : (w : List ℕ) → Word w → fields w ≡ w ∷ []
+fields-last = grind (arith, split-last, solid, keep-word)
+
+-- what is printed after the first field
+abbrev after_first_field : Fields → List ℕ
+after_first_field ws = flat_map (λ w. codes "  " ++ w) ws
+
+fields-from : (w : List ℕ) (ws : Fields) → Word w → Each Word ws → fields (w ++ after_first_field ws) ≡ w ∷ ws
+fields-from w [] h k = ap fields (append-nil w) ∙ fields-last w h
+fields-from w (v ∷ vs) h k = fields-word w _ h ∙ ap (λ x. w ∷ x) (fields-from v vs k.0 k.1)
+
+pub fields-spaced : (ws : Fields) → Each Word ws → fields (fields_text ws) ≡ ws
+fields-spaced [] h = refl
+fields-spaced (w ∷ ws) h = fields-from w ws h.0 h.1
+
+-- ---- items
+
+not_blank : (w rest : List ℕ) → 0 < length w → Each IsSolid w → list_all is_blank (w ++ rest) ≡ false
+not_blank [] rest n h = absurd (omega arith)
+not_blank (b ∷ bs) rest n h = rw h.0 refl
+
+-- the fields of a printed data line
+pub record Words (ws : Fields) : Type 0 where
+  pub some : 0 < length ws
+  pub few : length ws ≤ 4
+  pub each : Each Word ws
+
+not_blank_line : (ws : Fields) → Words ws → list_all is_blank (fields_text ws) ≡ false
+not_blank_line = grind (arith, arith, not_blank, solid)
+
+abbrev begins_with_star : List ℕ → Bool
+begins_with_star [] = false
+begins_with_star (byte ∷ _) = byte == 42
+
+-- a line that can be printed
+abbrev pub IsPrintable : PrintedLine → Type 0
+IsPrintable (heading keyword) = Word keyword × (begins_with_star keyword ≡ false)
+IsPrintable (short_line ws) = Words ws
+IsPrintable (long_line ws) = Words ws
+
+by_tests : (skip is : Bool) (w : List ℕ) → skip ≡ false → is ≡ false
+    → cond skip skipped (cond is (data_line (fields w)) (header_of (fields w))) ≡ header_of (fields w)
+by_tests skip is w p q = rw (p, q) refl
+
+heading_item : (w : List ℕ) → Word w → begins_with_star w ≡ false → content_of w ≡ header w []
+heading_item = grind (arith, arith, visible-solid, by_tests, fields-last)
+
+pub item-line_text : (l : PrintedLine) → IsPrintable l → content_of (line_text l) ≡ content_in l
+item-line_text = grind (arith, heading_item, not_blank_line, fields-spaced)
+
+-- ---- bytes and length
+
+visible-legal : (b : ℕ) → is_visible b ≡ true → is_legal_byte b ≡ true
+visible-legal = grind (arith, nat_tests)
+
+visible-plain : (b : ℕ) → is_visible b ≡ true → IsPlain b
+visible-plain = grind arith
+
+-- a property of visible bytes and of spaces holds for each byte that is printed
+module _ (P : ℕ → Type 0) (visible : (b : ℕ) → is_visible b ≡ true → P b) (blank : P 32) where
+  each-word : (w : List ℕ) → Word w → Each P w
+  each-word w h = Each-weaker _ P visible w h.visible
+
+  each-after : (ws : Fields) → Each Word ws → Each P (after_first_field ws)
+  each-after [] h = tt
+  each-after (w ∷ ws) h = (blank, (blank, Each-append P w _ (each-word w h.0) (each-after ws h.1)))
+
+  each-spaced : (ws : Fields) → Each Word ws → Each P (fields_text ws)
+  each-spaced = grind (arith, each-word, each-after)
+
+  each-line_text : (l : PrintedLine) → IsPrintable l → Each P (line_text l)
+  each-line_text = grind (arith, each-word, each-spaced)
+
+pub plain-line_text : (l : PrintedLine) → IsPrintable l → Each IsPlain (line_text l)
+plain-line_text l h = each-line_text IsPlain visible-plain (refl, refl) l h
+
+bytes-line_text : (l : PrintedLine) → IsPrintable l → list_all is_legal_byte (outside_comment (line_text l)) ≡ true
+bytes-line_text l h = by (is_comment (line_text l))
+  where
+    by : (comment : Bool) → list_all is_legal_byte (cond comment [] (line_text l)) ≡ true
+    by true = refl
+    by false = list_all-from_Each is_legal_byte _ (each-line_text _ visible-legal refl l h)
+
+length-after : (ws : Fields) → Each Word ws → length (after_first_field ws) ≤ 257 * length ws
+length-after [] h = omega arith
+length-after (w ∷ ws) h = grind (arith, arith, length-append, length-after ws h.1)
+
+length-spaced : (ws : Fields) → Each Word ws → length (fields_text ws) ≤ 257 * length ws
+length-spaced = grind (arith, arith, length-after, length-append)
+
+at_most : (n : ℕ) → n ≤ 2000 → nat_le n MAX_LINE_LEN ≡ true
+at_most = grind (arith, nat_tests)
+
+length-line_text : (l : PrintedLine) → IsPrintable l → has_legal_length (line_text l) ≡ true
+length-line_text = grind (arith, at_most, arith, length-spaced)
+
+pub legal-line_text : (l : PrintedLine) → IsPrintable l → is_legal_line (line_text l) ≡ true
+legal-line_text l h = both_so _ _ (length-line_text l h) (bytes-line_text l h)
+
+-- ---- the text
+
+all_plain : (ls : List PrintedLine) → Each IsPrintable ls → Each (Each IsPlain) (map line_text ls)
+all_plain [] h = tt
+all_plain (l ∷ ls) h = (plain-line_text l h.0, all_plain ls h.1)
+
+pub items-line_text : (ls : List PrintedLine) → Each IsPrintable ls → map content_of (map line_text ls) ≡ map content_in ls
+items-line_text [] h = refl
+items-line_text (l ∷ ls) h = λ i. item-line_text l h.0 i ∷ items-line_text ls h.1 i
+
+pub legal-lines : (ls : List PrintedLine) → Each IsPrintable ls → list_all is_legal_line (map line_text ls) ≡ true
+legal-lines [] h = refl
+legal-lines (l ∷ ls) h = both_so _ _ (legal-line_text l h.0) (legal-lines ls h.1)
+
+-- the lines of a text of printed lines are these, and its items are theirs
+pub lines-text : (ls : List PrintedLine) → Each IsPrintable ls → lines (text_of ls) ≡ map line_text ls
+lines-text ls h = lines-with_line_feeds _ (all_plain ls h)
+
+-- ---- the text of a decimal is a field that can be printed: 1 to 255 visible bytes
+
+abbrev Visible : List ℕ → Type 0
+Visible bytes = Each (λ b. is_visible b ≡ true) bytes
+
+digit-visible : (b : ℕ) → is_digit b ≡ true → is_visible b ≡ true
+digit-visible = grind (arith, nat_tests)
+
+point-visible : (b : ℕ) → is_point b ≡ true → is_visible b ≡ true
+point-visible = grind (arith, nat_tests)
+
+mark-visible : (b : ℕ) → is_exponent_mark b ≡ true → is_visible b ≡ true
+mark-visible = grind (arith, nat_tests)
+
+both-parts : (xs ys : List ℕ) → Visible (xs ++ ys) → Visible xs × Visible ys
+both-parts [] ys h = (tt, h)
+both-parts (x ∷ xs) ys h = grind (arith, both-parts xs ys h.1)
+
+-- the parts before and after the first byte that passes a test, and that byte
+around : (p : ℕ → Bool) → ((b : ℕ) → p b ≡ true → is_visible b ≡ true) → (xs : List ℕ) → Visible (before_first p xs)
+    → Visible (after_first p xs) → Visible xs
+around p sections_seen [] h k = tt
+around p sections_seen (x ∷ xs) h k =
+    elim (p x) as (λ b. p x ≡ b → Visible (take (cond (not b) (1 + position_or_len p xs) 0) (x ∷ xs))
+    → Visible (drop (cond (not b) (1 + position_or_len p xs) 0 + 1) (x ∷ xs)) → Visible (x ∷ xs)) [
+      | true ↦ λ e _ more. (sections_seen x e, more)
+      | false ↦ λ e front more.
+          let one : 1 + position_or_len p xs ≡ suc (position_or_len p xs) = omega arith in
+          let two : 1 + position_or_len p xs + 1 ≡ suc (position_or_len p xs + 1) = omega arith in
+          let here : Visible (x ∷ take (position_or_len p xs) xs) = subst (λ n. Visible (take n (x ∷ xs))) one front in
+          (here.0, around p sections_seen xs here.1 (subst (λ n. Visible (drop n (x ∷ xs))) two more))
+    ] refl h k
+
+signed-visible : (xs : List ℕ) → Visible (without_sign xs) → Visible xs
+signed-visible = grind arith
+
+digits-visible : (xs : List ℕ) → are_digits xs ≡ true → Visible xs
+digits-visible xs h = Each-weaker _ _ digit-visible xs (Each-from_list_all is_digit xs (second_so _ _ h))
+
+none-marked : (xs : List ℕ) → list_any is_exponent_mark xs ≡ false → Each (λ b. is_exponent_mark b ≡ false) xs
+none-marked [] h = tt
+none-marked (x ∷ xs) h = let both = nor _ _ h in (both.0, none-marked xs both.1)
+
+exponent-visible : (text : List ℕ) → (not (list_any is_exponent_mark text) || are_digits (without_sign (exponent_part text))) ≡ true
+    → Visible (exponent_part text)
+exponent-visible text h =
+    elim (list_any is_exponent_mark text) as (λ b. list_any is_exponent_mark text ≡ b
+    → (not b || are_digits (without_sign (exponent_part text))) ≡ true → Visible (exponent_part text)) [
+      | true ↦ λ _ digits. signed-visible _ (digits-visible _ digits)
+      | false ↦ λ none _. subst Visible (sym (after-none is_exponent_mark text (none-marked text none))) tt
+    ] refl h
+
+literal-visible : (text : List ℕ) → is_literal text ≡ true → Visible text
+literal-visible text h = let exponent : Bool = not (list_any is_exponent_mark text) || are_digits (without_sign (exponent_part text)) in
+    let digits = digits-visible _ (first_so _ _ h) in let parts = both-parts _ _ digits in
+    let front = signed-visible _ (around is_point point-visible _ parts.0 parts.1) in
+    around is_exponent_mark mark-visible text front (exponent-visible text (second_so _ _ h))
+
+literal-some : (text : List ℕ) → is_literal text ≡ true → 0 < length text
+literal-some = grind arith
+
+literal-read : (text : List ℕ) (d : Number) → number_of text ≡ Ok d → is_literal text ≡ true
+literal-read = grind arith
+
+pub number-word : (d : Number) → IsDecimal d → Word (number_text d)
+number-word d h = search (rules, number-text, literal-read, literal-some, read-short, literal-visible)
+
+-- ---- the canonical lines of a well-formed model can be printed: their fields are names, numbers and words of the
+-- format
 
 -- ---- words
 
 -- by computation
 code-word : (w : List ℕ) → nat_lt 0 (length w) ≡ true → nat_le (length w) 255 ≡ true → list_all is_visible w ≡ true → Word w
-code-word w some short visible = record { some = ltb-true 0 (length w) some; short = leb-true (length w) 255 short; visible = Each-from_list_all is_visible w visible }
+code-word w some short visible =
+    record { some = ltb-true 0 (length w) some; short = leb-true (length w) 255 short; visible = Each-from_list_all is_visible w visible }
 
 name-word : (name : List ℕ) → is_mps_name name ≡ true → Word name
 name-word name h =
@@ -94,18 +324,22 @@ value-printable set row value s r v = words _ refl refl (s, (r, (number-word val
 abbrev IsCell : List ℕ × Number → Type 0
 IsCell cell = Word cell.0 × IsDecimal cell.1
 
-cells-printable : (column : List ℕ) (cells : List (List ℕ × Number)) → Word column → Each IsCell cells → AllPrintable (map (coefficient_line column) cells)
+cells-printable : (column : List ℕ) (cells : List (List ℕ × Number)) → Word column → Each IsCell cells
+    → AllPrintable (map (coefficient_line column) cells)
 cells-printable column [] c h = tt
 cells-printable column (cell ∷ cells) c h = (value-printable column cell.0 cell.1 c h.0.0 h.0.1, cells-printable column cells c h.1)
 
-cell-found : (coefficients : List (CoefficientKey × Number)) (column row : List ℕ) → Each (λ e. IsDecimal e.1) coefficients → Word row → Holds IsCell (cell_at coefficients column row)
-cell-found coefficients column row h w = by (find key_cmp (record { row = row; column = column }) coefficients) (each-found key_cmp IsDecimal _ coefficients h)
+cell-found : (coefficients : List (CoefficientKey × Number)) (column row : List ℕ) → Each (λ e. IsDecimal e.1) coefficients → Word row
+    → Holds IsCell (cell_at coefficients column row)
+cell-found coefficients column row h w =
+    by (find key_cmp (record { row = row; column = column }) coefficients) (each-found key_cmp IsDecimal _ coefficients h)
   where
     by : (o : Option Number) → Holds IsDecimal o → Holds IsCell (option_map (λ (value : Number). (row, value)) o)
     by None k = tt
     by (Some d) k = (w, k)
 
-some-cell : (objective : List ℕ) (cells : List (List ℕ × Number)) → Word objective → Each IsCell cells → Each IsCell (printed_coefficients objective cells)
+some-cell : (objective : List ℕ) (cells : List (List ℕ × Number)) → Word objective → Each IsCell cells
+    → Each IsCell (printed_coefficients objective cells)
 some-cell = grind arith
 
 -- what is needed of a listing
@@ -123,17 +357,19 @@ column-name : (column : List ℕ × Column) → is_sound_column column ≡ true 
 column-name column h = name-word column.0 (first_so _ _ h)
 
 column-printable : (m : Listing) → IsListed m → (column : List ℕ × Column) → is_sound_column column ≡ true → AllPrintable (column_lines m column)
-column-printable m h column sound =
-    let names : Each Word (m.objective ∷ map (λ row. row.0) m.rows) =
-    (name-word m.objective h.objective, Each-map Word (λ row. row.0) m.rows (Each-weaker (λ row. is_sound_row row ≡ true) (λ row. Word row.0) row-name m.rows h.rows)) in
-    let found = each-filter_map IsCell (cell_at m.coefficients column.0) (m.objective ∷ map (λ row. row.0) m.rows)
-    (Each-weaker Word (λ row. Holds IsCell (cell_at m.coefficients column.0 row)) (λ row w. cell-found m.coefficients column.0 row h.coefficients w) (m.objective ∷ map (λ row. row.0) m.rows) names) in
-    cells-printable column.0 (printed_coefficients m.objective (column_coefficients m column.0)) (column-name column sound) (some-cell m.objective (column_coefficients m column.0) (name-word m.objective h.objective) found)
+column-printable m h column sound = let names : Each Word (m.objective ∷ map (λ row. row.0) m.rows)
+    = (name-word m.objective h.objective, Each-map Word (λ row. row.0) m.rows (Each-weaker (λ row. is_sound_row row ≡ true) (λ row. Word row.0) row-name m.rows h.rows)) in
+    let found = each-filter_map IsCell (cell_at m.coefficients column.0) (m.objective ∷ map (λ row. row.0) m.rows) (Each-weaker Word
+    (λ row. Holds IsCell (cell_at m.coefficients column.0 row)) (λ row w. cell-found m.coefficients column.0 row h.coefficients w) (m.objective ∷ map (λ row. row.0) m.rows) names) in
+    cells-printable column.0 (printed_coefficients m.objective (column_coefficients m column.0)) (column-name column sound)
+    (some-cell m.objective (column_coefficients m column.0) (name-word m.objective h.objective) found)
 
-columns-printable : (m : Listing) → IsListed m → (columns : List (List ℕ × Column)) → Each (λ column. is_sound_column column ≡ true) columns → AllPrintable (flat_map (column_lines m) columns)
+columns-printable : (m : Listing) → IsListed m → (columns : List (List ℕ × Column)) → Each (λ column. is_sound_column column ≡ true) columns
+    → AllPrintable (flat_map (column_lines m) columns)
 columns-printable m h columns sound = Each-flat_map IsPrintable _ columns (Each-weaker _ _ (column-printable m h) columns sound)
 
-kept : (p : List ℕ × Column → Bool) (columns : List (List ℕ × Column)) → Each (λ column. is_sound_column column ≡ true) columns → Each (λ column. is_sound_column column ≡ true) (filter p columns)
+kept : (p : List ℕ × Column → Bool) (columns : List (List ℕ × Column)) → Each (λ column. is_sound_column column ≡ true) columns
+    → Each (λ column. is_sound_column column ≡ true) (filter p columns)
 kept p columns h = Each-filter _ p columns (Each-weaker _ _ (λ column k _. k) columns h)
 
 opening-printable : IsPrintable (marker_line opening_word)
@@ -150,7 +386,8 @@ side-printable : (row : List ℕ) (value : Number) → Word row → IsDecimal va
 side-printable = grind (arith, value-printable, code-word)
 
 row-side-printable : (row : List ℕ × Row) → is_sound_row row ≡ true → AllPrintable (row_rhs_lines row)
-row-side-printable row h = side-printable row.0 (printed_rhs row.1.lower row.1.upper) (row-name row h) (side-decimal row.1.lower row.1.upper (row_sides row h))
+row-side-printable row h =
+    side-printable row.0 (printed_rhs row.1.lower row.1.upper) (row-name row h) (side-decimal row.1.lower row.1.upper (row_sides row h))
 
 range-printable : (row : List ℕ × Row) → is_sound_row row ≡ true → AllPrintable (range_lines row)
 range-printable = grind (arith, range-decimal, row_distance, value-printable, code-word, row-name)
@@ -166,21 +403,17 @@ lower-bounds = grind arith
 upper-bounds : (kind : Kind) (upper : Limit) → is_upper_side upper ≡ true → Each IsBound (printed_upper kind upper)
 upper-bounds = grind arith
 
-all-bounds : (kind : Kind) (lower upper : Limit) → is_lower_side lower ≡ true → is_upper_side upper ≡ true → Each IsBound (printed_bounds kind lower upper)
+all-bounds : (kind : Kind) (lower upper : Limit) → is_lower_side lower ≡ true → is_upper_side upper ≡ true
+    → Each IsBound (printed_bounds kind lower upper)
 all-bounds = grind (arith, bounded_so, lower-bounds, upper-bounds)
 
 bound-printable : (column : List ℕ) (bound : PrintedBound) → Word column → IsBound bound → IsPrintable (bound_line column bound)
 bound-printable = grind (arith, words, letters-word, code-word, number-word)
 
 bounds-printable : (column : List ℕ × Column) → is_sound_column column ≡ true → AllPrintable (column_bound_lines column)
-bounds-printable column h =
-    let lower = column.1.lower in
-    let upper = column.1.upper in
-    let sides = column_sides column h in
-    let both = all-bounds column.1.kind lower upper (first_so _ _ sides)
-    (first_so _ _ (second_so _ _ sides)) in
-    Each-map IsPrintable _ _
-    (Each-weaker IsBound _ (λ bound k. bound-printable column.0 bound (column-name column h) k) _ both)
+bounds-printable column h = let lower = column.1.lower in let upper = column.1.upper in let sides = column_sides column h in
+    let both = all-bounds column.1.kind lower upper (first_so _ _ sides) (first_so _ _ (second_so _ _ sides)) in
+    Each-map IsPrintable _ _ (Each-weaker IsBound _ (λ bound k. bound-printable column.0 bound (column-name column h) k) _ both)
 
 -- ---- all lines
 
@@ -205,15 +438,13 @@ columns_section-printable m h = (
 )
 
 rhs_values-printable : (m : Listing) → IsListed m → AllPrintable (rhs_section m)
-rhs_values-printable m h =
-    under-printable Rhs (rhs_lines m.objective (negated m.constant) ++ flat_map row_rhs_lines m.rows)
-    (in-turn (rhs_lines m.objective (negated m.constant)) (flat_map row_rhs_lines m.rows)
-    (side-printable m.objective (negated m.constant) (name-word m.objective h.objective) (negated-decimal m.constant h.constant))
-    (Each-flat_map IsPrintable row_rhs_lines m.rows (Each-weaker (λ row. is_sound_row row ≡ true) (λ row. AllPrintable (row_rhs_lines row)) row-side-printable m.rows h.rows)))
+rhs_values-printable m h = under-printable Rhs (rhs_lines m.objective (negated m.constant) ++ flat_map row_rhs_lines m.rows)
+    (in-turn (rhs_lines m.objective (negated m.constant)) (flat_map row_rhs_lines m.rows) (side-printable m.objective (negated m.constant)
+    (name-word m.objective h.objective) (negated-decimal m.constant h.constant)) (Each-flat_map IsPrintable row_rhs_lines m.rows
+    (Each-weaker (λ row. is_sound_row row ≡ true) (λ row. AllPrintable (row_rhs_lines row)) row-side-printable m.rows h.rows)))
 
 ranges-printable : (m : Listing) → IsListed m → AllPrintable (ranges_section m)
-ranges-printable m h =
-    under-printable Ranges _ (Each-flat_map IsPrintable range_lines m.rows (Each-weaker _ _ range-printable m.rows h.rows))
+ranges-printable m h = under-printable Ranges _ (Each-flat_map IsPrintable range_lines m.rows (Each-weaker _ _ range-printable m.rows h.rows))
 
 bounds_section-printable : (m : Listing) → IsListed m → AllPrintable (bounds_section m)
 bounds_section-printable m h =
@@ -250,3 +481,96 @@ listed-from_sound m h =
 -- each canonical line of a well-formed model can be printed
 pub canonical-printable : (m : LinearModel) → IsSound m → AllPrintable (canonical_lines m)
 canonical-printable m h = listed-printable _ (listed-from_sound m h)
+
+-- ---- the canonical text of a well-formed model is read line by line as it was printed, up to ENDATA, its last line
+
+-- ---- only the last line is ENDATA
+
+abbrev pub lines_before_end : Listing → Lines
+lines_before_end m = header_line Name
+    ∷ (sense_lines m.sense ++ (rows_section m ++ (columns_section m ++ (rhs_section m ++ (ranges_section m ++ bounds_section m)))))
+
+lines-assoc : (xs ys zs : Lines) → (xs ++ ys) ++ zs ≡ xs ++ (ys ++ zs)
+lines-assoc [] ys zs = refl
+lines-assoc (x ∷ xs) ys zs = ap (λ more. x ∷ more) (lines-assoc xs ys zs)
+
+regroup : (a b c d e f g : Lines) → (a ++ (b ++ (c ++ (d ++ (e ++ f))))) ++ g ≡ a ++ (b ++ (c ++ (d ++ (e ++ (f ++ g)))))
+regroup = grind (arith, lines-assoc)
+
+pub lines-end : (m : Listing) → listed_lines m ≡ lines_before_end m ++ header_line EndData ∷ []
+lines-end = search (rules, regroup)
+
+abbrev pub GoesOn : PrintedLine → Type 0
+GoesOn l = begins EndData (content_in l) ≡ false
+
+abbrev AllGoOn : Lines → Type 0
+AllGoOn ls = Each GoesOn ls
+
+under-goes : (section : Section) (ls : Lines) → GoesOn (header_line section) → AllGoOn ls → AllGoOn (under_header section ls)
+under-goes = grind arith
+
+in-turn_read : (xs ys : Lines) → AllGoOn xs → AllGoOn ys → AllGoOn (xs ++ ys)
+in-turn_read xs ys h k = Each-append GoesOn xs ys h k
+
+mapped-go : {X : Type 0} (f : X → PrintedLine) → ((x : X) → GoesOn (f x)) → (xs : List X) → AllGoOn (map f xs)
+mapped-go f h xs = Each-map GoesOn f xs (Each-all _ h xs)
+
+flat-go : {X : Type 0} (f : X → Lines) → ((x : X) → AllGoOn (f x)) → (xs : List X) → AllGoOn (flat_map f xs)
+flat-go f h xs = Each-flat_map GoesOn f xs (Each-all _ h xs)
+
+sense-go : (sense : Sense) → AllGoOn (sense_lines sense)
+sense-go = grind arith
+
+part-go : (ls : Lines) → AllGoOn ls → AllGoOn (integer_part ls)
+part-go = grind (arith, in-turn_read)
+
+columns-go : (m : Listing) (columns : List (List ℕ × Column)) → AllGoOn (flat_map (column_lines m) columns)
+columns-go = grind (arith, flat-go, mapped-go)
+
+side-go : (row : List ℕ) (value : Number) → AllGoOn (rhs_lines row value)
+side-go = grind arith
+
+range-go : (row : List ℕ × Row) → AllGoOn (range_lines row)
+range-go = grind arith
+
+bounds-go : (column : List ℕ × Column) → AllGoOn (column_bound_lines column)
+bounds-go = grind arith
+
+pub before-go : (m : Listing) → AllGoOn (lines_before_end m)
+before-go = grind (arith, in-turn_read, sense-go, mapped-go, columns-go, part-go, under-goes, side-go, flat-go, range-go, bounds-go)
+
+-- ---- so all lines are read
+
+not_end : (l : PrintedLine) → IsPrintable l → GoesOn l → is_end (line_text l) ≡ false
+not_end = grind (arith, item-line_text)
+
+all-read : (ls : Lines) (last : PrintedLine) → Each IsPrintable ls → IsPrintable last → AllGoOn ls → begins EndData (content_in last) ≡ true
+    → (take (suc (position_or_len is_end (map line_text (ls ++ last ∷ [])))) (map line_text (ls ++ last ∷ []))
+    ≡ map line_text (ls ++ last ∷ [])) × (list_any is_end (map line_text (ls ++ last ∷ [])) ≡ true)
+all-read [] last h p g e = grind (arith, item-line_text)
+all-read (l ∷ ls) last h p g e = let more = all-read ls last h.1 p g.1 e in let here : is_end (line_text l) ≡ false = not_end l h.0 g.0 in
+    let next : (n : ℕ) → 1 + n ≡ suc n = λ n. omega arith in
+    (rw (here, next (position_or_len is_end (map line_text (ls ++ last ∷ [])))) (ap (λ (x : List (List ℕ)). line_text l ∷ x) more.0), rw here more.1)
+
+each-parts : (xs ys : Lines) → Each IsPrintable (xs ++ ys) → Each IsPrintable xs × Each IsPrintable ys
+each-parts [] ys h = (tt, h)
+each-parts (x ∷ xs) ys h = grind (arith, each-parts xs ys h.1)
+
+abbrev up_to_end : List (List ℕ) → List (List ℕ)
+up_to_end ls = take (suc (position_or_len is_end ls)) ls
+
+pub read-as-line_text : AreReadAsPrinted
+read-as-line_text m sound =
+    let before = lines_before_end (listing_of m) in
+    let ending : Lines = header_line EndData ∷ [] in
+    let printable = canonical-printable m sound in
+    let whole : canonical_lines m ≡ before ++ ending = lines-end (listing_of m) in
+    let cut : lines (canonical_mps m) ≡ map line_text (canonical_lines m) = lines-text (canonical_lines m) printable in
+    let parts = each-parts before ending (subst (λ (ls : Lines). Each IsPrintable ls) whole printable) in
+    let read = all-read before (header_line EndData) parts.0 parts.1.0 (before-go (listing_of m)) refl in
+    record {
+      lines = ap up_to_end cut ∙ subst (λ (ls : Lines). up_to_end (map line_text ls) ≡ map line_text ls) (sym whole) read.0;
+      legal = legal-lines (canonical_lines m) printable;
+      items = items-line_text (canonical_lines m) printable;
+      end = ap (list_any is_end) cut ∙ subst (λ (ls : Lines). list_any is_end (map line_text ls) ≡ true) (sym whole) read.1;
+    }

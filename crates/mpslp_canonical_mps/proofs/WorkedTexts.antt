@@ -1,11 +1,11 @@
 -- The canonical texts of worked files, by computation.
 use Rattle.mpslp_canonical_mps.proofs.Prelude
-use Prelude.{refl, codes, Each}
-use Rattle.std.specs.{Fmt.{digits}, Prelude.{ℕ, List, ◌∷◌, [], take, drop, ◌++◌, map}, Str.Lines.{lines}}
-use Prim.Native.String.{String}
-use Rattle.mpslp_mps.proofs.WorkedFiles.{text}
+use Prelude.{refl, codes, Each, lines}
+use Rattle.std.specs.{Fmt.digits, Prelude.{ℕ, List, ◌∷◌, [], take, drop, ◌++◌, map}}
 use Rattle.mpslp_decimal.specs.Decimal.{trailing_zeros}
+use Rattle.mpslp_mps.proofs.WorkedFiles.{text}
 use Rattle.mpslp_canonical_mps.proofs.DraftText.{IsPrinted, each-printed}
+use Prim.Native.String.{String}
 use Rattle.mpslp_mps.proofs.WorkedFiles as files
 
 -- the lines of a text
@@ -13,23 +13,19 @@ abbrev lines_of : String → List (List ℕ)
 lines_of s = lines (codes s)
 
 abbrev ranges_lines : List (List ℕ)
-ranges_lines =
-    lines_of "NAME\nROWS\n N  C\n G  E1\n G  E2\n E  E3\n G  G1\n G  L1\nCOLUMNS\n    X  E1  1\n    X  E2  1"
-    ++ lines_of "    X  E3  1\n    X  G1  1\n    X  L1  1\nRHS\n    RHS  E1  10\n    RHS  E2  7\n    RHS  E3  10"
-    ++ lines_of "    RHS  G1  10\n    RHS  L1  8\nRANGES\n    RNG  E1  3\n    RNG  E2  3\n    RNG  G1  2\n    RNG  L1  2"
-    ++ lines_of "ENDATA"
+ranges_lines = lines_of "NAME\nROWS\n N  C\n G  E1\n G  E2\n E  E3\n G  G1\n G  L1\nCOLUMNS\n    X  E1  1\n    X  E2  1"
+    ++ lines_of "    X  E3  1\n    X  G1  1\n    X  L1  1\nRHS\n    RHS  E1  10\n    RHS  E2  7\n    RHS  E3  10" ++ lines_of
+    "    RHS  G1  10\n    RHS  L1  8\nRANGES\n    RNG  E1  3\n    RNG  E2  3\n    RNG  G1  2\n    RNG  L1  2" ++ lines_of "ENDATA"
 
 abbrev unit_integer_lines : List (List ℕ)
-unit_integer_lines =
-    lines_of "NAME\nROWS\n N  C\nCOLUMNS\n    MARKER  'MARKER'  'INTORG'\n    X  C  1\n    MARKER  'MARKER'  'INTEND'"
+unit_integer_lines = lines_of "NAME\nROWS\n N  C\nCOLUMNS\n    MARKER  'MARKER'  'INTORG'\n    X  C  1\n    MARKER  'MARKER'  'INTEND'"
     ++ lines_of "BOUNDS\n UP  BND  X  1\nENDATA"
 
 abbrev one_column : List (List ℕ)
 one_column = lines_of "NAME\nROWS\n N  C\nCOLUMNS\n    X  C  1"
 
 abbrev usual_layout_lines : List (List ℕ)
-usual_layout_lines =
-    lines_of "NAME\nROWS\n N  COST\n E  BAL\n G  DEM\nCOLUMNS\n    B  COST  1\n    B  BAL  -1"
+usual_layout_lines = lines_of "NAME\nROWS\n N  COST\n E  BAL\n G  DEM\nCOLUMNS\n    B  COST  1\n    B  BAL  -1"
     ++ lines_of "    MARKER  'MARKER'  'INTORG'\n    A  COST  3\n    A  BAL  1\n    A  DEM  1"
     ++ lines_of "    MARKER  'MARKER'  'INTEND'\nRHS\n    RHS  DEM  2.5\nBOUNDS\n UP  BND  A  10\n UP  BND  B  4\nENDATA"
 
@@ -41,13 +37,11 @@ named_objective_lines = lines_of "NAME\nROWS\n N  S\n N  C\n L  R\nCOLUMNS\n    
 -- ---- semi-continuous columns
 
 abbrev semi_file : String → List ℕ
-semi_file bounds =
-    text (lines_of "NAME\nROWS\n N  C\nCOLUMNS\n    MARKER  'MARKER'  'INTORG'\n    X  C  1\n    MARKER  'MARKER'  'INTEND'"
+semi_file bounds = text (lines_of "NAME\nROWS\n N  C\nCOLUMNS\n    MARKER  'MARKER'  'INTORG'\n    X  C  1\n    MARKER  'MARKER'  'INTEND'"
     ++ lines_of "    Y  C  1\nBOUNDS" ++ lines_of bounds ++ lines_of "ENDATA")
 
 abbrev semi_text : String → List ℕ
-semi_text bounds =
-    text (lines_of "NAME\nROWS\n N  C\nCOLUMNS\n    Y  C  1\n    MARKER  'MARKER'  'INTORG'\n    X  C  1"
+semi_text bounds = text (lines_of "NAME\nROWS\n N  C\nCOLUMNS\n    Y  C  1\n    MARKER  'MARKER'  'INTORG'\n    X  C  1"
     ++ lines_of "    MARKER  'MARKER'  'INTEND'\nBOUNDS\n UP  BND  X  1" ++ lines_of bounds ++ lines_of "ENDATA")
 
 -- only an upper bound: the column is before the integer ones

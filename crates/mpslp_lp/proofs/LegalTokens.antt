@@ -5,7 +5,7 @@ use Prelude.{both_so, first_so, second_so, Option, Some, None, is_some, ◌&&◌
 use Prelude.{eqb-true, is_letter, is_lp_symbol, same_bytes, is_legal_byte, is_blank, begins_comment, is_period, begins_word, continues_word}
 use Prelude.{is_word, is_number, one_byte_operators, two_byte_operators, operator_kind, kind_of, Front, longest_within, longest_token}
 use Prelude.{token_at, Token, tokens_from, tokens, has_legal_bytes, is_known, front-kind, TokenKind}
-use Rattle.mpslp_builder.proofs.CoefficientLemmas.{same_bytes-true}
+use Rattle.mpslp_builder.proofs.SlotLemmas.{same_bytes-true}
 use Rattle.mpslp_types.proofs.BoolLemmas.{not_so}
 use Rattle.mpslp_decimal.proofs.GrammarLemmas.{before-here, before-past}
 use Rattle.mpslp_decimal.specs.Literal.{is_digit, is_point, is_sign, is_exponent_mark}

@@ -7,7 +7,7 @@ use Prelude.{model_of, file_fault, FaultKind, list_all, are_given, is_legal, is_
 use Prelude.{Refused, Open, start, fault_on_line, text_says, text_declares, lexical_fault, numbered_lines, sound_terminals, first_own_fault}
 use Prelude.{or_else, lines_say, outcome, is_finished, declarations_of, DeclaresLp, fault_of, first_lp_fault, has_lp_name, DeclareLpNames}
 use Prelude.{DeclareOrFail, DeclareUnlessFaulty, objective-declared}
-use Rattle.mpslp_builder.proofs.NoFaultFromMeaning.{no_fault-from_means}
+use Rattle.mpslp_builder.proofs.MeaningFromNoFault.{no_fault-from_means}
 use Rattle.mpslp_lp.proofs.{PhraseFacts.{is_lp_legal, legal-from_lp}, SoundTokens.{text-sound}}
 use Rattle.mpslp_lp.proofs.TextFacts.{IsDraftAtEnd, IsFineText, text-fine}
 use Rattle.mpslp_types.proofs.EachLemmas.{imp_all}

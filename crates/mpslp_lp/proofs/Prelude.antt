@@ -1,5 +1,5 @@
 -- The names that the proofs of this crate use of the logic, of std, of the crates below and of `specs/`.
-pub use Rattle.mpslp_builder.proofs.Acceptance.{means-from_none}
+pub use Rattle.mpslp_builder.proofs.MeaningFromNoFault.{means-from_none}
 pub use Rattle.mpslp_builder.proofs.MadeDrafts.{refusals_in_turn-append, bounds-in_turn, with_declarations-append}
 pub use Rattle.mpslp_builder.proofs.RefusalLemmas.{join_none}
 pub use Rattle.mpslp_builder.specs.Declaration.{Declarations, Draft, Declaration, declare_sense, declare_objective, declare_constant}

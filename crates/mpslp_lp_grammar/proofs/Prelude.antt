@@ -1,5 +1,5 @@
 -- The names that the proofs of this crate use of the logic, of std, of the crates below and of `specs/`.
-pub use Rattle.mpslp_builder.proofs.{MadeDrafts.{with_declarations-append, refusals_in_turn-append}, SortedDrafts.{sorted-from_made}}
+pub use Rattle.mpslp_builder.proofs.{MadeDrafts.{with_declarations-append, refusals_in_turn-append}, DraftEntries.sorted-from_made}
 pub use Rattle.mpslp_builder.specs.Declaration.{Declaration, declare_row, RowDefinition, Declarations, Draft, with_declaration}
 pub use Rattle.mpslp_builder.specs.Declaration.{with_declarations, bounds_declared, has_name, is_objective, have_infinite_side}
 pub use Rattle.mpslp_builder.specs.Declaration.{declare_constant, declare_integer, declare_binary, declare_semi, declare_column, has_column}

@@ -18,9 +18,9 @@ pub use Rattle.mpslp_types.specs.declared.faults.FaultKind.TheVariants.{MixedSen
 pub use Rattle.mpslp_types.specs.declared.faults.FaultKind.TheVariants.{DuplicateRow, SectionOrder, SectionRepeated}
 pub use Rattle.mpslp_types.specs.{declared.kinds.Limit.{Limit}, declared.kinds.Limit.TheVariants.{MinusInf, PlusInf, Finite}}
 pub use Rattle.mpslp_types.specs.{declared.kinds.Sense.{Sense}, declared.kinds.Sense.TheVariants.{Minimize, Maximize}}
-pub use Rattle.mpslp_builder.proofs.{LaterDrafts.{itself_named}, MadeDrafts.{with_declarations-append}}
+pub use Rattle.mpslp_builder.proofs.{SlotLemmas.itself_named, MadeDrafts.with_declarations-append}
 pub use Rattle.mpslp_builder.proofs.SlotLemmas.{has-put, same_name, has-put_key}
-pub use Rattle.mpslp_builder.proofs.SortedDrafts.{IsSortedDraft, sorted-draft_of, sorted-with_declarations}
+pub use Rattle.mpslp_builder.proofs.DraftEntries.{IsSortedDraft, sorted-draft_of, sorted-with_declarations}
 pub use Rattle.mpslp_builder.specs.Declaration.{Declaration, Declarations, Draft, declare_column, bounds_declared, with_declarations}
 pub use Rattle.mpslp_builder.specs.Declaration.{with_declaration, declare_constant, declare_rhs, declare_lower, declare_upper}
 pub use Rattle.mpslp_builder.specs.Declaration.{declare_marked, declare_integer, declare_binary, declare_semi, has_name, has_column}

@@ -2,8 +2,8 @@
 use Rattle.std.{proofs.Common.{◌≡◌, Bool, true, false, arith}, specs.{Prelude.{Option, Some, ◌||◌}, Cmp.int_cmp_total}}
 use Rattle.mpslp_decimal.specs.Decimal.{Number, zero_number, difference_of}
 use Rattle.mpslp_types.specs.{Limit.limit_of, declared.kinds.Limit.{Limit, TheVariants.{MinusInf, PlusInf}}}
-use Rattle.mpslp_model_core.specs.{Model.Row, Limits.{RowDefinition, has_infinite_rhs}, RowForms.is_plain, WrongParts.is_inexact}
-use Rattle.mpslp_model_core.specs.WrongParts.{is_too_large, is_crossed, is_large_limit, is_faulty_row}
+use Rattle.mpslp_model_core.specs.{Model.Row, Limits.{RowDefinition, has_infinite_rhs}, RowForms.is_plain}
+use Rattle.mpslp_model_core.specs.WrongParts.{is_inexact, is_too_large, is_crossed, is_large_limit, is_faulty_row}
 
 given_small : (b : Number) → is_large_limit (limit_of b) ≡ false
 given_small = grind arith
@@ -27,5 +27,6 @@ both_same = grind (arith, difference_itself, int_cmp_total)
 or_false : (b : Bool) → b ≡ (b || false)
 or_false = grind arith
 
-pub plain_faulty : (definition : RowDefinition) (b : Number) (r : Option Number) → is_plain definition r ≡ true → has_infinite_rhs definition b r ≡ is_faulty_row definition b r
+pub plain_faulty : (definition : RowDefinition) (b : Number) (r : Option Number) → is_plain definition r ≡ true
+    → has_infinite_rhs definition b r ≡ is_faulty_row definition b r
 plain_faulty = grind (arith, or_false, only_upper, given_small, only_lower, both_same)

@@ -21,8 +21,7 @@ of_name kind name = Some (whole_fault kind (Some (codes name)))
 -- ---- a file of 13 lines, and changes of it
 
 abbrev base : List (List ℕ)
-base = lines_of "NAME\nROWS\n N  C\n L  R\nCOLUMNS\n    X  C  1\n    X  R  1\n    Y  C  1\nRHS\n    A  R  1\nBOUNDS"
-    ++ lines_of " UP  B  X  4\nENDATA"
+base = lines_of "NAME\nROWS\n N  C\n L  R\nCOLUMNS\n    X  C  1\n    X  R  1\n    Y  C  1\nRHS\n    A  R  1\nBOUNDS" ++ lines_of " UP  B  X  4\nENDATA"
 
 -- the line with this number, counted from 1, is replaced
 abbrev with_line : ℕ → String → List ℕ
@@ -75,18 +74,16 @@ abbrev with_bounds : String → List ℕ
 with_bounds bounds = text (lines_of "ROWS\n N C\nCOLUMNS\n X C 1\nBOUNDS" ++ (lines_of bounds ++ lines_of "ENDATA"))
 
 abbrev bounded_files : List (List ℕ × Option Fault)
-bounded_files =
-    (with_bounds " UP B X -1", of_name NegativeUpper "X") ∷ (with_bounds " UP B X -1\n LO B X 0", of_name BoundsCrossed "X") ∷
-    (with_bounds " FX B X 1e20", on_line 6 InfiniteValue) ∷ (with_bounds " UP B X -1\n MI B X", None) ∷ []
+bounded_files = (with_bounds " UP B X -1", of_name NegativeUpper "X") ∷ (with_bounds " UP B X -1\n LO B X 0", of_name BoundsCrossed "X")
+    ∷ (with_bounds " FX B X 1e20", on_line 6 InfiniteValue) ∷ (with_bounds " UP B X -1\n MI B X", None) ∷ []
 
 -- ---- semi-continuous columns
 
 abbrev semi_continuous_files : List (List ℕ × Option Fault)
-semi_continuous_files =
-    (with_bounds " SC B X 0", of_name SemiBounds "X") ∷ (with_bounds " SC B X 1e20", of_name SemiBounds "X") ∷
-    (with_bounds " SC B X -1", of_name NegativeUpper "X") ∷ (with_bounds " SC B X 4\n LO B X -1", of_name SemiBounds "X") ∷
-    (with_bounds " SC B X 4\n MI B X", of_name SemiBounds "X") ∷ (with_bounds " SC B X 4\n LO B X 5", of_name BoundsCrossed "X") ∷
-    (with_bounds " SC B X 4\n UP B X 4", on_line 7 DuplicateBound) ∷ []
+semi_continuous_files = (with_bounds " SC B X 0", of_name SemiBounds "X") ∷ (with_bounds " SC B X 1e20", of_name SemiBounds "X")
+    ∷ (with_bounds " SC B X -1", of_name NegativeUpper "X") ∷ (with_bounds " SC B X 4\n LO B X -1", of_name SemiBounds "X")
+    ∷ (with_bounds " SC B X 4\n MI B X", of_name SemiBounds "X") ∷ (with_bounds " SC B X 4\n LO B X 5", of_name BoundsCrossed "X")
+    ∷ (with_bounds " SC B X 4\n UP B X 4", on_line 7 DuplicateBound) ∷ []
 
 -- ---- infinite right-hand sides and large ranges
 
@@ -95,9 +92,8 @@ with_sides sides = text (lines_of "NAME          SMALL\nROWS\n N  COST\n L  LIM1
     ++ lines_of "    Y  COST  2  MYG  1.50\nRHS" ++ (lines_of sides ++ lines_of "ENDATA"))
 
 abbrev files_with_sides : List (List ℕ × Option Fault)
-files_with_sides =
-    (with_sides "    RHS  LIM1  -1e20  MYG  1", of_name InfiniteLimit "LIM1") ∷ (with_sides "    RHS  LIM1  1e20  MYG  1", None) ∷
-    (with_sides "    RHS  LIM1  4  MYG  9e19\nRANGES\n    R  MYG  9e19", of_name LimitTooLarge "MYG") ∷ []
+files_with_sides = (with_sides "    RHS  LIM1  -1e20  MYG  1", of_name InfiniteLimit "LIM1") ∷ (with_sides "    RHS  LIM1  1e20  MYG  1", None)
+    ∷ (with_sides "    RHS  LIM1  4  MYG  9e19\nRANGES\n    R  MYG  9e19", of_name LimitTooLarge "MYG") ∷ []
 
 -- ---- an objective named by OBJNAME
 
@@ -105,17 +101,16 @@ abbrev objective_lines : String → List ℕ
 objective_lines names = text (codes "NAME" ∷ (lines_of names ++ lines_of "ROWS\n N  C\n L  R\n N  S\nCOLUMNS\n    X  C  1  R  1\n    X  S  2\nENDATA"))
 
 abbrev files_with_objectives : List (List ℕ × Option Fault)
-files_with_objectives =
-    (objective_lines "OBJNAME R", on_line 7 UnknownRow) ∷ (objective_lines "OBJNAME\n    Q", on_line 8 UnknownRow) ∷
-    (objective_lines "OBJNAME", on_line 3 SectionOrder) ∷ (objective_lines "OBJNAME\nOBJSENSE MAX", on_line 3 SectionOrder) ∷
-    (objective_lines "OBJNAME\nOBJNAME S", on_line 3 SectionOrder) ∷ (objective_lines "OBJSENSE\nOBJNAME S", on_line 3 SectionOrder) ∷
-    (objective_lines "OBJNAME S\n    C", on_line 3 SectionOrder) ∷ (objective_lines "OBJNAME S\nOBJNAME C", on_line 3 SectionRepeated) ∷
-    (codes "ROWS\n N  C\nOBJNAME C\nCOLUMNS\n    X  C  1\nENDATA\n", on_line 3 SectionOrder) ∷
-    (codes "OBJNAME C\nROWS\n N  C\nOBJNAME C\n", on_line 4 SectionRepeated) ∷ (codes "OBJNAME C\nNAME\n", on_line 2 SectionOrder) ∷
-    (objective_lines "OBJNAME S C", on_line 2 FieldCount) ∷ (objective_lines "OBJNAME\n    S C", on_line 3 FieldCount) ∷
-    (codes "OBJNAME obj\nROWS\n L  R\nCOLUMNS\n    X  R  1\nENDATA\n", on_line 4 UnknownRow) ∷
-    (codes "OBJNAME S\nROWS\n L  obj\nCOLUMNS\n    X  obj  1\nENDATA\n", on_line 4 UnknownRow) ∷
-    (codes "OBJNAME S\nROWS\nCOLUMNS X\n", on_line 3 FieldCount) ∷ (codes "OBJNAME S\nROWS\n N  S\n N  S\n", on_line 4 DuplicateRow) ∷ []
+files_with_objectives = (objective_lines "OBJNAME R", on_line 7 UnknownRow) ∷ (objective_lines "OBJNAME\n    Q", on_line 8 UnknownRow)
+    ∷ (objective_lines "OBJNAME", on_line 3 SectionOrder) ∷ (objective_lines "OBJNAME\nOBJSENSE MAX", on_line 3 SectionOrder)
+    ∷ (objective_lines "OBJNAME\nOBJNAME S", on_line 3 SectionOrder) ∷ (objective_lines "OBJSENSE\nOBJNAME S", on_line 3 SectionOrder)
+    ∷ (objective_lines "OBJNAME S\n    C", on_line 3 SectionOrder) ∷ (objective_lines "OBJNAME S\nOBJNAME C", on_line 3 SectionRepeated)
+    ∷ (codes "ROWS\n N  C\nOBJNAME C\nCOLUMNS\n    X  C  1\nENDATA\n", on_line 3 SectionOrder)
+    ∷ (codes "OBJNAME C\nROWS\n N  C\nOBJNAME C\n", on_line 4 SectionRepeated) ∷ (codes "OBJNAME C\nNAME\n", on_line 2 SectionOrder)
+    ∷ (objective_lines "OBJNAME S C", on_line 2 FieldCount) ∷ (objective_lines "OBJNAME\n    S C", on_line 3 FieldCount)
+    ∷ (codes "OBJNAME obj\nROWS\n L  R\nCOLUMNS\n    X  R  1\nENDATA\n", on_line 4 UnknownRow)
+    ∷ (codes "OBJNAME S\nROWS\n L  obj\nCOLUMNS\n    X  obj  1\nENDATA\n", on_line 4 UnknownRow)
+    ∷ (codes "OBJNAME S\nROWS\nCOLUMNS X\n", on_line 3 FieldCount) ∷ (codes "OBJNAME S\nROWS\n N  S\n N  S\n", on_line 4 DuplicateRow) ∷ []
 
 -- ---- all of them
 

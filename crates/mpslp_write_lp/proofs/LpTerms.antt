@@ -7,9 +7,9 @@ use Prelude.{get_or_from_slice_get, Number, is_zero, zero_number, LinearModel, C
 use Prelude.{listing_of, num_columns, column_name, coefficient_at, column_elements, has_coefficient, row_columns, Lines, Term, term_line}
 use Prelude.{some_term, term_lines, row_term_lines, numbered_term_lines, has_lines, coefficient-not_zero, named-lines, flat_map-all}
 use Prelude.{flat_map-kept, flat_map-numbers}
-use Rattle.mpslp_builder.proofs.{DraftEntries.{same_key}, SlotLemmas.{same_name}, SortedDrafts.{key_total}}
-use Rattle.mpslp_canonical_mps.proofs.CoefficientMap.{place_at}
-use Rattle.mpslp_model_core.proofs.PutsLemmas.{equal_from}
+use Rattle.mpslp_builder.proofs.{DraftEntries.{same_key, key_total_sorted as key_total}, SlotLemmas.same_name}
+use Rattle.mpslp_canonical_mps.proofs.DraftMaps.{place_at}
+use Rattle.mpslp_model_core.proofs.CellLemmas.{equal_from}
 use Rattle.mpslp_types.proofs.BoolLemmas.{or_left, or_right, both_false}
 use Rattle.mpslp_types.specs.Name.{same_bytes}
 use Rattle.std.proofs.{lemmas.List.Elements.{All-filter, filter_passes}, lemmas.List.FromFn.{length-range_with_len, get_or-range_with_len}}

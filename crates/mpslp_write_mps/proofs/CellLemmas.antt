@@ -19,12 +19,12 @@ use Rattle.mpslp_types.proofs.BoolLemmas.{both_so, T_from, true_from}
 use Rattle.mpslp_types.proofs.EachLemmas.{Each, Each-filter, Each-all}
 use Rattle.mpslp_builder.proofs.DraftEntries.{same_key}
 use Rattle.mpslp_builder.proofs.SlotLemmas.{same_name}
-use Rattle.mpslp_builder.proofs.SortedDrafts.{bytes_total, key_total, tied_names}
+use Rattle.mpslp_builder.proofs.DraftEntries.{bytes_total, key_total_sorted as key_total, tied_names}
 use Rattle.mpslp_canonical_mps.specs.CanonicalMps.{cell_at, column_coefficients}
 use Rattle.mpslp_builder.proofs.EntryLemmas.{found-each}
-use Rattle.mpslp_canonical_mps.proofs.CoefficientMap.{place_at}
+use Rattle.mpslp_canonical_mps.proofs.DraftMaps.{place_at}
 use Rattle.mpslp_canonical_mps.proofs.DraftMaps.{is_sound_entry, IsSoundListing}
-use Rattle.mpslp_canonical_mps.proofs.ListingFacts.{sound-listing}
+use Rattle.mpslp_canonical_mps.proofs.DraftMaps.{sound-listing}
 
 -- ---- two keys of one column compare as their rows do, whichever comes first in the order of keys
 

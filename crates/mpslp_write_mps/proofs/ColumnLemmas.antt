@@ -17,7 +17,7 @@ use Rattle.mpslp_types.specs.declared.kinds.Limit.{Limit}
 use Rattle.mpslp_types.proofs.BoolLemmas.{not_so}
 use Rattle.mpslp_builder.proofs.DraftEntries.{same_key}
 use Rattle.mpslp_builder.proofs.SlotLemmas.{same_name}
-use Rattle.mpslp_builder.proofs.SortedDrafts.{key_total}
+use Rattle.mpslp_builder.proofs.DraftEntries.{key_total_sorted as key_total}
 use Rattle.mpslp_canonical_mps.specs.CanonicalMps.{Lines, bound_line, column_bound_lines, coefficient_line, column_coefficients, printed_coefficients, is_integer_column}
 use Rattle.mpslp_output.specs.LinesAt.{lines_at}
 use Rattle.mpslp_write_mps.specs.MpsLinesAt.{is_wanted, of_part, element_lines, objective_line_at, objective_lines}
@@ -25,9 +25,9 @@ use Rattle.mpslp_write_mps.specs.declared.mps.columns.Part.{Part}
 use Rattle.mpslp_canonical_mps.specs.PrintedValues.{PrintedBound, printed_bounds}
 use Rattle.mpslp_output.proofs.LinesAtLemmas.{both_seen, lines_seen}
 use Rattle.mpslp_builder.proofs.EntryLemmas.{found-each}
-use Rattle.mpslp_canonical_mps.proofs.CoefficientMap.{place_at}
+use Rattle.mpslp_canonical_mps.proofs.DraftMaps.{place_at}
 use Rattle.mpslp_canonical_mps.proofs.DraftMaps.{is_sound_entry}
-use Rattle.mpslp_canonical_mps.proofs.ListingFacts.{sound-listing}
+use Rattle.mpslp_canonical_mps.proofs.DraftMaps.{sound-listing}
 use Rattle.mpslp_write_mps.proofs.CellLemmas.{by_row, column-cells}
 
 -- ---- the column with a number

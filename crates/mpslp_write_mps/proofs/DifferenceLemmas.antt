@@ -6,7 +6,7 @@ use Rattle.std.specs.Cmp.{int_cmp_is}
 use Rattle.std.specs.FinMap.{int_cmp-IsAntisymmetric}
 use Rattle.std.specs.declared.cmp.Ordering.TheVariants.{Equal}
 use Rattle.std.proofs.lemmas.Int.{ints}
-use Rattle.mpslp_model_core.proofs.PutsLemmas.{equal_from}
+use Rattle.mpslp_model_core.proofs.CellLemmas.{equal_from}
 use Rattle.mpslp_decimal.specs.Decimal.{Number, is_zero, height, scaled, negated, difference_of, have_same_value}
 use Rattle.mpslp_decimal.proofs.NormalLemmas.{pow_positive, zero_mantissa}
 use Rattle.mpslp_decimal.proofs.ScaleLemmas.{signed_times, negated_scaled}

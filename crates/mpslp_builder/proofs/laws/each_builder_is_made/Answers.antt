@@ -1,4 +1,4 @@
-use Rattle.mpslp_builder.proofs.AnswerLemmas.{made_now}
+use Rattle.mpslp_builder.proofs.MadeDrafts.{made_now}
 use Rattle.mpslp_builder.proofs.laws.each_builder_is_made.Goals as goal
 
 pub returns : goal.returns

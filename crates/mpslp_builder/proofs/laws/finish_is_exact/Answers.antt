@@ -1,5 +1,4 @@
-use Rattle.mpslp_builder.specs.Meaning.{model_of}
-use Rattle.mpslp_builder.proofs.MadeDrafts.{meant-from_made, no_fault-from_made}
+use Rattle.mpslp_builder.proofs.{Prelude.model_of, MadeDrafts.{meant-from_made, no_fault-from_made}}
 use Rattle.mpslp_builder.proofs.laws.finish_is_exact.Goals as goal
 
 pub returns : goal.returns

@@ -1,6 +1,6 @@
 use Rattle.std.proofs.Common.{ap, ◌∙◌, subst, length, List, ℕ}
 use Rattle.mpslp_decimal.specs.Decimal.{Number}
-use Rattle.mpslp_c.{specs.Arrays.{RepresentsName, RepresentsNumber, sense_number}, proofs.{ArrayLemmas.rows_kept, CountLemmas.all_counted}}
+use Rattle.mpslp_c.{specs.Arrays.{RepresentsName, RepresentsNumber, sense_number}, proofs.{KnownLemmas.rows_kept, StatedDraft.all_counted}}
 use Rattle.mpslp_c.proofs.arrays.c_model.Goals as goal
 
 pub returns : goal.returns
@@ -10,7 +10,8 @@ returns c =
     let kept = c.c_columns.ensures.keeps in
     let objective : RepresentsName c.c_columns.new.names.items m.objective c.in_ok-objective.objective =
     subst (λ (name : List ℕ). RepresentsName c.c_columns.new.names.items name c.in_ok-objective.objective) c.objective_name.ensures
-    (kept c.objective_name.result.now c.in_ok-objective.objective (c.c_rows.ensures.keeps c.objective_name.result.now c.in_ok-objective.objective named)) in
+    (kept c.objective_name.result.now c.in_ok-objective.objective
+    (c.c_rows.ensures.keeps c.objective_name.result.now c.in_ok-objective.objective named)) in
     record {
       num_rows = ap length c.leak-2.ensures.value ∙ c.in_ok-rows.ensures.count;
       num_columns = ap length c.leak-3.ensures.value ∙ c.in_ok-columns.ensures.count;

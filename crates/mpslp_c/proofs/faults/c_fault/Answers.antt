@@ -1,5 +1,5 @@
-use Rattle.std.{proofs.{Common.{◌≡◌, ◌++◌, ◌-◌, ◌∙◌, sym, ap, refl, length, []}, lemmas.List.drop-replicate}, specs.Prelude.replicate}
-use Rattle.std.specs.Prelude.{unwrap_or}
+use Rattle.std.proofs.{Common.{◌≡◌, ◌++◌, ◌-◌, ◌∙◌, sym, ap, refl, length, []}, lemmas.List.drop-replicate}
+use Rattle.std.specs.Prelude.{replicate, unwrap_or}
 use Rattle.mpslp_c.proofs.faults.c_fault.Goals as goal
 
 pub returns-in-Some : goal.returns-in-Some
@@ -12,5 +12,6 @@ returns-in-Some c =
       place_is = refl;
       number_is = refl;
       length_is = c.put_name.ensures.len ∙ ap length (sym named);
-      name_is = c.put_name.ensures.bytes ∙ (ap (λ rest. name ++ rest) (drop-replicate (length name) 256 0) ∙ ap (λ n. n ++ replicate (256 - length n) 0) (sym named));
+      name_is = c.put_name.ensures.bytes
+          ∙ (ap (λ rest. name ++ rest) (drop-replicate (length name) 256 0) ∙ ap (λ n. n ++ replicate (256 - length n) 0) (sym named));
     }

@@ -1,5 +1,5 @@
 use Rattle.std.specs.Prelude.{drop}
-use Rattle.mpslp_c.{specs.Stored.column_items, proofs.StepLemmas.Leads}
+use Rattle.mpslp_c.{specs.Stored.column_items, proofs.KnownLemmas.Leads}
 use Rattle.mpslp_c.proofs.storing.declare_columns.Given as goal
 
 -- the columns before `j` and their elements are declared

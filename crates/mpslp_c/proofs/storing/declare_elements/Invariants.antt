@@ -1,5 +1,5 @@
 use Rattle.std.specs.Prelude.{slice_range}
-use Rattle.mpslp_c.{specs.Stored.element_items, proofs.StepLemmas.Leads}
+use Rattle.mpslp_c.{specs.Stored.element_items, proofs.KnownLemmas.Leads}
 use Rattle.mpslp_c.proofs.storing.declare_elements.Given as goal
 
 -- the elements before `k` are declared

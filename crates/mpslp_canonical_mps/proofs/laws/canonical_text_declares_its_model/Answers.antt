@@ -1,4 +1,4 @@
-use Rattle.mpslp_canonical_mps.proofs.CanonicalDeclares.{canonical-declares}
+use Rattle.mpslp_canonical_mps.proofs.MpsFormat.{canonical-declares}
 use Rattle.mpslp_canonical_mps.proofs.laws.canonical_text_declares_its_model.Goals as goal
 
 pub returns : goal.returns

@@ -1,4 +1,4 @@
-use Rattle.mpslp_canonical_mps.proofs.DerivedLines.{columns-derived}
+use Rattle.mpslp_canonical_mps.proofs.WholeWalk.{columns-derived}
 use Rattle.mpslp_canonical_mps.proofs.laws.column_lines_are_derived.Goals as goal
 
 pub returns : goal.returns

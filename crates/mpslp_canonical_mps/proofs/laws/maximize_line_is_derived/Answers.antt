@@ -1,4 +1,4 @@
-use Rattle.mpslp_canonical_mps.proofs.DerivedLines.{sense-derived}
+use Rattle.mpslp_canonical_mps.proofs.WholeWalk.{sense-derived}
 use Rattle.mpslp_canonical_mps.proofs.laws.maximize_line_is_derived.Goals as goal
 
 pub returns : goal.returns

@@ -1,4 +1,4 @@
-use Rattle.mpslp_canonical_mps.proofs.DerivedLines.{ranges-derived}
+use Rattle.mpslp_canonical_mps.proofs.WholeWalk.{ranges-derived}
 use Rattle.mpslp_canonical_mps.proofs.laws.range_lines_are_derived.Goals as goal
 
 pub returns : goal.returns

@@ -1,4 +1,4 @@
-use Rattle.mpslp_canonical_mps.proofs.DerivedLines.{rhs-derived}
+use Rattle.mpslp_canonical_mps.proofs.WholeWalk.{rhs-derived}
 use Rattle.mpslp_canonical_mps.proofs.laws.rhs_lines_are_derived.Goals as goal
 
 pub returns : goal.returns

@@ -1,4 +1,4 @@
-use Rattle.mpslp_canonical_mps.proofs.DerivedLines.{rows-derived}
+use Rattle.mpslp_canonical_mps.proofs.WholeWalk.{rows-derived}
 use Rattle.mpslp_canonical_mps.proofs.laws.row_lines_are_derived.Goals as goal
 
 pub returns : goal.returns

@@ -17,7 +17,8 @@ loop-j-preserved c =
           let more = columns_and columns n j cells c.cells_at.ensures (sym c.has_value_at.ensures ∙ w.if-has_value_at.true) in
           record {
             few = omega arith;
-            counted = w.count-is ∙ ap (λ (count : ℕ). count + 1) c.loop-j.invariant.counted ∙ sym (ap length more ∙ length-append (columns_with columns n j) (j ∷ []));
+            counted = w.count-is ∙ ap (λ (count : ℕ). count + 1) c.loop-j.invariant.counted
+                ∙ sym (ap length more ∙ length-append (columns_with columns n j) (j ∷ []));
           }
       | else-has_value_at w ↦
           let same = columns_without columns n j cells c.cells_at.ensures (sym c.has_value_at.ensures ∙ w.if-has_value_at.false) in

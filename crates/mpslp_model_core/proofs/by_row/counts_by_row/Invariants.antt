@@ -1,5 +1,5 @@
 use Rattle.std.proofs.Common.{suc}
-use Rattle.mpslp_model_core.{specs.ByRow.columns_with, proofs.FillLemmas.{noted, AreCounted}}
+use Rattle.mpslp_model_core.{specs.ByRow.columns_with, proofs.ByRowLemmas.{noted, AreCounted}}
 use Rattle.mpslp_model_core.proofs.by_row.counts_by_row.Given as goal
 
 -- the coefficients of the columns up to this one are counted

@@ -1,5 +1,5 @@
 use Rattle.std.proofs.Common.{suc}
-use Rattle.mpslp_model_core.{specs.ByRow.columns_with, proofs.FillLemmas.{noted, ArePut}}
+use Rattle.mpslp_model_core.{specs.ByRow.columns_with, proofs.ByRowLemmas.{noted, ArePut}}
 use Rattle.mpslp_model_core.proofs.by_row.elements_by_row.Given as goal
 
 -- the columns up to this one are listed

@@ -1,4 +1,4 @@
-use Rattle.mpslp_model_core.proofs.CellListLemmas.{rest_after_first, all_rows}
+use Rattle.mpslp_model_core.proofs.ViewLemmas.{rest_after_first, all_rows}
 use Rattle.mpslp_model_core.proofs.columns.row_cells.Goals as goal
 
 pub returns-in-len1-up : goal.returns-in-len1-up

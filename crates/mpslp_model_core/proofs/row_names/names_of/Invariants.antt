@@ -1,4 +1,4 @@
-use Rattle.mpslp_model_core.proofs.RowNameLemmas.{AreNamed}
+use Rattle.mpslp_model_core.proofs.ViewLemmas.{AreNamed}
 use Rattle.mpslp_model_core.proofs.row_names.names_of.Given as goal
 
 -- the names of the rows up to this one are put

@@ -1,4 +1,4 @@
-use Rattle.mpslp_mps.proofs.ModelFromNoFault.{model-unless_faulty}
+use Rattle.mpslp_mps.proofs.ModelOrFault.{model-unless_faulty}
 use Rattle.mpslp_mps.proofs.laws.model_without_fault.Goals as goal
 
 pub returns : goal.returns

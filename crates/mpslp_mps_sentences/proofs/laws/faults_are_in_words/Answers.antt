@@ -1,5 +1,5 @@
-use Rattle.mpslp_mps_sentences.proofs.FaultsOfWords.{section-repeated, section-order, bad-marker, column-split, second-set}
-use Rattle.mpslp_mps_sentences.proofs.FaultsOfNames.{unknown-rows, unknown-columns, repeated-rows, repeated-entries}
+use Rattle.mpslp_mps_sentences.proofs.FaultsOfNames.{section-repeated, section-order, bad-marker, column-split, second-set, unknown-rows}
+use Rattle.mpslp_mps_sentences.proofs.FaultsOfNames.{unknown-columns, repeated-rows, repeated-entries}
 use Rattle.mpslp_mps_sentences.proofs.FaultsOfValues.{free-ranges, repeated-ranges, repeated-sides, repeated-bounds, both-kinds-in_words}
 use Rattle.mpslp_mps_sentences.proofs.laws.faults_are_in_words.Goals as goal
 

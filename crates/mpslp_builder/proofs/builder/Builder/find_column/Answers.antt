@@ -1,5 +1,4 @@
-use Rattle.mpslp_builder.proofs.Prelude.{sym, subst, ◌∙◌, IsMade}
-use Rattle.mpslp_builder.proofs.CallLemmas.{same_tables, same_numbered}
+use Rattle.mpslp_builder.proofs.{Prelude.{sym, subst, ◌∙◌, IsMade}, LineLemmas.{same_tables, same_numbered}}
 use Rattle.mpslp_builder.proofs.builder.Builder.find_column.Goals as goal
 
 pub invariant_of-self : goal.invariant_of-self
@@ -11,6 +10,5 @@ invariant_of-self c =
     )
 
 pub returns-clause-same : goal.returns-clause-same
-returns-clause-same c =
-    let b = c.self.inside in
-    same_tables b.sense b.constant b.tables c.find_column.new.self c.find_column.ensures.same ∙ c.self.view_is
+returns-clause-same c = let b = c.self.inside in same_tables b.sense b.constant b.tables c.find_column.new.self c.find_column.ensures.same
+    ∙ c.self.view_is

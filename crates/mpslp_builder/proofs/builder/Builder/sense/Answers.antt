@@ -1,5 +1,4 @@
-use Rattle.mpslp_builder.proofs.Prelude.{refl, declare_sense, refusals}
-use Rattle.mpslp_builder.proofs.AnswerLemmas.{none_refused, made_next}
+use Rattle.mpslp_builder.proofs.{Prelude.{refl, declare_sense, refusals}, MadeDrafts.{none_refused, made_next}}
 use Rattle.mpslp_builder.proofs.builder.Builder.sense.Goals as goal
 
 pub invariant_of-self : goal.invariant_of-self

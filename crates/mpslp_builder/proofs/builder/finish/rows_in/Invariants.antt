@@ -1,6 +1,5 @@
-use Rattle.std.proofs.Common.{◌≡◌, ◌++◌}
-use Rattle.mpslp_model_core.specs.Numbered.{each_part}
 use Rattle.mpslp_builder_parts.specs.Parts.{limits_in}
+use Rattle.mpslp_builder.proofs.Prelude.{◌≡◌, ◌++◌, each_part}
 use Rattle.mpslp_builder.proofs.builder.finish.rows_in.Given as goal
 
 abbrev pub invariant-loop-name : goal.invariant-loop-name

@@ -1,9 +1,8 @@
 use Rattle.std.proofs.Common.{refl, ap, ◌∙◌, [], ◌∷◌, ◌++◌}
-use Rattle.indexmap.proofs.CallerLemmas.{insert_entry-new}
 use Rattle.mpslp_types.specs.Name.{same_bytes}
-use Rattle.mpslp_builder.specs.Tables.{no_part}
 use Rattle.mpslp_builder_parts.specs.declared.parts.ColumnParts.{ColumnParts}
-use Rattle.mpslp_builder.proofs.PartLemmas.{absent_key}
+use Rattle.mpslp_builder.{specs.Tables.no_part, proofs.TableDrafts.absent_key}
+use Rattle.indexmap.proofs.CallerLemmas.{insert_entry-new}
 use Rattle.mpslp_builder.proofs.tables.Tables.add_column.Goals as goal
 
 pub returns-clause-ok : goal.returns-clause-ok

@@ -1,9 +1,8 @@
 use Rattle.std.proofs.Common.{refl, ap, ◌∙◌, [], ◌∷◌, ◌++◌}
-use Rattle.indexmap.proofs.CallerLemmas.{insert_entry-new}
 use Rattle.mpslp_types.specs.Name.{same_bytes}
 use Rattle.mpslp_builder_parts.specs.RowParts.{RowParts}
-use Rattle.mpslp_builder.specs.Tables.{definition_of}
-use Rattle.mpslp_builder.proofs.PartLemmas.{absent_key}
+use Rattle.mpslp_builder.{specs.Tables.definition_of, proofs.TableDrafts.absent_key}
+use Rattle.indexmap.proofs.CallerLemmas.{insert_entry-new}
 use Rattle.mpslp_builder.proofs.tables.Tables.add_row.Goals as goal
 
 pub returns-clause-ok : goal.returns-clause-ok

@@ -1,10 +1,5 @@
-use Rattle.std.proofs.Common.{◌≡◌, List, ℕ}
-use Rattle.std.specs.Prelude.{Some}
-use Rattle.std.specs.List.{flat_map}
-use Rattle.mpslp_builder.specs.Calls.{row_name}
-use Rattle.mpslp_builder.specs.LineTables.{Follows}
-use Rattle.mpslp_builder.specs.RowTerms.{term_declared}
-use Rattle.mpslp_builder.proofs.TermLemmas.{Decides}
+use Rattle.std.{proofs.Common.{◌≡◌, List, ℕ}, specs.{Prelude.Some, List.flat_map}}
+use Rattle.mpslp_builder.{specs.{Calls.row_name, LineTables.Follows, RowTerms.term_declared}, proofs.LineLemmas.Decides}
 use Rattle.mpslp_builder.proofs.tables.Tables.declare_others.Given as goal
 
 -- the result depends on the terms that are left
@@ -14,5 +9,6 @@ invariant-loop-name l = record {
   finite : (goal.iterator-loop-name).is_finite l.name-iterator;
   kept : Follows l.fn.self l.self;
   rows : l.self.rows.entries ≡ l.fn.self.rows.entries;
-  declared : (name : List ℕ) → row_name l.fn.self l.row ≡ Some name → Decides l.self (flat_map (term_declared name) l.name-iterator) l.fn.self (flat_map (term_declared name) l.fn.terms.entries);
+  declared : (name : List ℕ) → row_name l.fn.self l.row ≡ Some name
+      → Decides l.self (flat_map (term_declared name) l.name-iterator) l.fn.self (flat_map (term_declared name) l.fn.terms.entries);
 }

@@ -1,5 +1,4 @@
-use Rattle.mpslp_builder.specs.Tables.{definition_of, cells_of}
-use Rattle.mpslp_builder.proofs.NameLemmas.{once-from_distinct}
+use Rattle.mpslp_builder.{specs.Tables.{definition_of, cells_of}, proofs.TableDrafts.once-from_distinct}
 use Rattle.mpslp_builder.proofs.tables.Tables.each_name_occurs_once.Goals as goal
 
 pub returns : goal.returns

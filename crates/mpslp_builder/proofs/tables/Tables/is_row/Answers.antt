@@ -1,6 +1,5 @@
 use Rattle.std.proofs.Common.{◌∙◌}
-use Rattle.mpslp_builder.specs.Tables.{definition_of}
-use Rattle.mpslp_builder.proofs.PartLemmas.{has_name-each_part}
+use Rattle.mpslp_builder.{specs.Tables.definition_of, proofs.TableDrafts.has_name-each_part}
 use Rattle.mpslp_builder.proofs.tables.Tables.is_row.Goals as goal
 
 pub returns : goal.returns

@@ -1,7 +1,7 @@
 use Rattle.std.proofs.Common.{refl, ap}
-use Rattle.indexmap.specs.IndexMap.{set_value_at}
 use Rattle.mpslp_builder_parts.specs.DeclaredBounds.{LowerAndUpper}
-use Rattle.mpslp_builder.proofs.PartLemmas.{set_same, on_ok, on_err}
+use Rattle.mpslp_builder.proofs.TableDrafts.{set_same, on_ok, on_err}
+use Rattle.indexmap.specs.IndexMap.{set_value_at}
 use Rattle.mpslp_builder.proofs.tables.Tables.put_bounds.Goals as goal
 
 pub returns-clause-ok : goal.returns-clause-ok
@@ -14,7 +14,10 @@ returns-clause-ok c =
       written = record {
         objective = refl;
         rows = refl;
-        columns = ap (λ (sides : LowerAndUpper). set_value_at c.args.self.now.columns.entries c.args.column (record parts { sides = sides })) put_there;
+        columns = ap (λ (sides : LowerAndUpper). set_value_at c.args.self.now.columns.entries c.args.column (record parts {
+          sides =
+              sides;
+        })) put_there;
       };
     }) c.put.ensures.ok
 
@@ -24,6 +27,9 @@ returns-clause-err c =
     on_err c.put.result (λ same. record {
       objective = refl;
       rows = refl;
-      columns = set_same c.args.self.now.columns.entries c.args.column c.pair_mut-parts.result.0.now parts (record parts { sides = c.put.new.self }) c.pair_mut-parts.ensures.value
+      columns = set_same c.args.self.now.columns.entries c.args.column c.pair_mut-parts.result.0.now parts (record parts {
+        sides =
+            c.put.new.self;
+      }) c.pair_mut-parts.ensures.value
           (ap (λ (sides : LowerAndUpper). record parts { sides = sides }) same);
     }) c.put.ensures.err

@@ -1,4 +1,4 @@
-use Rattle.mpslp_builder.proofs.TermLemmas.{there_laid}
+use Rattle.mpslp_builder.proofs.LineLemmas.{there_laid}
 use Rattle.mpslp_builder.proofs.tables.Tables.term_column.Goals as goal
 
 pub returns-in-Some-clause-ok : goal.returns-in-Some-clause-ok

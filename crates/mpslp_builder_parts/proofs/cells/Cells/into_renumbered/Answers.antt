@@ -1,11 +1,8 @@
 use Rattle.std.proofs.Common.{◌≡◌, sym, ap, subst, ◌∙◌, ℕ, ◌<◌, List, length, slice_index, IsPermutation}
-use Rattle.std.specs.Prelude.{filter}
-use Rattle.std.specs.List.{All}
-use Rattle.std.specs.Cmp.{nat_cmp_total}
+use Rattle.std.specs.{Prelude.filter, List.All, Cmp.nat_cmp_total}
 use Rattle.mpslp_decimal.specs.Decimal.{Number}
-use Rattle.mpslp_model_core.specs.Numbered.{moved_cells, is_kept}
-use Rattle.mpslp_model_core.proofs.OnceLemmas.{never_falls-from_sort}
-use Rattle.mpslp_model_core.proofs.MovingLemmas.{renamed, all-from_each, each-of_map, each-kept, moved-from_any_order}
+use Rattle.mpslp_model_core.{specs.Numbered.{moved_cells, is_kept}, proofs.CellLemmas.never_falls-from_sort}
+use Rattle.mpslp_model_core.proofs.RenumberLemmas.{renamed, all-from_each, each-of_map, each-kept, moved-from_any_order}
 use Rattle.mpslp_builder_parts.proofs.cells.Cells.into_renumbered.Goals as goal
 
 pub renumbered-requires : goal.renumbered-requires

@@ -1,9 +1,6 @@
-use Rattle.std.proofs.Common.{sym, ap, ◌∙◌, ℕ, List}
-use Rattle.std.specs.Prelude.{is_some}
-use Rattle.std.specs.Ordering.{nat_cmp}
-use Rattle.std.specs.FinMap.{find}
+use Rattle.std.{proofs.Common.{sym, ap, ◌∙◌, ℕ, List}, specs.{Prelude.is_some, Ordering.nat_cmp, FinMap.find}}
 use Rattle.mpslp_decimal.specs.Decimal.{Number}
-use Rattle.mpslp_model_core.proofs.RunLemmas.{lookup_is_find}
+use Rattle.mpslp_model_core.proofs.CellLemmas.{lookup_is_find}
 use Rattle.mpslp_builder_parts.specs.FarCells.{cells_stored}
 use Rattle.mpslp_builder_parts.proofs.far_cells.FarCells.has.Goals as goal
 

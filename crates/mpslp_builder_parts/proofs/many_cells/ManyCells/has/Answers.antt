@@ -1,10 +1,6 @@
-use Rattle.std.proofs.Common.{sym, ap, ◌∙◌, ℕ, List}
-use Rattle.std.specs.Prelude.{is_some}
-use Rattle.std.specs.Ordering.{nat_cmp}
-use Rattle.std.specs.Cmp.{nat_cmp_total}
-use Rattle.std.specs.FinMap.{find}
+use Rattle.std.{proofs.Common.{sym, ap, ◌∙◌, ℕ, List}, specs.{Prelude.is_some, Ordering.nat_cmp, Cmp.nat_cmp_total, FinMap.find}}
 use Rattle.mpslp_decimal.specs.Decimal.{Number}
-use Rattle.mpslp_model_core.proofs.RunLemmas.{has_two, or_left, or_right}
+use Rattle.mpslp_model_core.proofs.CellLemmas.{has_two, or_left, or_right}
 use Rattle.mpslp_builder_parts.proofs.many_cells.ManyCells.has.Goals as goal
 
 pub returns-then-has : goal.returns-then-has

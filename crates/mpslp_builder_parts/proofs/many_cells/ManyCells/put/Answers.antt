@@ -1,10 +1,6 @@
-use Rattle.std.proofs.Common.{ap, ◌∙◌, ℕ, List}
-use Rattle.std.specs.Ordering.{nat_cmp}
-use Rattle.std.specs.Cmp.{nat_cmp_total}
-use Rattle.std.specs.FinMap.{find, put, nat_cmp-IsAntisymmetric}
+use Rattle.std.{proofs.Common.{ap, ◌∙◌, ℕ, List}, specs.{Ordering.nat_cmp, Cmp.nat_cmp_total, FinMap.{find, put, nat_cmp-IsAntisymmetric}}}
 use Rattle.mpslp_decimal.specs.Decimal.{Number}
-use Rattle.mpslp_model_core.proofs.RunLemmas.{absent_first, put_first, put_second}
-use Rattle.mpslp_model_core.proofs.OnceLemmas.{once-from_rising, once-put_first, once-put_second}
+use Rattle.mpslp_model_core.proofs.CellLemmas.{absent_first, put_first, put_second, once-from_rising, once-put_first, once-put_second}
 use Rattle.mpslp_builder_parts.proofs.many_cells.ManyCells.put.Goals as goal
 
 pub put_near-requires : goal.put_near-requires

@@ -1,6 +1,6 @@
 use Rattle.mpslp_lp_grammar.proofs.Prelude
 use Prelude.{◌≡◌, refl, sym, ap, ◌∙◌, ℕ, List, Draft, with_declaration, declare_column, has_column, sorted-from_made}
-use Rattle.mpslp_builder.proofs.AnswerLemmas.{put_again}
+use Rattle.mpslp_builder.proofs.MadeDrafts.{put_again}
 use Rattle.mpslp_lp_grammar.proofs.lp_builder.LpBuilder.declare_column.Goals as goal
 
 pub returns-then-find_column : goal.returns-then-find_column

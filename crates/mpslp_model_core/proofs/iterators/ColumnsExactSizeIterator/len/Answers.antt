@@ -1,5 +1,5 @@
 use Rattle.std.proofs.Common.{sym, ap, ◌∙◌, length}
-use Rattle.mpslp_model_core.{specs.ModelParts.bounds_in, proofs.IteratorLemmas.length-part}
+use Rattle.mpslp_model_core.{specs.ModelParts.bounds_in, proofs.ViewLemmas.length-part}
 use Rattle.mpslp_model_core.proofs.iterators.ColumnsExactSizeIterator.len.Goals as goal
 
 pub returns-clause-value : goal.returns-clause-value

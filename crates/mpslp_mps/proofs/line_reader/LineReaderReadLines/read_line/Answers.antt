@@ -1,18 +1,15 @@
-use Rattle.std.proofs.Common.{ap, ◌∙◌}
-use Rattle.mpslp_mps.{specs.NextContext.kept_context, proofs.{FedLemmas.{led-sides, led-line}, LineReaderLemmas.refuses-line}}
+use Rattle.mpslp_mps.proofs.{Prelude.{ap, ◌∙◌, kept_context}, FedLemmas.{led-sides, led-line, refuses-line}}
 use Rattle.mpslp_mps.proofs.line_reader.LineReaderReadLines.read_line.Goals as goal
 
 pub read_line-requires : goal.read_line-requires
-read_line-requires c =
-    let reader = c.args.self.now in
+read_line-requires c = let reader = c.args.self.now in
     led-sides c.requires.reader.text reader.context reader.builder.draft reader.number c.requires.reader.read
 
 pub returns-in-Err : goal.returns-in-Err
-returns-in-Err c = refuses-line c.args.self.now c.args.line.now c.in-Err.error c.read_fault.result c.requires.unended c.in-Err.ensures.answers c.read_fault.ensures
+returns-in-Err c = refuses-line c.args.self.now c.args.line.now c.in-Err.error c.read_fault.result c.requires.unended
+    c.in-Err.ensures.answers c.read_fault.ensures
 
 pub returns : goal.returns
-returns c = λ before led.
-    let reader = c.args.self.now in
-    let answers = c.in-Ok.ensures.answers in
-    led-line before reader.context reader.builder.draft reader.number led c.requires.unended c.args.line.now c.drop_names_at_end.new.self c.read_line.new.builder.draft c.saturating_add-self.result
-    answers.0 (c.drop_names_at_end.ensures ∙ ap kept_context answers.1) answers.2 c.saturating_add-self.ensures
+returns c = λ before led. let reader = c.args.self.now in let answers = c.in-Ok.ensures.answers in led-line before reader.context
+    reader.builder.draft reader.number led c.requires.unended c.args.line.now c.drop_names_at_end.new.self c.read_line.new.builder.draft
+    c.saturating_add-self.result answers.0 (c.drop_names_at_end.ensures ∙ ap kept_context answers.1) answers.2 c.saturating_add-self.ensures
