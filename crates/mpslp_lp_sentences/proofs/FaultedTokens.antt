@@ -19,7 +19,7 @@ use Prelude.{take_after_lone_number}
 use Rattle.std.proofs.{lemmas.Grind.reverse_onto, Math.Dec.eqb_refl}
 use Rattle.mpslp_types.specs.FaultOrder.{kind_rank, least_kind}
 use Rattle.mpslp_builder.specs.FileFault.{named_kinds, whole_fault, names_with, named_faults, file_fault}
-use Rattle.mpslp_lp.{specs.LineByLine.{take_all, take_line, read_from}, proofs.ReadingLemmas.outcome-read}
+use Rattle.mpslp_lp.{specs.LineByLine.{take_all, take_line, read_from}, proofs.LineReaderLemmas.outcome-read}
 use Rattle.mpslp_lp_tokens.specs.declared.{tokens.TokenKind.TokenKind, words.WordClass.{WordClass, TheVariants.Sos}}
 use Rattle.mpslp_types.specs.declared.faults.FaultKind.TheVariants as kinds
 
