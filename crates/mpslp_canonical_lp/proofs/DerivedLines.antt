@@ -11,16 +11,13 @@ use Prelude.{semi_heading, point_at, terminals_at, AreDerived, AreDerivedAt, is_
 use Prelude.{DeriveObjectives, AreLegalTerms, row_and_terms, DeriveRows, column_and_bounds, DeriveBounds, DeriveAllKinds, end_heading}
 use Prelude.{DeriveAllHeadings}
 use Rattle.mpslp_decimal.proofs.CutLemmas.{Each-weaker}
-use Rattle.mpslp_canonical_lp.proofs.{LexemeLemmas.{IsGoodName}, LineLemmas.{line-terminals}, TextLemmas.{all-faultless}}
-use Rattle.mpslp_canonical_lp.proofs.TerminalLemmas.{line_terminals_in, line-seen, all_terminals}
-use Rattle.mpslp_canonical_lp.proofs.PrintableLemmas.{AllPrintable, IsTerm, code-word, a-line, good-name, sense-good, heading-printable}
-use Rattle.mpslp_canonical_lp.proofs.PrintableLemmas.{label-printable, term-printable, constant-printable, subject-printable, sides-decimal}
-use Rattle.mpslp_canonical_lp.proofs.PrintableLemmas.{bound-printable, row-printable, in-turn}
-use Rattle.mpslp_canonical_lp.proofs.PhraseLemmas.{Walks, column_and, start-walks, bounds-section-walks, generals-section-walks}
-use Rattle.mpslp_canonical_lp.proofs.PhraseLemmas.{semis-section-walks, end-says, end-makes}
-use Rattle.mpslp_canonical_lp.proofs.ObjectiveWalk.{begin-terminals, items_at, one-term, constant-walk}
-use Rattle.mpslp_canonical_lp.proofs.{BoundsWalk.{bound_made, column-walk}, TailWalk.{one-general, one-semi}}
-use Rattle.mpslp_canonical_lp.proofs.{TextWalk.{row_by, IsRow, row-walk}, MeantRows.{limits-back}}
+use Rattle.mpslp_canonical_lp.proofs.{LexemeLemmas.IsGoodName, LineLemmas.{line-terminals, all-faultless, line_terminals_in, line-seen}}
+use Rattle.mpslp_canonical_lp.proofs.LineLemmas.{all_terminals, AllPrintable, IsTerm, code-word, a-line, good-name, sense-good}
+use Rattle.mpslp_canonical_lp.proofs.LineLemmas.{heading-printable, label-printable, term-printable, constant-printable, subject-printable}
+use Rattle.mpslp_canonical_lp.proofs.{LineLemmas.{sides-decimal, bound-printable, row-printable, in-turn}, PhraseWalk.{Walks, column_and}}
+use Rattle.mpslp_canonical_lp.proofs.PhraseWalk.{start-walks, bounds-section-walks, generals-section-walks, semis-section-walks, end-says}
+use Rattle.mpslp_canonical_lp.proofs.PhraseWalk.{end-makes, begin-terminals, items_at, one-term, constant-walk, bound_made, column-walk}
+use Rattle.mpslp_canonical_lp.proofs.{PhraseWalk.{one-general, one-semi}, TextWalk.{row_by, IsRow, row-walk}, ListedMeaning.limits-back}
 
 -- ---- the tokens are those of the texts of the lines
 
@@ -28,10 +25,12 @@ printed-terminals : (n : ℕ) (lines : Lines) → AllPrintable lines → termina
 printed-terminals n [] h = refl
 printed-terminals n (line ∷ lines) h = λ i. (line-terminals n line h.0.each ∙ line-seen n line h.0.each) i ++ printed-terminals (n + 1) lines h.1 i
 
-derive : (from to : Point) (n : ℕ) (lines : Lines) (made : Declarations) → AllPrintable lines → Walks from (all_terminals n lines) made to → AreDerived from n lines made to
+derive : (from to : Point) (n : ℕ) (lines : Lines) (made : Declarations)
+    → AllPrintable lines → Walks from (all_terminals n lines) made to → AreDerived from n lines made to
 derive = grind (arith, printed-terminals, all-faultless)
 
-one-line : (from to : Point) (n : ℕ) (line : PrintedLine) (made : Declarations) → Walks from (line_terminals_in n line) made to → Walks from (all_terminals n (line ∷ [])) made to
+one-line : (from to : Point) (n : ℕ) (line : PrintedLine) (made : Declarations)
+    → Walks from (line_terminals_in n line) made to → Walks from (all_terminals n (line ∷ [])) made to
 one-line from to n line made walk = subst (λ (tokens : List TerminalAt). Walks from tokens made to) (sym (append-nil (line_terminals_in n line))) walk
 
 -- ---- the objective
@@ -40,31 +39,30 @@ legal-term : (term : Term) → is_legal_term term ≡ true → IsTerm term
 legal-term term h = (good-name term.0 (first_so _ _ h), second_so _ _ h)
 
 -- before the first item, or after one
-objective-term : (started : Bool) (name : List ℕ) (term : Term) → is_legal_term term ≡ true → AreDerivedAt (items_at name started) (term_line term ∷ []) (term_declared name term) (InObjective name)
-objective-term started name term legal n sections_seen earlier h =
-    let good = legal-term term legal in
-    let from = point_at (items_at name started) sections_seen earlier in
-    let to = point_at (InObjective name) sections_seen (with_declarations earlier (term_declared name term)) in
+objective-term : (started : Bool) (name : List ℕ) (term : Term)
+    → is_legal_term term ≡ true → AreDerivedAt (items_at name started) (term_line term ∷ []) (term_declared name term) (InObjective name)
+objective-term started name term legal n seen earlier h = let good = legal-term term legal in
+    let from = point_at (items_at name started) seen earlier in
+    let to = point_at (InObjective name) seen (with_declarations earlier (term_declared name term)) in
     derive from to n (term_line term ∷ []) (term_declared name term) (term-printable term good, tt)
-    (one-line from to n (term_line term) (term_declared name term) (one-term started sections_seen earlier name n term good h))
+    (one-line from to n (term_line term) (term_declared name term) (one-term started seen earlier name n term good h))
 
 objective-end : (started : Bool) (name : List ℕ) → EndsObjectiveFrom (items_at name started)
-objective-end started name n earlier value decimal h = search (rules, derive, in-turn, constant-printable, subject-printable, constant-walk)
+objective-end = search (rules, derive, in-turn, constant-printable, subject-printable, constant-walk)
 
 pub objectives-derived : DeriveObjectives
-objectives-derived name legal =
-    record {
-      begin = λ n sense.
-          let lines : Lines = heading (sense_word sense ∷ []) ∷ label_line name ∷ [] in
-          let to = point_at (BeforeItems name) after_objective (draft_of (objective_declared sense name)) in
-          derive start to n lines (objective_declared sense name)
-          (heading-printable (sense_word sense) (sense-good sense), (label-printable name (good-name name legal), tt))
-          (subst (λ (tokens : List TerminalAt). Walks start tokens (objective_declared sense name) to) (sym (begin-terminals n sense name)) (start-walks n (n + 1) sense name));
-      first = objective-term false name;
-      later = objective-term true name;
-      end = objective-end true name;
-      end_without_terms = objective-end false name;
-    }
+objectives-derived name legal = record {
+  begin = λ n sense. let lines : Lines = heading (sense_word sense ∷ []) ∷ label_line name ∷ [] in
+      let to = point_at (BeforeItems name) after_objective (draft_of (objective_declared sense name)) in
+      derive start to n lines (objective_declared sense name)
+      (heading-printable (sense_word sense) (sense-good sense), (label-printable name (good-name name legal), tt))
+      (subst (λ (tokens : List TerminalAt). Walks start tokens (objective_declared sense name) to)
+      (sym (begin-terminals n sense name)) (start-walks n (n + 1) sense name));
+  first = objective-term false name;
+  later = objective-term true name;
+  end = objective-end true name;
+  end_without_terms = objective-end false name;
+}
 
 -- ---- rows
 
@@ -78,27 +76,30 @@ are-row : (terms : List Term) → AreLegalTerms terms → IsRow terms
 are-row [] h = absurd (absent h.some)
 are-row (term ∷ terms) h = (some-terms (term ∷ terms) h, h.new)
 
-row-said : (row : List ℕ × Row) (terms : List Term) → are_sides row.1.lower row.1.upper ≡ true → row_by row.0 row.1.lower row.1.upper terms ≡ row_and_terms row terms
-row-said row terms sides = ap (λ (definition : RowDefinition). declare_row row.0 definition ∷ flat_map (term_declared row.0) terms) (limits-back row.1.lower row.1.upper sides)
+row-said : (row : List ℕ × Row) (terms : List Term)
+    → are_sides row.1.lower row.1.upper ≡ true → row_by row.0 row.1.lower row.1.upper terms ≡ row_and_terms row terms
+row-said row terms sides = ap (λ (definition : RowDefinition). declare_row row.0 definition ∷ flat_map (term_declared row.0) terms)
+    (limits-back row.1.lower row.1.upper sides)
 
 pub rows-derived : DeriveRows
 rows-derived m row legal sides terms =
     subst (λ (made : Declarations). AreDerivedAt BetweenRows (row_lines m row) made BetweenRows) (row-said row (row_terms m row.0) sides)
-    (λ n sections_seen earlier h.
-    derive _ _ n (row_lines m row) (row_by row.0 row.1.lower row.1.upper (row_terms m row.0))
-    (row-printable m row (record { name = good-name row.0 legal; limits = sides-decimal row.1.lower row.1.upper sides }) (some-terms (row_terms m row.0) terms))
-    (row-walk sections_seen earlier row.0 n row.1.lower row.1.upper (row_terms m row.0) (are-row (row_terms m row.0) terms) h))
+    (λ n seen earlier h. derive _ _ n (row_lines m row) (row_by row.0 row.1.lower row.1.upper (row_terms m row.0)) (row-printable m row
+    (record { name = good-name row.0 legal; limits = sides-decimal row.1.lower row.1.upper sides }) (some-terms (row_terms m row.0) terms))
+    (row-walk seen earlier row.0 n row.1.lower row.1.upper (row_terms m row.0) (are-row (row_terms m row.0) terms) h))
 
 -- ---- bounds and types of columns
 
 bounds-said : (column : List ℕ) (lower upper : Limit) → are_sides lower upper ≡ true → bound_made column lower upper ≡ column_and_bounds column lower upper
 bounds-said column lower upper h = by lower upper (lower_of lower upper h) (upper_of lower upper h)
   where
-    between : (a b : Number) → is_bounded_decimal a ≡ true → is_bounded_decimal b ≡ true → (same : Bool) → have_same_value a b ≡ same
-        → (if same then column_and column (limits_by EqualTo (limit_of b)) else column_and column (limits_by AtLeast (limit_of a)) ++ bounds_declared column None (Some (limit_of b)))
+    between : (a b : Number) → is_bounded_decimal a ≡ true → is_bounded_decimal b ≡ true → (same : Bool)
+        → have_same_value a b ≡ same → (if same then column_and column (limits_by EqualTo (limit_of b)) else column_and column
+        (limits_by AtLeast (limit_of a)) ++ bounds_declared column None (Some (limit_of b)))
         ≡ declare_column column ∷ declare_lower column (Finite a) ∷ declare_upper column (Finite b) ∷ []
     between a b p q true e =
-        let equal : limit_of b ≡ Finite a = bounded_finite b q ∙ ap (λ (d : Number). Finite d) (sym (same_decimal a b (bounded_so a p) (bounded_so b q) e)) in
+        let equal : limit_of b ≡ Finite a =
+        bounded_finite b q ∙ ap (λ (d : Number). Finite d) (sym (same_decimal a b (bounded_so a p) (bounded_so b q) e)) in
         λ i. declare_column column ∷ declare_lower column (equal i) ∷ declare_upper column (bounded_finite b q i) ∷ []
     between a b p q false e = λ i. declare_column column ∷ declare_lower column (bounded_finite a p i) ∷ declare_upper column (bounded_finite b q i) ∷ []
 
@@ -112,20 +113,17 @@ bounds-said column lower upper h = by lower upper (lower_of lower upper h) (uppe
     by PlusInf u p q = absurd (absent p)
 
 pub bounds-derived : DeriveBounds
-bounds-derived column legal sides =
-    let l = column.1.lower in
-    let u = column.1.upper in
-    let name = good-name column.0 legal in
-    subst (λ (made : Declarations). AreDerivedAt (InBounds None) (bound_lines column) made (InBounds None)) (bounds-said column.0 l u sides)
-    (λ n sections_seen earlier h.
-    derive _ _ n (bound_lines column) (bound_made column.0 l u) (bound-printable column.0 l u name.word_is (sides-decimal l u sides)) (column-walk sections_seen earlier n column.0 l u name h))
+bounds-derived column legal sides = let l = column.1.lower in let u = column.1.upper in let name = good-name column.0 legal in
+    subst (λ (made : Declarations). AreDerivedAt (InBounds None) (bound_lines column) made (InBounds None))
+    (bounds-said column.0 l u sides) (λ n seen earlier h. derive _ _ n (bound_lines column) (bound_made column.0 l u)
+    (bound-printable column.0 l u name.word_is (sides-decimal l u sides)) (column-walk seen earlier n column.0 l u name h))
 
 pub kinds-derived : DeriveAllKinds
-kinds-derived column legal =
-    record {
-      integer = λ n sections_seen earlier h. derive _ _ n (name_line column ∷ []) _ printable (one-line _ _ n (name_line column) _ (one-general sections_seen earlier n column name h));
-      semi = λ n sections_seen earlier h. derive _ _ n (name_line column ∷ []) _ printable (one-line _ _ n (name_line column) _ (one-semi sections_seen earlier n column name h));
-    }
+kinds-derived column legal = record {
+  integer = λ n seen earlier h. derive _ _ n
+      (name_line column ∷ []) _ printable (one-line _ _ n (name_line column) _ (one-general seen earlier n column name h));
+  semi = λ n seen earlier h. derive _ _ n (name_line column ∷ []) _ printable (one-line _ _ n (name_line column) _ (one-semi seen earlier n column name h));
+}
   where
     name : IsGoodName column.0
     name = good-name column.0 legal
@@ -136,16 +134,21 @@ kinds-derived column legal =
 -- ---- headings
 
 pub headings-derived : DeriveAllHeadings
-headings-derived place sections_seen earlier n may =
-    let from = point_at place sections_seen earlier in
-    record {
-      bounds = λ fault. derive _ _ n (heading (codes "Bounds" ∷ []) ∷ []) [] (heading-printable (codes "Bounds") (code-word (codes "Bounds") refl refl refl), tt) (bounds-section-walks place sections_seen earlier n may fault);
-      generals = λ fault. derive _ _ n (heading (codes "Generals" ∷ []) ∷ []) [] (heading-printable (codes "Generals") (code-word (codes "Generals") refl refl refl), tt) (generals-section-walks place sections_seen earlier n may fault);
-      semis = λ fault. derive _ _ n (semi_heading ∷ []) [] (a-line 0 (semi_continuous ∷ []) refl refl (tt, tt), tt) (semis-section-walks place sections_seen earlier n may fault);
-      end_faultless = all-faultless end_heading end;
-      end_says = λ fault. ap (λ (tokens : List TerminalAt). phrases phrase_at from 0 tokens) (printed-terminals n end_heading end) ∙ end-says place sections_seen earlier n may fault;
-      end_makes = λ fault. ap (λ (tokens : List TerminalAt). made_by phrase_at from 0 tokens) (printed-terminals n end_heading end) ∙ end-makes place sections_seen earlier n may fault;
-    }
+headings-derived place seen earlier n may = let from = point_at place seen earlier in record {
+  bounds = λ fault. derive _ _ n
+      (heading (codes "Bounds" ∷ []) ∷ []) [] (heading-printable (codes "Bounds") (code-word (codes "Bounds") refl refl refl), tt)
+      (bounds-section-walks place seen earlier n may fault);
+  generals = λ fault. derive _ _ n
+      (heading (codes "Generals" ∷ []) ∷ []) [] (heading-printable (codes "Generals") (code-word (codes "Generals") refl refl refl), tt)
+      (generals-section-walks place seen earlier n may fault);
+  semis = λ fault. derive _ _ n
+      (semi_heading ∷ []) [] (a-line 0 (semi_continuous ∷ []) refl refl (tt, tt), tt) (semis-section-walks place seen earlier n may fault);
+  end_faultless = all-faultless end_heading end;
+  end_says = λ fault. ap (λ (tokens : List TerminalAt). phrases phrase_at from 0 tokens) (printed-terminals n end_heading end)
+      ∙ end-says place seen earlier n may fault;
+  end_makes = λ fault. ap (λ (tokens : List TerminalAt). made_by phrase_at from 0 tokens) (printed-terminals n end_heading end)
+      ∙ end-makes place seen earlier n may fault;
+}
   where
     end : AllPrintable end_heading
     end = (heading-printable (codes "End") (code-word (codes "End") refl refl refl), tt)

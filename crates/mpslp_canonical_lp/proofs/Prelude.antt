@@ -1,52 +1,49 @@
 -- The names that the proofs of this crate use of the logic, of std, of the crates below and of `specs/`.
 pub use Rattle.std.proofs.Common.{arith, ◌≡◌, refl, sym, ap, subst, ◌∙◌, ℕ, List, [], ◌∷◌, ◌++◌, Bool, true, false, append_assoc, map, not}
 pub use Rattle.std.proofs.Common.{length, rules, ◌+◌, zero, suc, ◌≤◌, replicate, ◌*◌, length-append, cond, take, drop, ◌<◌, ◌-◌, ◌^◌}
-pub use Rattle.std.proofs.{lemmas.Bool.{le-ltb, eqb-true, leb-true, lt-ltb, ltb-true}, lemmas.Bool.Decides.{nat_tests}}
-pub use Rattle.std.proofs.{lemmas.List.{append-nil, length-replicate}, lemmas.List.Concat.{flat_map_single, flat_map-append}}
-pub use Rattle.std.specs.Cmp.{first_so, second_so, IsTotalOrder}
-pub use Rattle.std.specs.{FinMap.{put, entries, entries-from_sorted, is_sorted, from_sorted, find, entries_sorted}, Fmt.{decimal}}
-pub use Rattle.std.specs.List.{flat_map, list_all, prefix_len, join_by, list_any, cons_option, before_first, after_first, position_or_len}
-pub use Rattle.std.specs.List.{enumerate_from}
-pub use Rattle.std.specs.{Option.{option_map, option_map_or}, Ordering.{eq_by_cmp, is_lt}}
+pub use Rattle.std.proofs.lemmas.{Bool.{le-ltb, eqb-true, leb-true, lt-ltb, ltb-true, Decides.nat_tests}, List.append-nil}
+pub use Rattle.std.{proofs.lemmas.List.{length-replicate, Concat.{flat_map_single, flat_map-append}}, specs.Cmp.{first_so, second_so}}
+pub use Rattle.std.specs.{Cmp.IsTotalOrder, FinMap.{put, entries, entries-from_sorted, is_sorted, from_sorted, find, entries_sorted}}
+pub use Rattle.std.specs.{Fmt.decimal, List.{flat_map, list_all, prefix_len, join_by, list_any, cons_option, before_first, after_first}}
+pub use Rattle.std.specs.{List.{position_or_len, enumerate_from}, Option.{option_map, option_map_or}, Ordering.{eq_by_cmp, is_lt}}
 pub use Rattle.std.specs.Prelude.{Some, None, ◌||◌, codes, if◌then◌else◌, is_some, Option, unwrap_or, filter, ◌&&◌, ◌==◌, ℤ, pos, negsuc}
-pub use Rattle.std.specs.Prelude.{unsigned_abs, int_le, nat_le, filter_map, nat_lt, is_none, position}
-pub use Rattle.std.specs.declared.cmp.Ordering.{Ordering}
+pub use Rattle.std.specs.{Prelude.{unsigned_abs, int_le, nat_le, filter_map, nat_lt, is_none, position}, declared.cmp.Ordering.Ordering}
 pub use Rattle.mpslp_decimal.proofs.CutLemmas.{Each, before-none, after-none, AreDigits, decimal-spells, zeros_are_digits}
-pub use Rattle.mpslp_decimal.proofs.{NumberTextLemmas.{number-text, read-short, zero-is}, OrderLemmas.{same_decimal}}
+pub use Rattle.mpslp_decimal.proofs.{NumberTextLemmas.{number-text, read-short, zero-is}, OrderLemmas.same_decimal}
 pub use Rattle.mpslp_decimal.specs.Decimal.{Number as Decimal, is_zero, is_negative, size_of, have_same_value, zero_number, Number}
-pub use Rattle.mpslp_decimal.specs.Decimal.{is_decimal, IsDecimal}
-pub use Rattle.mpslp_decimal.specs.Literal.{is_digit, is_sign, is_point, is_exponent_mark, without_sign, are_digits, unsigned_part}
-pub use Rattle.mpslp_decimal.specs.Literal.{mantissa_digits, exponent_part, is_literal}
+pub use Rattle.mpslp_decimal.specs.{Decimal.{is_decimal, IsDecimal}, Literal.{is_digit, is_sign, is_point, is_exponent_mark, without_sign}}
+pub use Rattle.mpslp_decimal.specs.Literal.{are_digits, unsigned_part, mantissa_digits, exponent_part, is_literal}
 pub use Rattle.mpslp_decimal.specs.NumberText.{number_text, with_point, scaled_text}
 pub use Rattle.mpslp_types.proofs.BoolLemmas.{both_so, or_left, or_right, both_false, T_from, nor, not_so, so_not, true_from}
 pub use Rattle.mpslp_types.proofs.EachLemmas.{Each-from_list_all, Each-flat_map, list_all-from_Each, Each-weaker, Each-append, Each-all}
-pub use Rattle.mpslp_types.proofs.EachLemmas.{Each-map, Each-filter, Each-both}
-pub use Rattle.mpslp_types.specs.Limit.{limit_of, are_sides, is_lower_side, is_upper_side, is_bounded_decimal, is_plus_infinite}
-pub use Rattle.mpslp_types.specs.Limit.{is_minus_infinite}
-pub use Rattle.mpslp_types.specs.Lists.{are_distinct}
-pub use Rattle.mpslp_types.specs.Name.{bytes_cmp, is_lp_name, is_mps_name, same_bytes, begins_a_number, is_letter, is_lp_byte, marker}
-pub use Rattle.mpslp_types.specs.Name.{has_name_length, is_like_exponent, is_reserved, is_one_of}
-pub use Rattle.mpslp_types.specs.{declared.faults.Fault.{Fault}, declared.kinds.Kind.{Kind}, declared.kinds.Limit.{Limit}}
-pub use Rattle.mpslp_types.specs.{declared.kinds.Limit.TheVariants.{MinusInf, Finite, PlusInf}, declared.kinds.Sense.{Sense}}
-pub use Rattle.mpslp_types.specs.declared.kinds.Sense.TheVariants.{Minimize, Maximize}
-pub use Rattle.mpslp_model_core.proofs.CellLemmas.{puts, puts-give, finds_own, some_append_left, equal_from, find-front, some_cons}
+pub use Rattle.mpslp_types.{proofs.EachLemmas.{Each-map, Each-filter, Each-both}, specs.Limit.limit_of}
+pub use Rattle.mpslp_types.specs.Limit.{are_sides, is_lower_side, is_upper_side, is_bounded_decimal, is_plus_infinite, is_minus_infinite}
+pub use Rattle.mpslp_types.specs.{Lists.are_distinct, Name.{bytes_cmp, is_lp_name, is_mps_name, same_bytes, begins_a_number, is_letter}}
+pub use Rattle.mpslp_types.specs.Name.{is_lp_byte, marker, has_name_length, is_like_exponent, is_reserved, is_one_of}
+pub use Rattle.mpslp_types.specs.declared.{faults.Fault.Fault, kinds.{Kind.Kind, Limit.{Limit, TheVariants.{MinusInf, Finite, PlusInf}}}}
+pub use Rattle.mpslp_types.specs.declared.kinds.Sense.{Sense, TheVariants.{Minimize, Maximize}}
+pub use Rattle.mpslp_model_core.proofs.CellLemmas.{puts, puts-give, finds_own, some_append_left, find-front, some_cons}
+pub use Rattle.mpslp_model_core.proofs.CellLemmas.{equal_from}
 pub use Rattle.mpslp_model_core.proofs.CellLemmas.{some_append_right}
 pub use Rattle.mpslp_model_core.specs.Limits.{plain_limits, has_infinite_rhs}
 pub use Rattle.mpslp_model_core.specs.Model.{Column, LinearModel, IsSound, listing_of, Column as ColumnOf, Row, CoefficientKey, Listing}
 pub use Rattle.mpslp_model_core.specs.Model.{key_cmp, is_sound_row, is_sound_column, is_sound_coefficient}
 pub use Rattle.mpslp_builder.proofs.SlotLemmas.{flat_map-none, flat_map-flat_map}
-pub use Rattle.mpslp_builder.proofs.{EntryLemmas.{IsNew, Apart, distinct-append, distinct-flat_map}, DraftEntries.same_key}
+pub use Rattle.mpslp_builder.proofs.EntryLemmas.{IsNew, Apart, distinct-append, distinct-flat_map}
+pub use Rattle.mpslp_builder.proofs.DraftEntries.{same_key}
 pub use Rattle.mpslp_builder.proofs.DraftEntries.{row_part, rhs_part, column_part, coefficient_part, lower_part, upper_part, marked_part}
-pub use Rattle.mpslp_builder.proofs.DraftEntries.{integer_part, binary_part, semi_part, coefficients-all, lowers-all, uppers-all}
-pub use Rattle.mpslp_builder.proofs.DraftEntries.{marked-all}
+pub use Rattle.mpslp_builder.proofs.DraftEntries.{integer_part, binary_part, semi_part, coefficients-all, lowers-all, uppers-all, marked-all}
 pub use Rattle.mpslp_builder.proofs.DraftEntries.{integers-all, binaries-all, semis-all, rhs_values-all, rows-all, columns-all}
 pub use Rattle.mpslp_builder.proofs.EntryLemmas.{stated, all_stated, puts-kept, found-each, then_stated, puts-own, find-kept, find-stated}
 pub use Rattle.mpslp_builder.proofs.EntryLemmas.{sorted-stated, sorted-kept}
-pub use Rattle.mpslp_builder.proofs.{SlotLemmas.{itself_named, value_in}, MadeDrafts.{with_declarations-append, refusals_in_turn-append}}
-pub use Rattle.mpslp_builder.proofs.{MeaningFromNoFault.sorted-mapped, EntryLemmas.{named, found-any, any-name, own-found}}
-pub use Rattle.mpslp_builder.proofs.RefusalLemmas.{are_known_in_turn, consistent-from_none, none-from_fine_in_turn}
-pub use Rattle.mpslp_builder.proofs.SlotLemmas.{has-put, same_name}
-pub use Rattle.mpslp_builder.proofs.DraftEntries.{IsSortedDraft, sorted-draft_of, key_total_sorted as key_total, bytes_total, tied_names}
+pub use Rattle.mpslp_builder.proofs.SlotLemmas.{itself_named, value_in}
+pub use Rattle.mpslp_builder.proofs.{MadeDrafts.{with_declarations-append, refusals_in_turn-append}, MeaningFromNoFault.sorted-mapped}
+pub use Rattle.mpslp_builder.proofs.EntryLemmas.{named}
+pub use Rattle.mpslp_builder.proofs.EntryLemmas.{found-any, any-name, own-found}
+pub use Rattle.mpslp_builder.proofs.RefusalLemmas.{are_known_in_turn}
+pub use Rattle.mpslp_builder.proofs.{RefusalLemmas.{consistent-from_none, none-from_fine_in_turn}, SlotLemmas.{has-put, same_name}}
+pub use Rattle.mpslp_builder.proofs.DraftEntries.{IsSortedDraft, sorted-draft_of}
+pub use Rattle.mpslp_builder.proofs.DraftEntries.{key_total_sorted as key_total, bytes_total, tied_names}
 pub use Rattle.mpslp_builder.proofs.DraftEntries.{lower_of, upper_of, bounded_so, bounded_finite, column_sides, row_sides}
 pub use Rattle.mpslp_builder.specs.Consistency.{is_known, AreConsistent, Slot, row_slot, rhs_slot, range_slot, coefficient_slot, lower_slot}
 pub use Rattle.mpslp_builder.specs.Consistency.{upper_slot, same_slot, slots_of, all_slots, sense_slot, objective_slot, constant_slot}
@@ -59,29 +56,23 @@ pub use Rattle.mpslp_builder.specs.Declaration.{names_in, declare_marked, declar
 pub use Rattle.mpslp_builder.specs.Meaning.{Means, column_of, objective_name, model_of, DraftMeans, constant_of, row_entry, row_passes}
 pub use Rattle.mpslp_builder.specs.Refusal.{refusals_in_turn, bounds_refusals}
 pub use Rattle.mpslp_lines.specs.FaultTests.{is_legal_byte, has_legal_length, first_held, number_fault, value_of}
-pub use Rattle.mpslp_lp_tokens.proofs.NameTokens.{begins-lp, begins-no_number}
-pub use Rattle.mpslp_lp_tokens.specs.Token.{class_of, is_word, tokens, begins_comment, begins_word, continues_word, Token, is_number}
-pub use Rattle.mpslp_lp_tokens.specs.Token.{operator_kind, kind_of, is_blank, Front, longest_within, longest_token, token_at, tokens_from}
-pub use Rattle.mpslp_lp_tokens.specs.declared.tokens.TokenKind.{TokenKind}
+pub use Rattle.mpslp_lp.proofs.{ModelOrFault.{lp_names-declared, model-or_fault}, WorkedFiles.{Passes, declares-from_passes}}
+pub use Rattle.mpslp_lp.specs.{Laws.{has_lp_name, has_legal_bytes}, LpText.DeclaresLp}
+pub use Rattle.mpslp_lp.specs.LpText.{numbered_lines, first_own_fault, outcome, is_finished, declarations_of, sound_terminals, is_lp_text}
 pub use Rattle.mpslp_lp_grammar.specs.Grammar.{no_limits, text_says, text_declares, phrase_at, may_begin_section}
-pub use Rattle.mpslp_lp_grammar.specs.{Items.{apply_sign, Limits, limits_by, flip}, PartialRow.{PartialRow}}
+pub use Rattle.mpslp_lp_grammar.specs.{Items.{apply_sign, Limits, limits_by, flip}, PartialRow.PartialRow}
 pub use Rattle.mpslp_lp_grammar.specs.Phrase.{Point, start, no_section_seen, with_section, section_fault}
 pub use Rattle.mpslp_lp_grammar.specs.Rows.{objective_declared, term_declared, row_limits, row_limits as limits_between, fits_left}
-pub use Rattle.mpslp_lp_grammar.specs.Rows.{row_declared}
-pub use Rattle.mpslp_lp_grammar.specs.{Rules.{Outcome, phrases, made_by}, Rules.Outcome.{Finished}}
-pub use Rattle.mpslp_lp_grammar.specs.Terminal.{Terminal, TerminalAt, word_terminal, token_fault, terminal_of, line_terminals}
-pub use Rattle.mpslp_lp_grammar.specs.Terminal.{lexical_fault, name_fault, word_fault}
-pub use Rattle.mpslp_lp_grammar.specs.Terminal.Terminal.{Name, Sign, Compares, Infinity, Opens, Colon}
-pub use Rattle.mpslp_lp_grammar.specs.declared.relations.Relation.{Relation}
-pub use Rattle.mpslp_lp_grammar.specs.declared.relations.Relation.TheVariants.{AtMost, AtLeast, EqualTo}
-pub use Rattle.mpslp_lp_grammar.specs.{declared.sections_seen.SectionsSeen.{SectionsSeen}, declared.signs.Sign.{Sign as SignOf}}
-pub use Rattle.mpslp_lp_grammar.specs.{declared.signs.Sign.TheVariants.{Minus, Plus}, declared.states.Place.{Place}}
-pub use Rattle.mpslp_lp_grammar.specs.declared.states.Place.TheVariants.{InBounds, BeforeItems, InObjective, BetweenRows, AtStart, InRow}
-pub use Rattle.mpslp_lp_grammar.specs.declared.states.Place.TheVariants.{InGenerals, InSemis}
-pub use Rattle.mpslp_lp.proofs.{ModelOrFault.{lp_names-declared, model-or_fault}, WorkedFiles.{Passes, declares-from_passes}}
-pub use Rattle.mpslp_lp.specs.Laws.{has_lp_name, has_legal_bytes}
-pub use Rattle.mpslp_lp.specs.LpText.{DeclaresLp, numbered_lines, first_own_fault, outcome, is_finished, declarations_of, sound_terminals}
-pub use Rattle.mpslp_lp.specs.LpText.{is_lp_text}
+pub use Rattle.mpslp_lp_grammar.specs.{Rows.row_declared, Rules.{Outcome, phrases, made_by, Outcome.Finished}, Terminal.Terminal}
+pub use Rattle.mpslp_lp_grammar.specs.Terminal.{TerminalAt, word_terminal, token_fault, terminal_of, line_terminals, lexical_fault}
+pub use Rattle.mpslp_lp_grammar.specs.Terminal.{name_fault, word_fault, Terminal.{Name, Sign, Compares, Infinity, Opens, Colon}}
+pub use Rattle.mpslp_lp_grammar.specs.declared.relations.Relation.{Relation, TheVariants.{AtMost, AtLeast, EqualTo}}
+pub use Rattle.mpslp_lp_grammar.specs.declared.{sections_seen.SectionsSeen.SectionsSeen, signs.Sign.{Sign as SignOf, TheVariants.Minus}}
+pub use Rattle.mpslp_lp_grammar.specs.declared.{signs.Sign.TheVariants.Plus, states.Place.{Place, TheVariants.{InBounds, BeforeItems}}}
+pub use Rattle.mpslp_lp_grammar.specs.declared.states.Place.TheVariants.{InObjective, BetweenRows, AtStart, InRow, InGenerals, InSemis}
+pub use Rattle.mpslp_lp_tokens.{proofs.NameTokens.{begins-lp, begins-no_number}, specs.Token.{class_of, is_word, tokens, begins_comment}}
+pub use Rattle.mpslp_lp_tokens.specs.Token.{begins_word, continues_word, Token, is_number, operator_kind, kind_of, is_blank, Front}
+pub use Rattle.mpslp_lp_tokens.specs.{Token.{longest_within, longest_token, token_at, tokens_from}, declared.tokens.TokenKind.TokenKind}
 pub use Rattle.mpslp_canonical_lp.specs.CanonicalLp.{bound_lexemes, line_of_some, bound_lines, canonical_lp, row_terms, Lines, Term}
 pub use Rattle.mpslp_canonical_lp.specs.CanonicalLp.{heading, label_line, sense_word, term_line, row_lines, name_line, semi_heading}
 pub use Rattle.mpslp_canonical_lp.specs.CanonicalLp.{is_integer_column, is_semi_column, objective_terms, listed_lines, term_in}
@@ -91,10 +82,9 @@ pub use Rattle.mpslp_canonical_lp.specs.CanonicalLp.{bounds_section, generals_se
 pub use Rattle.mpslp_canonical_lp.specs.CanonicalLp.{long_line, right_line, minus_large}
 pub use Rattle.mpslp_canonical_lp.specs.Laws.{DeclareTheirModels, DistinguishModels, DeclareWhatFits, AreReadAsPrinted, tokens_seen}
 pub use Rattle.mpslp_canonical_lp.specs.Printed.{Lexeme, word, number, sense, minus_infinity, PrintedLine, semi_continuous, label, sign}
-pub use Rattle.mpslp_canonical_lp.specs.Printed.{sign_bytes, sense_bytes, lexeme_text, line_text, text_of}
-pub use Rattle.mpslp_canonical_lp.specs.PrintedDeclarations.{point_at, terminals_at, AreDerived, AreDerivedAt, is_legal_term}
-pub use Rattle.mpslp_canonical_lp.specs.PrintedDeclarations.{after_objective, EndsObjectiveFrom, DeriveObjectives, AreLegalTerms}
-pub use Rattle.mpslp_canonical_lp.specs.PrintedDeclarations.{row_and_terms, DeriveRows, column_and_bounds, DeriveBounds, DeriveAllKinds}
-pub use Rattle.mpslp_canonical_lp.specs.PrintedDeclarations.{end_heading, DeriveAllHeadings, sign_kind, sense_kind, SeenToken, tokens_in}
-pub use Rattle.mpslp_canonical_lp.specs.PrintedDeclarations.{line_tokens}
+pub use Rattle.mpslp_canonical_lp.specs.{Printed.{sign_bytes, sense_bytes, lexeme_text, line_text, text_of}, PrintedDeclarations.point_at}
+pub use Rattle.mpslp_canonical_lp.specs.PrintedDeclarations.{terminals_at, AreDerived, AreDerivedAt, is_legal_term, after_objective}
+pub use Rattle.mpslp_canonical_lp.specs.PrintedDeclarations.{EndsObjectiveFrom, DeriveObjectives, AreLegalTerms, row_and_terms, DeriveRows}
+pub use Rattle.mpslp_canonical_lp.specs.PrintedDeclarations.{column_and_bounds, DeriveBounds, DeriveAllKinds, end_heading}
+pub use Rattle.mpslp_canonical_lp.specs.PrintedDeclarations.{DeriveAllHeadings, sign_kind, sense_kind, SeenToken, tokens_in, line_tokens}
 pub use Rattle.mpslp_canonical_lp.specs.Unfit.{unfit, is_no_lp_name, first_unfit, or_else, unfit_in}

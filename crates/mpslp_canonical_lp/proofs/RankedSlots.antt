@@ -1,23 +1,31 @@
--- Slots in sections of rising rank: if no section fills a slot twice, all together do not.
+-- Slots in sections of rising rank: if no section fills a slot twice, all together do not. And the slots of a canonical text.
 use Rattle.mpslp_canonical_lp.proofs.Prelude
 use Prelude.{rules, ◌≡◌, refl, sym, ap, ◌∙◌, ℕ, suc, ◌<◌, arith, List, [], ◌∷◌, ◌++◌, true, false, append_assoc, ◌&&◌, Option, Some, None}
 use Prelude.{list_any, flat_map, second_so, is_sorted, is_lt, same_bytes, bytes_cmp, both_so, both_false, so_not, Each-weaker, Each-append}
 use Prelude.{CoefficientKey, are_distinct, Declarations, names_in, Slot, row_slot, rhs_slot, range_slot, coefficient_slot, lower_slot}
-use Prelude.{upper_slot, same_slot, slots_of, all_slots, IsNew, Apart, distinct-append, same_name, bytes_total, itself_named}
-use Rattle.std.specs.FinMap.Entries.{below_all}
+use Prelude.{upper_slot, same_slot, slots_of, all_slots, IsNew, Apart, distinct-append, same_name, bytes_total, itself_named, subst, length}
+use Prelude.{filter_map, if◌then◌else◌, cons_option, option_map, find, Number, zero_number, Each-both, Each-all, Column, key_cmp, Listing}
+use Prelude.{Term, term_in, has_coefficients, objective_term, objective_terms, some_term, row_terms, ◌||◌, Bool, not, map, Limit}
+use Prelude.{Each-flat_map, Row, sense_slot, objective_slot, constant_slot, distinct-flat_map}
+use Rattle.std.{specs.FinMap.Entries.below_all, proofs.lemmas.List.Folds.list_any-append}
 use Rattle.mpslp_types.proofs.EachLemmas.{Each}
+use Rattle.mpslp_canonical_lp.proofs.{LineLemmas.{IsTerm, IsFit, terms-fit, some-fits}, PhraseWalk.{AreNew, terms_declared}}
+use Rattle.mpslp_canonical_lp.proofs.PhraseWalk.{constant_declared, objective_made, bound_made, column_made, general_made, semi_made}
+use Rattle.mpslp_canonical_lp.proofs.TextWalk.{IsRow, row_made, listed_declarations}
+
+-- ---- slots in sections of rising rank: if no section fills a slot twice, all together do not
 
 -- ---- the same slot
 
 same_key : (a b : CoefficientKey) → (same_bytes a.row b.row && same_bytes a.column b.column) ≡ true → a ≡ b
-same_key a b h = search (rules, same_name)
+same_key = search (rules, same_name)
 
 pub slot_is : (a b : Slot) → same_slot a b ≡ true → a ≡ b
-slot_is a b h = search (rules, same_name, same_key)
+slot_is = search (rules, same_name, same_key)
 
 -- a slot differs from all others
 pub new-from_others : (slot : Slot) (slots : List Slot) → Each (λ later. later ≡ slot → ⊥) slots → IsNew same_slot slot slots
-new-from_others slot [] h = refl
+new-from_others _ [] h = refl
 new-from_others slot (later ∷ slots) h = grind (arith, both_false, slot_is, new-from_others slot slots h.1)
 
 -- ---- sections
@@ -33,21 +41,19 @@ module _ (rank : Slot → ℕ) where
   Sections n [] = Unit {0}
   Sections n (section ∷ sections) = Section n section × Sections (suc n) sections
 
-  none-above : (low n : ℕ) → low < n → (sections : List (List Slot)) → Sections n sections → Each (λ slot. rank slot ≡ low → ⊥) (flat_map (λ section. section) sections)
-  none-above low n below [] h = tt
-  none-above low n below (section ∷ sections) h =
-      Each-append (λ slot. rank slot ≡ low → ⊥) section (flat_map (λ s. s) sections)
-      (Each-weaker (λ slot. rank slot ≡ n) (λ slot. rank slot ≡ low → ⊥) (λ slot is other. omega (arith, is, other, below)) section h.0.ranked)
-      (none-above low (suc n) (omega (arith, below)) sections h.1)
+  none-above : (low n : ℕ) → low < n
+      → (sections : List (List Slot)) → Sections n sections → Each (λ slot. rank slot ≡ low → ⊥) (flat_map (λ section. section) sections)
+  none-above _ n _ [] h = tt
+  none-above low n below (section ∷ sections) h = Each-append
+      (λ slot. rank slot ≡ low → ⊥) section (flat_map (λ s. s) sections) (Each-weaker (λ slot. rank slot ≡ n) (λ slot. rank slot ≡ low → ⊥)
+      (λ slot is other. omega (arith, is, other, below)) section h.0.ranked) (none-above low (suc n) (omega (arith, below)) sections h.1)
 
   pub joined-once : (n : ℕ) (sections : List (List Slot)) → Sections n sections → are_distinct same_slot (flat_map (λ section. section) sections) ≡ true
   joined-once n [] h = refl
-  joined-once n (section ∷ sections) h =
-      let later = flat_map (λ (s : List Slot). s) sections in
-      distinct-append same_slot section later h.0.once (joined-once (suc n) sections h.1)
-      (Each-weaker (λ slot. rank slot ≡ n) (λ slot. IsNew same_slot slot later)
-      (λ slot is. new-from_others slot later (Each-weaker (λ other. rank other ≡ n → ⊥) (λ other. other ≡ slot → ⊥) (λ other not_n same. not_n (ap rank same ∙ is)) later (none-above n (suc n) (omega arith) sections h.1)))
-      section h.0.ranked)
+  joined-once n (section ∷ sections) h = let later = flat_map (λ (s : List Slot). s) sections in distinct-append same_slot
+      section later h.0.once (joined-once (suc n) sections h.1) (Each-weaker (λ slot. rank slot ≡ n) (λ slot. IsNew same_slot slot later)
+      (λ slot is. new-from_others slot later (Each-weaker (λ other. rank other ≡ n → ⊥) (λ other. other ≡ slot → ⊥)
+      (λ other not_n same. not_n (ap rank same ∙ is)) later (none-above n (suc n) (omega arith) sections h.1))) section h.0.ranked)
 
 -- ---- names
 
@@ -60,21 +66,21 @@ no_tie : (a b : List ℕ) → is_lt (bytes_cmp a b) ≡ true → same_bytes b a 
 no_tie = grind (arith, same_name, bytes_total)
 
 above-other : {X : Type 0} (name : List ℕ) (es : List (List ℕ × X)) → below_all bytes_cmp name es ≡ true → Each (λ later. same_bytes later.0 name ≡ false) es
-above-other name [] h = tt
+above-other _ [] h = tt
 above-other name (e ∷ es) h = grind (arith, no_tie, above-other name es (second_so (is_lt (bytes_cmp name e.0)) (below_all bytes_cmp name es) h))
 
 pub other-from_sorted : {X : Type 0} (es : List (List ℕ × X)) → is_sorted bytes_cmp es ≡ true → AreOther es
 other-from_sorted [] h = tt
 other-from_sorted (e ∷ es) h = grind (arith, above-other, other-from_sorted es (second_so (below_all bytes_cmp e.0 es) (is_sorted bytes_cmp es) h))
 
-none_named : {X : Type 0} (name : List ℕ) (es : List (List ℕ × X)) → Each (λ later. same_bytes later.0 name ≡ false) es → list_any (λ later. same_bytes later name) (names_in es) ≡ false
-none_named name [] h = refl
+none_named : {X : Type 0} (name : List ℕ) (es : List (List ℕ × X))
+    → Each (λ later. same_bytes later.0 name ≡ false) es → list_any (λ later. same_bytes later name) (names_in es) ≡ false
+none_named _ [] h = refl
 none_named name (e ∷ es) h = both_false _ _ h.0 (none_named name es h.1)
 
 pub names-distinct : {X : Type 0} (es : List (List ℕ × X)) → AreOther es → are_distinct same_bytes (names_in es) ≡ true
 names-distinct [] h = refl
-names-distinct (e ∷ es) h =
-    both_so _ _ (so_not _ (none_named e.0 es h.0)) (names-distinct es h.1)
+names-distinct (e ∷ es) h = both_so _ _ (so_not _ (none_named e.0 es h.0)) (names-distinct es h.1)
 
 -- ---- slots of entries
 
@@ -92,20 +98,252 @@ some_name : (a b : List ℕ) → Some a ≡ Some b → same_bytes b a ≡ false 
 some_name = grind (arith, itself_named)
 
 -- The slots of entries of different names are different, if each has the name of its entry.
-pub owners-apart : {X : Type 0} (f : List ℕ × X → List Slot) → ((e : List ℕ × X) → Each (λ slot. owner slot ≡ Some e.0) (f e)) → (es : List (List ℕ × X)) → AreOther es → Apart same_slot f es
-owners-apart f own [] h = tt
+pub owners-apart : {X : Type 0} (f : List ℕ × X → List Slot)
+    → ((e : List ℕ × X) → Each (λ slot. owner slot ≡ Some e.0) (f e)) → (es : List (List ℕ × X)) → AreOther es → Apart same_slot f es
+owners-apart f _ [] h = tt
 owners-apart {X} f own (e ∷ es) h = (
-  Each-weaker (λ slot. owner slot ≡ Some e.0) (λ slot. Each (λ later. IsNew same_slot slot (f later)) es) (λ slot is. Each-weaker (λ later. same_bytes later.0 e.0 ≡ false) (λ later. IsNew same_slot slot (f later)) (λ later other.
-      new-from_others slot (f later) (Each-weaker (λ x. owner x ≡ Some later.0) (λ x. x ≡ slot → ⊥) (λ x its same. some_name e.0 later.0 (sym is ∙ ap owner (sym same) ∙ its) other) (f later) (own later))) es h.0) (f e) (own e),
+  Each-weaker (λ slot. owner slot ≡ Some e.0) (λ slot. Each (λ later. IsNew same_slot slot (f later)) es)
+      (λ slot is. Each-weaker (λ later. same_bytes later.0 e.0 ≡ false) (λ later. IsNew same_slot slot (f later))
+      (λ later other. new-from_others slot (f later) (Each-weaker (λ x. owner x ≡ Some later.0) (λ x. x ≡ slot → ⊥)
+      (λ x its same. some_name e.0 later.0 (sym is ∙ ap owner (sym same) ∙ its) other) (f later) (own later))) es h.0) (f e) (own e),
   owners-apart f own es h.1,
 )
 
 -- ---- slots of several declarations
 
 pub slots-append : (xs ys : Declarations) → all_slots (xs ++ ys) ≡ all_slots xs ++ all_slots ys
-slots-append [] ys = refl
+slots-append [] _ = refl
 slots-append (x ∷ xs) ys = ap (λ (slots : List Slot). slots_of x ++ slots) (slots-append xs ys) ∙ sym (append_assoc (slots_of x) (all_slots xs) (all_slots ys))
 
 pub slots-flat : {X : Type 0} (f : X → Declarations) (xs : List X) → all_slots (flat_map f xs) ≡ flat_map (λ x. all_slots (f x)) xs
 slots-flat f [] = refl
 slots-flat f (x ∷ xs) = slots-append (f x) (flat_map f xs) ∙ ap (λ (slots : List Slot). all_slots (f x) ++ slots) (slots-flat f xs)
+
+-- ---- the terms that are printed of the objective or of a row are of different columns
+
+-- a term for each column that has a value
+abbrev terms_by : (List ℕ × Column → Option Number) → List (List ℕ × Column) → List Term
+terms_by value_of columns = filter_map (λ column. option_map (λ value. (column.0, value)) (value_of column)) columns
+
+each-term : (P : List ℕ → Type 0) (value_of : List ℕ × Column → Option Number) (columns : List (List ℕ × Column))
+    → Each (λ column. P column.0) columns → Each (λ term. P term.0) (terms_by value_of columns)
+each-term P _ [] h = tt
+each-term P value_of (column ∷ columns) h = grind (arith, each-term P value_of columns h.1)
+
+other-terms : (value_of : List ℕ × Column → Option Number) (columns : List (List ℕ × Column)) → AreOther columns → AreOther (terms_by value_of columns)
+other-terms _ [] h = tt
+other-terms value_of (column ∷ columns) h = by (value_of column) (other-terms value_of columns h.1)
+  where
+    by : (o : Option Number) → AreOther (terms_by value_of columns)
+        → AreOther (cons_option (option_map (λ (value : Number). (column.0, value)) o) (terms_by value_of columns))
+    by None more = more
+    by (Some _) more = (each-term (λ name. same_bytes name column.0 ≡ false) value_of columns h.0, more)
+
+-- ---- the objective
+
+abbrev objective_value : Listing → List ℕ × Column → Option Number
+objective_value m column = if has_coefficients m column then find key_cmp (record { row = m.objective; column = column.0 }) m.coefficients else Some zero_number
+
+objective-by : (m : Listing) (column : List ℕ × Column) → option_map (λ (value : Number). (column.0, value)) (objective_value m column) ≡ objective_term m column
+objective-by = grind arith
+
+pub objective-other : (m : Listing) → AreOther m.columns → AreOther (objective_terms m)
+objective-other m h = subst AreOther (λ i. filter_map (λ column. objective-by m column i) m.columns) (other-terms (objective_value m) m.columns h)
+
+-- ---- rows
+
+some-other : (columns : List (List ℕ × Column)) (terms : List Term) → AreOther terms → AreOther (some_term columns terms)
+some-other = grind arith
+
+pub row-other : (m : Listing) (row : List ℕ) → AreOther m.columns → AreOther (row_terms m row)
+row-other m row h = some-other m.columns (filter_map (term_in m row) m.columns)
+    (other-terms (λ column. find key_cmp (record { row = row; column = column.0 }) m.coefficients) m.columns h)
+
+-- terms after others with different columns
+new-after : (seen terms : List Term) → Each (λ (term : Term). list_any (λ (earlier : Term). same_bytes term.0 earlier.0) seen ≡ false) terms
+    → AreOther terms → AreNew seen terms
+new-after _ [] h _ = tt
+new-after seen (term ∷ terms) h other = grind (
+  arith,
+  list_any-append,
+  both_false,
+  new-after (seen ++ term ∷ []) terms (Each-both (λ (later : Term). list_any (λ (earlier : Term). same_bytes later.0 earlier.0) seen
+      ≡ false) (λ (later : Term). same_bytes later.0 term.0 ≡ false) (λ (later : Term). list_any (λ (earlier : Term). same_bytes later.0
+      earlier.0) (seen ++ term ∷ []) ≡ false) (λ later no apart. list_any-append (λ (earlier : Term). same_bytes later.0 earlier.0) seen
+      (term ∷ []) ∙ both_false (list_any (λ (earlier : Term). same_bytes later.0 earlier.0) seen)
+      (same_bytes later.0 term.0 || false) no (both_false (same_bytes later.0 term.0) false apart refl)) terms h.1 other.0) other.1,
+)
+
+some-row : (columns : List (List ℕ × Column)) (terms : List Term)
+    → 0 < length columns → (P : List Term → Type 0) → ((term : Term) (more : List Term) → P (term ∷ more)) → P (some_term columns terms)
+some-row = grind arith
+
+-- Each row is printed with terms, none of them of the same column twice.
+pub plain-row : (m : Listing) → IsFit m → AreOther m.columns → 0 < length m.columns → (row : List ℕ) → IsRow (row_terms m row)
+plain-row m fit other some row = let terms = filter_map (term_in m row) m.columns in
+    some-row m.columns terms some (λ (ts : List Term). Each IsTerm ts → AreOther ts → IsRow ts) (λ term more good apart. (
+      good,
+      new-after [] (term ∷ more) (Each-all
+          (λ (later : Term). list_any (λ (earlier : Term). same_bytes later.0 earlier.0) [] ≡ false) (λ _. refl) (term ∷ more)) apart,
+    )) (some-fits m.columns terms fit.columns (terms-fit m fit row)) (row-other m row other)
+
+-- ---- what the canonical text declares fills no slot twice
+
+-- ---- ranks: the row of the objective is separate from the others
+
+abbrev of_row : Bool → ℕ
+of_row is_objective = if is_objective then 2 else 4
+
+abbrev rank : List ℕ → Slot → ℕ
+rank objective sense_slot = 0
+rank objective objective_slot = 1
+rank objective constant_slot = 3
+rank objective (row_slot name) = of_row (same_bytes name objective)
+rank objective (rhs_slot name) = of_row (same_bytes name objective)
+rank objective (range_slot name) = of_row (same_bytes name objective)
+rank objective (coefficient_slot key) = of_row (same_bytes key.row objective)
+rank objective _ = 5
+
+-- ---- coefficients
+
+abbrev cell_slot : List ℕ → List ℕ → Slot
+cell_slot row column = coefficient_slot (record { row = row; column = column })
+
+cells-fill : (row : List ℕ) (terms : List Term) → all_slots (terms_declared row terms) ≡ map (cell_slot row) (names_in terms)
+cells-fill _ [] = refl
+cells-fill row (term ∷ terms) = ap (λ (slots : List Slot). cell_slot row term.0 ∷ slots) (cells-fill row terms)
+
+cells-any : (row column : List ℕ) (columns : List (List ℕ)) → list_any
+    (λ later. same_slot later (cell_slot row column)) (map (cell_slot row) columns) ≡ list_any (λ later. same_bytes later column) columns
+cells-any _ _ [] = refl
+cells-any row column (other ∷ columns) = λ i. (itself_named row i && same_bytes other column) || cells-any row column columns i
+
+cells-distinct : (row : List ℕ) (columns : List (List ℕ)) → are_distinct same_bytes columns ≡ true → are_distinct same_slot (map (cell_slot row) columns) ≡ true
+cells-distinct row columns h = by columns ∙ h
+  where
+    by : (names : List (List ℕ)) → are_distinct same_slot (map (cell_slot row) names) ≡ are_distinct same_bytes names
+    by [] = refl
+    by (name ∷ names) = λ i. not (cells-any row name names i) && by names i
+
+-- a property of each slot of the coefficients of a row
+each-cell : (P : Slot → Type 0) (row : List ℕ) (terms : List Term)
+    → ((column : List ℕ) → P (cell_slot row column)) → Each P (all_slots (terms_declared row terms))
+each-cell P _ [] h = tt
+each-cell P row (term ∷ terms) h = (h term.0, each-cell P row terms h)
+
+terms-once : (row : List ℕ) (terms : List Term) → AreOther terms → are_distinct same_slot (all_slots (terms_declared row terms)) ≡ true
+terms-once row terms other = ap (are_distinct same_slot) (cells-fill row terms) ∙ cells-distinct row (names_in terms) (names-distinct terms other)
+
+-- ---- a row
+
+no_cell : (slot : Slot) (row : List ℕ) (terms : List Term) → ((column : List ℕ) → same_slot (cell_slot row column) slot ≡ false)
+    → list_any (λ later. same_slot later slot) (all_slots (terms_declared row terms)) ≡ false
+no_cell _ _ [] h = refl
+no_cell slot row (term ∷ terms) h = both_false _ _ (h term.0) (no_cell slot row terms h)
+
+row-once : (name : List ℕ) (terms : List Term) → AreOther terms
+    → are_distinct same_slot (row_slot name ∷ rhs_slot name ∷ range_slot name ∷ all_slots (terms_declared name terms)) ≡ true
+row-once name terms other = let cells = all_slots (terms_declared name terms) in both_so _ _
+    (so_not _ (no_cell (row_slot name) name terms (λ _. refl))) (both_so _ _ (so_not _ (no_cell (rhs_slot name) name terms (λ _. refl)))
+    (both_so _ _ (so_not _ (no_cell (range_slot name) name terms (λ _. refl))) (terms-once name terms other)))
+
+abbrev row_slots : Listing → List ℕ × Row → List Slot
+row_slots m row = all_slots (row_made m row)
+
+each-row_slot : (P : Slot → Type 0) (m : Listing) (row : List ℕ × Row) → P (row_slot row.0)
+    → P (rhs_slot row.0) → P (range_slot row.0) → ((column : List ℕ) → P (cell_slot row.0 column)) → Each P (row_slots m row)
+each-row_slot P m row a b c d = (a, (b, (c, each-cell P row.0 (row_terms m row.0) d)))
+
+rows-section : (m : Listing) → AreOther m.columns → AreOther m.rows
+    → Each (λ row. same_bytes row.0 m.objective ≡ false) m.rows → Section (rank m.objective) 4 (flat_map (row_slots m) m.rows)
+rows-section m columns rows others = record {
+  once = distinct-flat_map same_slot (row_slots m) m.rows (Each-all (λ row. are_distinct same_slot (row_slots m row) ≡ true)
+      (λ row. row-once row.0 (row_terms m row.0) (row-other m row.0 columns)) m.rows)
+      (owners-apart (row_slots m) (λ row. each-row_slot (λ slot. owner slot ≡ Some row.0) m row refl refl refl (λ _. refl)) m.rows rows);
+  ranked = Each-flat_map (λ slot. rank m.objective slot ≡ 4) (row_slots m) m.rows (Each-weaker (λ row. same_bytes row.0 m.objective ≡ false)
+      (λ row. Each (λ slot. rank m.objective slot ≡ 4) (row_slots m row)) (λ row other. each-row_slot (λ slot. rank m.objective slot ≡ 4)
+      m row (ap of_row other) (ap of_row other) (ap of_row other) (λ _. ap of_row other)) m.rows others);
+}
+
+-- ---- the objective
+
+objective-section : (m : Listing)
+    → AreOther m.columns → Section (rank m.objective) 2 (row_slot m.objective ∷ all_slots (terms_declared m.objective (objective_terms m)))
+objective-section m columns = let cells = all_slots (terms_declared m.objective (objective_terms m)) in record {
+  once = both_so _ _ (so_not _ (no_cell (row_slot m.objective) m.objective (objective_terms m) (λ _. refl)))
+      (terms-once m.objective (objective_terms m) (objective-other m columns));
+  ranked = (
+    ap of_row (itself_named m.objective),
+    each-cell (λ slot. rank m.objective slot ≡ 2) m.objective (objective_terms m) (λ _. ap of_row (itself_named m.objective)),
+  );
+}
+
+constant-section : (objective : List ℕ) (value : Number) → Section (rank objective) 3 (all_slots (constant_declared value))
+constant-section = grind arith
+
+-- ---- bounds
+
+-- the slots of a column's bounds
+record IsOfColumn (objective column : List ℕ) (slots : List Slot) : Type 0 where
+  pub once : are_distinct same_slot slots ≡ true
+  pub own : Each (λ slot. owner slot ≡ Some column) slots
+  pub ranked : Each (λ slot. rank objective slot ≡ 5) slots
+
+bound-slots : (objective column : List ℕ) (lower upper : Limit) → IsOfColumn objective column (all_slots (bound_made column lower upper))
+bound-slots = grind arith
+
+abbrev bound_slots : List ℕ × Column → List Slot
+bound_slots column = all_slots (column_made column)
+
+slots-of_column : (objective : List ℕ) (column : List ℕ × Column) → IsOfColumn objective column.0 (bound_slots column)
+slots-of_column objective column = bound-slots objective column.0 column.1.lower column.1.upper
+
+bounds-section : (m : Listing) → AreOther m.columns → Section (rank m.objective) 5 (flat_map bound_slots m.columns)
+bounds-section m columns = record {
+  once = distinct-flat_map same_slot bound_slots m.columns (Each-all
+      (λ column. are_distinct same_slot (bound_slots column) ≡ true) (λ column. (slots-of_column m.objective column).once) m.columns)
+      (owners-apart bound_slots (λ column. (slots-of_column m.objective column).own) m.columns columns);
+  ranked = Each-flat_map (λ slot. rank m.objective slot ≡ 5) bound_slots m.columns (Each-all (λ column. Each
+      (λ slot. rank m.objective slot ≡ 5) (bound_slots column)) (λ column. (slots-of_column m.objective column).ranked) m.columns);
+}
+
+-- ---- the whole
+
+abbrev sections : Listing → List (List Slot)
+sections m = (sense_slot ∷ []) ∷ (objective_slot ∷ []) ∷ (row_slot m.objective ∷ all_slots (terms_declared m.objective (objective_terms m)))
+    ∷ all_slots (constant_declared m.constant) ∷ flat_map (row_slots m) m.rows ∷ flat_map bound_slots m.columns ∷ []
+
+kinds-fill : (make : List ℕ × Column → Declarations) → ((column : List ℕ × Column) → all_slots (make column) ≡ [])
+    → (columns : List (List ℕ × Column)) → all_slots (flat_map make columns) ≡ []
+kinds-fill _ h [] = refl
+kinds-fill make h (column ∷ columns) = slots-append (make column) (flat_map make columns) ∙ (λ i. h column i ++ kinds-fill make h columns i)
+
+sections-fill : (m : Listing) → all_slots (listed_declarations m) ≡ flat_map (λ (section : List Slot). section) (sections m)
+sections-fill = grind (
+  arith,
+  terms_declared,
+  constant_declared,
+  row_made,
+  column_made,
+  general_made,
+  semi_made,
+  slots-append,
+  kinds-fill,
+  slots-flat,
+  objective_made,
+  append_assoc,
+)
+
+-- No slot is filled twice, if rows and columns have different names, and no row has that of the objective.
+pub listed-once : (m : Listing) → AreOther m.columns → AreOther m.rows
+    → Each (λ row. same_bytes row.0 m.objective ≡ false) m.rows → are_distinct same_slot (all_slots (listed_declarations m)) ≡ true
+listed-once m columns rows others = let all : Sections (rank m.objective) 0 (sections m) = (
+  record { once = refl; ranked = (refl, tt) },
+  (
+    record { once = refl; ranked = (refl, tt) },
+    (
+      objective-section m columns,
+      (constant-section m.objective m.constant, (rows-section m columns rows others, (bounds-section m columns, tt))),
+    ),
+  ),
+) in ap (are_distinct same_slot) (sections-fill m) ∙ joined-once (rank m.objective) 0 (sections m) all

@@ -4,14 +4,12 @@ use Prelude.{◌≡◌, refl, ap, map, Bool, Each, Option, ℕ, ℤ, pos, negsuc
 use Prelude.{Number, zero_number, Fault, LinearModel, CoefficientKey, Row, Column, Listing, Sense, Minimize, Maximize, Kind, Limit}
 use Prelude.{MinusInf, Finite, PlusInf, empty_draft, has_objective, model_of, refusals_in_turn, is_lp_text, declarations_of, draft_of}
 use Prelude.{listed_lines, text_of, unfit, unfit_in}
-use Prim.Native.String.{String}
 use Rattle.std.specs.Fmt.{digits}
 use Rattle.mpslp_decimal.specs.Decimal.{trailing_zeros}
-use Rattle.mpslp_types.specs.declared.kinds.Kind.TheVariants.{Continuous, Integer, Semi}
-use Rattle.mpslp_builder.specs.Made.{is_legal}
-use Rattle.mpslp_builder.specs.FileFault.{file_fault}
+use Rattle.mpslp_types.specs.declared.{kinds.Kind.TheVariants.{Continuous, Integer, Semi}, faults.{BuildFault.BuildFault, NameAt.NameAt}}
+use Rattle.mpslp_builder.specs.{Made.is_legal, FileFault.file_fault}
 use Rattle.mpslp_canonical_lp.proofs.ListedText.{model_in, is_in_order, IsPrinted, line_text-from_passes, unfit-listed}
-use Rattle.mpslp_types.specs.{declared.faults.BuildFault.{BuildFault}, declared.faults.NameAt.{NameAt}}
+use Prim.Native.String.{String}
 use Rattle.mpslp_types.specs.declared.faults.NameAt.TheVariants as places
 
 -- ---- models by their entries, in byte order
@@ -58,18 +56,17 @@ of_column kind lower upper = listing Minimize "C" zero_number [] (column "X" kin
 
 -- what makes a text that of a model, which it declares
 abbrev tests : Listing × List ℕ → Bool × List ℕ × Option NameAt × Bool × Bool × Bool × List BuildFault × Option Fault × LinearModel
-tests row =
-    let declared = declarations_of row.1 in (
-      is_in_order row.0,
-      text_of (listed_lines row.0),
-      unfit_in row.0,
-      is_lp_text row.1,
-      has_objective declared,
-      list_all is_legal declared,
-      refusals_in_turn empty_draft declared,
-      file_fault (draft_of declared),
-      model_of (draft_of declared),
-    )
+tests row = let declared = declarations_of row.1 in (
+  is_in_order row.0,
+  text_of (listed_lines row.0),
+  unfit_in row.0,
+  is_lp_text row.1,
+  has_objective declared,
+  list_all is_legal declared,
+  refusals_in_turn empty_draft declared,
+  file_fault (draft_of declared),
+  model_of (draft_of declared),
+)
 
 abbrev passing : Listing × List ℕ → Bool × List ℕ × Option NameAt × Bool × Bool × Bool × List BuildFault × Option Fault × LinearModel
 passing row = (true, row.1, None, true, true, true, [], None, model_in row.0)
@@ -79,18 +76,17 @@ IsRowPrinted row = IsPrinted row.0 row.1
 
 each-printed : (rows : List (Listing × List ℕ)) → map tests rows ≡ map passing rows → Each IsRowPrinted rows
 each-printed [] e = tt
-each-printed (row ∷ rows) e =
-    let h : tests row ≡ passing row = cc in (
-      line_text-from_passes row.0 row.1 (ap (λ t. t.0) h) (ap (λ t. t.1) h) (ap (λ t. t.2) h) (record {
-        is_text = ap (λ t. t.3) h;
-        objective = ap (λ t. t.4) h;
-        legal = ap (λ t. t.5) h;
-        unrefused = ap (λ t. t.6) h;
-        no_fault = ap (λ t. t.7) h;
-        model = ap (λ t. t.8) h;
-      }),
-      each-printed rows cc,
-    )
+each-printed (row ∷ rows) e = let h : tests row ≡ passing row = cc in (
+  line_text-from_passes row.0 row.1 (ap (λ t. t.0) h) (ap (λ t. t.1) h) (ap (λ t. t.2) h) (record {
+    is_text = ap (λ t. t.3) h;
+    objective = ap (λ t. t.4) h;
+    legal = ap (λ t. t.5) h;
+    unrefused = ap (λ t. t.6) h;
+    no_fault = ap (λ t. t.7) h;
+    model = ap (λ t. t.8) h;
+  }),
+  each-printed rows cc,
+)
 
 -- ---- the texts
 
@@ -183,16 +179,14 @@ unfolding digits trailing_zeros
 worked_texts-printed = each-printed worked_texts refl
 
 -- the first has 92 bytes
-pub small_length : length (codes "Minimize\n COST:\n  + 1 X\n  + 2 Y\nSubject To\n LIM1:\n  + 1 X\n  <= 4\n MYG:\n  + 1.5 Y\n  >= 1\nEnd\n")
-    ≡ 92
+pub small_length : length (codes "Minimize\n COST:\n  + 1 X\n  + 2 Y\nSubject To\n LIM1:\n  + 1 X\n  <= 4\n MYG:\n  + 1.5 Y\n  >= 1\nEnd\n") ≡ 92
 small_length = refl
 
 -- ---- names that are not legal in LP: that of the objective is reported first, then that of a row, then that of a column
 
 abbrev named : String → String → String → Listing
-named objective second_row column_name =
-    listing Minimize objective zero_number (row "a" MinusInf PlusInf ∷ row second_row MinusInf PlusInf ∷ [])
-    (column column_name Continuous zero_limit PlusInf ∷ []) []
+named objective second_row column_name = listing Minimize objective zero_number
+    (row "a" MinusInf PlusInf ∷ row second_row MinusInf PlusInf ∷ []) (column column_name Continuous zero_limit PlusInf ∷ []) []
 
 pub unfit_objective : unfit (model_in (named "free" "b-1" "x-1")) ≡ Some places.Objective
 unfit_objective = unfit-listed (named "free" "b-1" "x-1") places.Objective refl refl

@@ -1,17 +1,14 @@
 -- Worked files: each declares the model that is written out, by computation.
-use Rattle.std.specs.Fmt.{digits}
-use Rattle.mpslp_decimal.specs.Decimal.{trailing_zeros}
 use Rattle.mpslp_lp.proofs.Prelude
-use Prelude.{◌≡◌, refl, ℤ, Option, None, codes, list_all, flat_map, zero_number, CoefficientKey, Row, Column}
-use Prelude.{LinearModel, Draft, empty_draft, draft_of, refusals_in_turn, is_legal, model_of, file_fault, Sense, Limit, MinusInf, Finite}
-use Prelude.{PlusInf, means-from_none, is_lp_text, declarations_of, DeclaresLp, BuildFault}
-use Prim.Native.String.{String}
+use Prelude.{◌≡◌, refl, ℤ, Option, None, codes, list_all, flat_map, zero_number, CoefficientKey, Row, Column, LinearModel, Draft}
+use Prelude.{empty_draft, draft_of, refusals_in_turn, is_legal, model_of, file_fault, Sense, Limit, MinusInf, Finite, PlusInf}
+use Prelude.{means-from_none, is_lp_text, declarations_of, DeclaresLp, BuildFault, map, Bool}
+use Rattle.std.specs.{Fmt.digits, Prelude.{ℕ, pos, negsuc, List, ◌∷◌, [], ◌++◌, true}}
+use Rattle.mpslp_decimal.specs.Decimal.{trailing_zeros, Number}
+use Rattle.mpslp_types.specs.declared.kinds.{Kind.{Kind, TheVariants.{Continuous, Integer, Semi}}, Sense.TheVariants.{Minimize, Maximize}}
+use Rattle.mpslp_types.specs.declared.faults.Fault.{Fault}
 use Rattle.mpslp_builder.specs.Consistency.{has_objective}
-use Rattle.mpslp_decimal.specs.Decimal.{Number}
-use Rattle.mpslp_types.specs.{declared.kinds.Kind.{Kind}, declared.kinds.Kind.TheVariants.{Continuous, Integer, Semi}}
-use Rattle.mpslp_types.specs.{declared.kinds.Sense.TheVariants.{Minimize, Maximize}, declared.faults.Fault.{Fault}}
-use Rattle.std.proofs.Common.{map, Bool}
-use Rattle.std.specs.Prelude.{ℕ, pos, negsuc, List, ◌∷◌, [], ◌++◌, true}
+use Prim.Native.String.{String}
 use Rattle.std.specs.FinMap as maps
 
 -- lines, each followed by a line feed
@@ -31,8 +28,7 @@ pub record Passes (bytes : List ℕ) (m : LinearModel) : Type 0 where
   pub model : model_of (draft_in bytes) ≡ m
 
 pub declares-from_passes : (bytes : List ℕ) (m : LinearModel) → Passes bytes m → DeclaresLp bytes (model_of (draft_in bytes))
-declares-from_passes bytes m h =
-    record { text = h.is_text; means = means-from_none (declarations_of bytes) h.objective h.legal h.unrefused h.no_fault }
+declares-from_passes bytes m h = record { text = h.is_text; means = means-from_none (declarations_of bytes) h.objective h.legal h.unrefused h.no_fault }
 
 -- ---- models by their entries, in byte order
 
@@ -159,15 +155,14 @@ abbrev Tests : Type 0
 Tests = Bool × Bool × Bool × List BuildFault × Option Fault × LinearModel
 
 abbrev tests : List ℕ × LinearModel → Tests
-tests row =
-    let declared = declarations_of row.0 in (
-      is_lp_text row.0,
-      has_objective declared,
-      list_all is_legal declared,
-      refusals_in_turn empty_draft declared,
-      file_fault (draft_of declared),
-      model_of (draft_of declared),
-    )
+tests row = let declared = declarations_of row.0 in (
+  is_lp_text row.0,
+  has_objective declared,
+  list_all is_legal declared,
+  refusals_in_turn empty_draft declared,
+  file_fault (draft_of declared),
+  model_of (draft_of declared),
+)
 
 abbrev passing : List ℕ × LinearModel → Tests
 passing row = (true, true, true, [], None, row.1)

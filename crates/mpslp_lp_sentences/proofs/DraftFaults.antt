@@ -7,22 +7,22 @@ use Prelude.{Decimal, is_plus_infinite, is_minus_infinite, bytes_cmp, BuildFault
 use Prelude.{so_not, either, those_of, Declaration, Declarations, Draft, with_declaration, with_declarations, declare_constant, declare_rhs}
 use Prelude.{declare_column, declare_lower, declare_upper, declare_marked, declare_integer, declare_binary, declare_semi, bounds_declared}
 use Prelude.{has_name, has_column, is_integer, is_semi, has_constant, refusals_in_turn, itself_named, has-put, same_name}
-use Prelude.{kind_of_build_fault, section_of, Section, Objective, Bounds, Generals, Binaries, SemiContinuous, SectionWord, Context}
-use Prelude.{Relation, SignOf, ItemOwner, OfObjective, OfRow, Place, AtStart, BeforeItems, InObjective, BetweenRows, InBounds, InGenerals}
-use Prelude.{InBinaries, InSemis, SideOwner, SideOfRow, SideOfBound, State, Between, AtObjective, ObjectiveName, AtSemi, Signs, ItemNumber}
-use Prelude.{RowLabel, BoundName, BoundLeftRelation, AtSide, SideSign, AfterToken, Goes, Refuses, refuse, with_made, declare_unless_refused}
+use Prelude.{kind_of_build_fault, Objective, Bounds, Generals, Binaries, SemiContinuous, SectionWord, Context, Relation, SignOf, ItemOwner}
+use Prelude.{OfObjective, OfRow, Place, AtStart, BeforeItems, InObjective, BetweenRows, InBounds, InGenerals, InBinaries, InSemis}
+use Prelude.{SideOwner, SideOfRow, SideOfBound, State, Between, AtObjective, ObjectiveName, AtSemi, Signs, ItemNumber, RowLabel, BoundName}
+use Prelude.{BoundLeftRelation, AtSide, SideSign, AfterToken, Goes, Refuses, refuse, with_made, declare_unless_refused}
 use Prelude.{take_after_declarations, declare_at, take_term, take_after_signs, begin_item, take_bound, take_side, no_limits, open_section}
 use Prelude.{begin_row, take_second_relation, begin_phrase, begin, one, Limits, limits_by, flip, term_declared, objective_declared}
-use Prelude.{default_objective, first_item_declared, row_limits, row_declared, PartialRow, start, has_seen, is_out_of_order, Terminal}
-use Prelude.{Opens, Name, Number, Sign, Compares, Colon, Infinity, Free, new_column, begin_after, take_after_lone_number, take, IsInWords}
-use Prelude.{is_section, current_section, is_under, is_named, collected, names_again, ends_in_number, ends_in_sign, may_follow_constant}
-use Prelude.{completes_constant, has_constant_before, repeats_constant, gives_lower, gives_upper, last_name, last_relation, column_before}
-use Prelude.{after_sign, completed, completes_bound, repeats_bound, names_integer, names_semi, changes_kind}
-use Rattle.mpslp_lp_sentences.proofs.{FaultedTokens.{in-words}, Refusals.{refuses, first-refused, terms-refuse}}
+use Prelude.{default_objective, first_item_declared, row_limits, row_declared, PartialRow, start, Terminal, Opens, Name, Number, Sign}
+use Prelude.{Compares, Colon, Infinity, Free, new_column, begin_after, take_after_lone_number, take, IsInWords, is_section, current_section}
+use Prelude.{is_under, is_named, collected, names_again, ends_in_number, ends_in_sign, may_follow_constant, completes_constant}
+use Prelude.{has_constant_before, repeats_constant, gives_lower, gives_upper, last_name, last_relation, column_before, after_sign}
+use Prelude.{completed, completes_bound, repeats_bound, names_integer, names_semi, changes_kind}
+use Rattle.mpslp_lp_sentences.proofs.FaultedTokens.{in-words, refuses, first-refused, terms-refuse, signs-by, item-by, limit-by, listed-by}
+use Rattle.mpslp_lp_sentences.proofs.FaultedTokens.{lone-by, bound_name-by, bound_column-by, side-by, begin-by, objective-by}
+use Rattle.mpslp_lp_sentences.proofs.FaultedTokens.{objective_name-by, item_number-by, semi-by}
 use Rattle.mpslp_lp_sentences.proofs.RowShapes.{PlaceShape, RelatedTo, SideShape, SignedSideShape, NumberShape, Shape, Shaped, shaped-later}
 use Rattle.mpslp_lp_sentences.proofs.SectionFaults.{section_at_place, section_of_item, section_of_side, section_at}
-use Rattle.mpslp_lp_sentences.proofs.TokenCases.{signs-by, item-by, limit-by, listed-by, lone-by, bound_name-by, bound_column-by, side-by}
-use Rattle.mpslp_lp_sentences.proofs.TokenCases.{begin-by, objective-by, objective_name-by, item_number-by, semi-by}
 use Rattle.mpslp_types.specs.declared.faults.BuildFault.TheVariants as builds
 use Rattle.mpslp_types.specs.declared.faults.FaultKind.TheVariants as kinds
 
@@ -48,8 +48,9 @@ is_shown earlier (declare_binary column) = is_named column (collected names_inte
 is_shown earlier (declare_semi column) = is_named column (collected names_semi earlier)
 is_shown earlier _ = true
 
-named-put : {X : Type 0} (name new : List ℕ) (value : X) (entries : List (List ℕ × X)) (names : List (List ℕ)) → (has_name entries name ≡ true → is_named name names ≡ true) → is_named new names ≡ true
-    → has_name (put bytes_cmp new value entries) name ≡ true → is_named name names ≡ true
+named-put : {X : Type 0} (name new : List ℕ) (value : X) (entries : List (List ℕ × X)) (names : List (List ℕ))
+    → (has_name entries name ≡ true → is_named name names ≡ true)
+    → is_named new names ≡ true → has_name (put bytes_cmp new value entries) name ≡ true → is_named name names ≡ true
 named-put name new value entries names old here h = search (rules, has-put, same_name)
 
 -- ---- one declaration more
@@ -64,14 +65,14 @@ shown-one (declare_binary column) all earlier h k = grind (arith, either, or_lef
 shown-one (declare_semi column) all earlier h k = grind (arith, named-put)
 shown-one _ all earlier h k = grind arith
 
-shown-all : (ds : Declarations) (all : Draft) (earlier : List Terminal) → Shown earlier all → list_all (is_shown earlier) ds ≡ true → Shown earlier (with_declarations all ds)
-shown-all [] all earlier h k = h
+shown-all : (ds : Declarations) (all : Draft) (earlier : List Terminal)
+    → Shown earlier all → list_all (is_shown earlier) ds ≡ true → Shown earlier (with_declarations all ds)
+shown-all [] _ _ h k = h
 shown-all (d ∷ ds) all earlier h k = grind (
   arith,
   shown-one,
-  shown-all ds (with_declaration all d) earlier
-      (shown-one d all earlier h (first_so (is_shown earlier d) (list_all (is_shown earlier) ds) k))
-      (second_so (is_shown earlier d) (list_all (is_shown earlier) ds) k),
+  shown-all ds (with_declaration all d) earlier (shown-one d all earlier h (first_so
+      (is_shown earlier d) (list_all (is_shown earlier) ds) k)) (second_so (is_shown earlier d) (list_all (is_shown earlier) ds) k),
 )
 
 -- ---- one token more
@@ -84,11 +85,11 @@ named-now : (name : List ℕ) (new : Option (List ℕ)) (names : List (List ℕ)
 named-now = grind (arith, or_left, itself_named)
 
 shown-later : (token : Terminal) (earlier : List Terminal) (all : Draft) → Shown earlier all → Shown (token ∷ earlier) all
-shown-later token earlier all h = record {
-  lowers = λ name e. named-more name (completes_bound gives_lower earlier token) (collected (completes_bound gives_lower) earlier) (h.lowers name e);
-  uppers = λ name e. named-more name (completes_bound gives_upper earlier token) (collected (completes_bound gives_upper) earlier) (h.uppers name e);
-  integers = λ name e. named-more name (names_integer earlier token) (collected names_integer earlier) (h.integers name e);
-  semis = λ name e. named-more name (names_semi earlier token) (collected names_semi earlier) (h.semis name e);
+shown-later token earlier _ h = record {
+  lowers = λ name e. named-more name (completes_bound gives_lower earlier token) (collected (completes_bound gives_lower) earlier) (h.lowers _ e);
+  uppers = λ name e. named-more name (completes_bound gives_upper earlier token) (collected (completes_bound gives_upper) earlier) (h.uppers _ e);
+  integers = λ name e. named-more name (names_integer earlier token) (collected names_integer earlier) (h.integers _ e);
+  semis = λ name e. named-more name (names_semi earlier token) (collected names_semi earlier) (h.semis _ e);
   constant = λ e. or_right _ _ (h.constant e);
   no_rhs = h.no_rhs;
 }
@@ -109,17 +110,19 @@ KeepsShown earlier token (Refuses kind) = Says earlier token kind
 abbrev Steps : List Terminal → Draft → Terminal → AfterToken → Type 0
 Steps earlier all token taken = Shown (token ∷ earlier) all → KeepsShown earlier token taken
 
-refused : (context : Context) (earlier : List Terminal) (token : Terminal) (kind : FaultKind) → Says earlier token kind → KeepsShown earlier token (refuse context token kind)
-refused context earlier (Opens word) kind h = by (has_seen context.sections_seen (section_of word)) (is_out_of_order context.sections_seen (section_of word))
+refused : (context : Context) (earlier : List Terminal) (token : Terminal) (kind : FaultKind)
+    → Says earlier token kind → KeepsShown earlier token (refuse context token kind)
+refused context earlier (Opens word) kind h = by _ _
   where
     by : (a b : Bool) → Says earlier (Opens word) (unwrap_or (if a then Some kinds.SectionRepeated else (if b then Some kinds.SectionOrder else None)) kind)
     by = grind arith
-refused context earlier _ kind h = h
+refused _ _ _ _ h = h
 
 bad : (context : Context) (earlier : List Terminal) (all : Draft) (token : Terminal) → Steps earlier all token (refuse context token kinds.BadToken)
 bad context earlier all token n = grind arith
 
-branch : (earlier : List Terminal) (token : Terminal) (b : Bool) (x y : AfterToken) → KeepsShown earlier token x → KeepsShown earlier token y → KeepsShown earlier token (if b then x else y)
+branch : (earlier : List Terminal) (token : Terminal) (b : Bool) (x y : AfterToken)
+    → KeepsShown earlier token x → KeepsShown earlier token y → KeepsShown earlier token (if b then x else y)
 branch = grind arith
 
 -- ---- declarations
@@ -130,47 +133,51 @@ record Refused (earlier : List Terminal) (token : Terminal) (all : Draft) (made 
   semi : refuses kinds.SemiContinuous all made ≡ true → changes_kind earlier token ≡ true
   rhs : refuses kinds.DuplicateRhs all made ≡ true → repeats_constant earlier token ≡ true
 
-says-by : (earlier : List Terminal) (token : Terminal) (all : Draft) (made : Declarations) → Refused earlier token all made → (first : BuildFault) → refuses (kind_of_build_fault first) all made ≡ true
-    → Says earlier token (kind_of_build_fault first)
+says-by : (earlier : List Terminal) (token : Terminal) (all : Draft) (made : Declarations) → Refused earlier token all made
+    → (first : BuildFault) → refuses (kind_of_build_fault first) all made ≡ true → Says earlier token (kind_of_build_fault first)
 says-by = grind arith
 
-declared : (context : Context) (earlier : List Terminal) (token : Terminal) (place : Place) (made : Declarations) → list_all (is_shown (token ∷ earlier)) made ≡ true → Refused earlier token context.builder made
-    → Steps earlier context.builder token (declare_at context token place made)
+declared : (context : Context) (earlier : List Terminal) (token : Terminal) (place : Place) (made : Declarations)
+    → list_all (is_shown (token ∷ earlier)) made ≡ true
+    → Refused earlier token context.builder made → Steps earlier context.builder token (declare_at context token place made)
 declared context earlier token place made shown refusal n = by (refusals_in_turn context.builder made) refl
   where
-    by : (refusals : List BuildFault) → refusals_in_turn context.builder made ≡ refusals → KeepsShown earlier token (declare_unless_refused context token refusals place made)
-    by [] e = shown-all made context.builder (token ∷ earlier) n shown
-    by (first ∷ more) e =
-        refused context earlier token (kind_of_build_fault first) (says-by earlier token context.builder made refusal first (first-refused made context.builder first more e))
+    by : (refusals : List BuildFault) → refusals_in_turn context.builder made ≡ refusals
+        → KeepsShown earlier token (declare_unless_refused context token refusals place made)
+    by [] e = shown-all made _ _ n shown
+    by (first ∷ _) e = refused context earlier token _ (says-by _ _ _ _ refusal _ (first-refused made _ _ _ e))
 
-declared-before : (context : Context) (earlier : List Terminal) (token : Terminal) (made : Declarations) (next : AfterToken) → list_all (is_shown (token ∷ earlier)) made ≡ true → Refused earlier token context.builder made
-    → Steps earlier (with_declarations context.builder made) token next → Steps earlier context.builder token (take_after_declarations context token (refusals_in_turn context.builder made) made next)
+declared-before : (context : Context) (earlier : List Terminal) (token : Terminal) (made : Declarations) (next : AfterToken)
+    → list_all (is_shown (token ∷ earlier)) made ≡ true
+    → Refused earlier token context.builder made → Steps earlier (with_declarations context.builder made) token next
+    → Steps earlier context.builder token (take_after_declarations context token (refusals_in_turn context.builder made) made next)
 declared-before context earlier token made next shown refusal h n = by (refusals_in_turn context.builder made) refl
   where
-    by : (refusals : List BuildFault) → refusals_in_turn context.builder made ≡ refusals → KeepsShown earlier token (take_after_declarations context token refusals made next)
-    by [] e = h (shown-all made context.builder (token ∷ earlier) n shown)
-    by (first ∷ more) e =
-        refused context earlier token (kind_of_build_fault first) (says-by earlier token context.builder made refusal first (first-refused made context.builder first more e))
+    by : (refusals : List BuildFault) → refusals_in_turn context.builder made ≡ refusals
+        → KeepsShown earlier token (take_after_declarations context token refusals made next)
+    by [] e = h (shown-all made _ _ n shown)
+    by (first ∷ _) e = refused context earlier token _ (says-by _ _ _ _ refusal _ (first-refused made _ _ _ e))
 
 -- ---- terms and rows
 
-term : (context : Context) (owner : ItemOwner) (column : List ℕ) (value : Decimal) (earlier : List Terminal) → Steps earlier context.builder (Name column) (take_term context owner column value (Name column))
+term : (context : Context) (owner : ItemOwner) (column : List ℕ) (value : Decimal) (earlier : List Terminal)
+    → Steps earlier context.builder (Name column) (take_term context owner column value (Name column))
 term context owner column value earlier n = grind arith
 
 terms-shown : (earlier : List Terminal) (name : List ℕ) (terms : List (List ℕ × Decimal)) → list_all (is_shown earlier) (flat_map (term_declared name) terms) ≡ true
-terms-shown earlier name [] = refl
-terms-shown earlier name (term ∷ terms) = terms-shown earlier name terms
+terms-shown _ _ [] = refl
+terms-shown earlier _ (term ∷ terms) = terms-shown earlier _ terms
 
 never : (b : Bool) {X : Type 0} → b ≡ false → b ≡ true → X
 never b e k = grind arith
 
-row_side : (context : Context) (row : PartialRow) (relation : Relation) (l : Limit) (earlier : List Terminal) (token : Terminal) → Steps earlier context.builder token (take_side context (SideOfRow row relation) l token)
-row_side context row relation l earlier token n =
-    declared context earlier token BetweenRows (row_declared row (row_limits row.left relation l)) (terms-shown (token ∷ earlier) row.name row.terms)
-    (record {
-      bound = λ e. never (refuses kinds.DuplicateBound context.builder (row_declared row (row_limits row.left relation l))) (terms-refuse kinds.DuplicateBound refl refl refl row.name row.terms _) e;
-      semi = λ e. never (refuses kinds.SemiContinuous context.builder (row_declared row (row_limits row.left relation l))) (terms-refuse kinds.SemiContinuous refl refl refl row.name row.terms _) e;
-      rhs = λ e. never (refuses kinds.DuplicateRhs context.builder (row_declared row (row_limits row.left relation l))) (terms-refuse kinds.DuplicateRhs refl refl refl row.name row.terms _) e;
+row_side : (context : Context) (row : PartialRow) (relation : Relation) (l : Limit) (earlier : List Terminal) (token : Terminal)
+    → Steps earlier context.builder token (take_side context (SideOfRow row relation) l token)
+row_side context row relation l earlier token n = declared context _ _ BetweenRows
+    (row_declared row (row_limits row.left relation l)) (terms-shown (token ∷ earlier) row.name row.terms) (record {
+      bound = λ e. never _ (terms-refuse kinds.DuplicateBound refl refl refl row.name row.terms _) e;
+      semi = λ e. never _ (terms-refuse kinds.SemiContinuous refl refl refl row.name row.terms _) e;
+      rhs = λ e. never _ (terms-refuse kinds.DuplicateRhs refl refl refl row.name row.terms _) e;
     }) n
 
 -- ---- bounds
@@ -181,17 +188,19 @@ record Completes (earlier : List Terminal) (token : Terminal) (column : List ℕ
   upper : is_some limits.upper ≡ true → completes_bound gives_upper earlier token ≡ Some column
 
 -- a name that an earlier token has named
-again : (naming : List Terminal → Terminal → Option (List ℕ)) (earlier : List Terminal) (token : Terminal) (column : List ℕ) → naming earlier token ≡ Some column → is_named column (collected naming earlier) ≡ true
-    → names_again naming naming earlier token ≡ true
+again : (naming : List Terminal → Terminal → Option (List ℕ)) (earlier : List Terminal) (token : Terminal) (column : List ℕ) → naming
+    earlier token ≡ Some column → is_named column (collected naming earlier) ≡ true → names_again naming naming earlier token ≡ true
 again = grind arith
 
-bounds-shown : (earlier : List Terminal) (token : Terminal) (column : List ℕ) (limits : Limits) → Completes earlier token column limits → list_all (is_shown (token ∷ earlier)) (bounds_declared column limits.lower limits.upper) ≡ true
+bounds-shown : (earlier : List Terminal) (token : Terminal) (column : List ℕ) (limits : Limits) → Completes earlier token column limits
+    → list_all (is_shown (token ∷ earlier)) (bounds_declared column limits.lower limits.upper) ≡ true
 bounds-shown earlier token column limits h = search (rules, both_so, named-now)
 
-bound : (context : Context) (is_new : Bool) (column : List ℕ) (limits : Limits) (earlier : List Terminal) (token : Terminal) (place : Place) → Shown earlier context.builder → Completes earlier token column limits
+bound : (context : Context) (is_new : Bool) (column : List ℕ) (limits : Limits) (earlier : List Terminal) (token : Terminal) (place : Place)
+    → Shown earlier context.builder → Completes earlier token column limits
     → KeepsShown earlier token (take_bound context (new_column is_new column) column limits token place)
-bound context is_new column limits earlier token place shown h =
-    by (not (has_column front column)) ((is_some limits.lower && has_name front.lowers column) || (is_some limits.upper && has_name front.uppers column))
+bound context is_new column limits earlier token place shown h = by (not (has_column front column))
+    ((is_some limits.lower && has_name front.lowers column) || (is_some limits.upper && has_name front.uppers column))
     (option_map_or is_plus_infinite limits.lower false || option_map_or is_minus_infinite limits.upper false) (λ e. twice is_new e)
   where
     front : Draft
@@ -204,30 +213,29 @@ bound context is_new column limits earlier token place shown h =
     one : (a b : Bool) → (a && b) ≡ true → (a ≡ true) × (b ≡ true)
     one = grind arith
 
-    repeated : ((is_some limits.lower && has_name context.builder.lowers column) || (is_some limits.upper && has_name context.builder.uppers column)) ≡ true → repeats_bound earlier token ≡ true
-    repeated e =
-        either (is_some limits.lower && has_name context.builder.lowers column) (is_some limits.upper && has_name context.builder.uppers column) (repeats_bound earlier token)
-        (λ a. let parts = one (is_some limits.lower) (has_name context.builder.lowers column) a in
-        or_left _ _ (again (completes_bound gives_lower) earlier token column (h.lower parts.0) (shown.lowers column parts.1)))
-        (λ a. let parts = one (is_some limits.upper) (has_name context.builder.uppers column) a in
+    repeated : ((is_some limits.lower && has_name context.builder.lowers column)
+        || (is_some limits.upper && has_name context.builder.uppers column)) ≡ true → repeats_bound earlier token ≡ true
+    repeated e = either (is_some limits.lower && has_name context.builder.lowers column) (is_some limits.upper
+        && has_name context.builder.uppers column) (repeats_bound earlier token) (λ a. let parts = one (is_some limits.lower)
+        (has_name context.builder.lowers column) a in or_left _ _ (again (completes_bound gives_lower) earlier token column (h.lower
+        parts.0) (shown.lowers column parts.1))) (λ a. let parts = one (is_some limits.upper) (has_name context.builder.uppers column) a in
         or_right _ _ (again (completes_bound gives_upper) earlier token column (h.upper parts.0) (shown.uppers column parts.1))) e
 
-    twice : (b : Bool)
-        → ((is_some limits.lower && has_name (with_declarations context.builder (new_column b column)).lowers column)
-        || (is_some limits.upper && has_name (with_declarations context.builder (new_column b column)).uppers column)) ≡ true → repeats_bound earlier token ≡ true
+    twice : (b : Bool) → ((is_some limits.lower && has_name (with_declarations context.builder (new_column b column)).lowers column)
+        || (is_some limits.upper && has_name (with_declarations context.builder (new_column b column)).uppers column)) ≡ true
+        → repeats_bound earlier token ≡ true
     twice true e = repeated e
     twice false e = repeated e
 
-    by : (a b c : Bool) → (b ≡ true → repeats_bound earlier token ≡ true)
-        → KeepsShown earlier token (declare_unless_refused context token (those_of ((a, builds.UnknownColumn) ∷ (b, builds.DuplicateBound) ∷ (c, builds.InfiniteValue) ∷ [])) place
+    by : (a b c : Bool) → (b ≡ true → repeats_bound earlier token ≡ true) → KeepsShown earlier token (declare_unless_refused context token
+        (those_of ((a, builds.UnknownColumn) ∷ (b, builds.DuplicateBound) ∷ (c, builds.InfiniteValue) ∷ [])) place
         (new_column is_new column ++ bounds_declared column limits.lower limits.upper))
     by true b c k = refused context earlier token kinds.UnknownColumn tt
     by false true c k = refused context earlier token kinds.DuplicateBound (k refl)
     by false false true k = refused context earlier token kinds.InfiniteValue tt
-    by false false false k =
-        shown-all (new_column is_new column ++ bounds_declared column limits.lower limits.upper) context.builder (token ∷ earlier) (shown-later token earlier context.builder shown)
-        (list_all-append (is_shown (token ∷ earlier)) (new_column is_new column) (bounds_declared column limits.lower limits.upper)
-        ∙ both_so _ _ (fine is_new) (bounds-shown earlier token column limits h))
+    by false false false k = shown-all (new_column is_new column ++ bounds_declared column limits.lower limits.upper) context.builder
+        (token ∷ earlier) (shown-later token earlier context.builder shown) (list_all-append (is_shown (token ∷ earlier)) (new_column is_new
+        column) (bounds_declared column limits.lower limits.upper) ∙ both_so _ _ (fine is_new) (bounds-shown earlier token column limits h))
 
 -- the relation of a bound gives the limits
 gives-lower : (relation : Relation) (l : Limit) → is_some (limits_by relation l).lower ≡ true → gives_lower relation ≡ true
@@ -236,33 +244,38 @@ gives-lower = grind arith
 gives-upper : (relation : Relation) (l : Limit) → is_some (limits_by relation l).upper ≡ true → gives_upper relation ≡ true
 gives-upper = grind arith
 
-within : (gives : Relation → Bool) (earlier : List Terminal) (token : Terminal) (column : List ℕ) → current_section earlier ≡ Some Bounds → completed gives earlier token ≡ Some column → completes_bound gives earlier token ≡ Some column
+within : (gives : Relation → Bool) (earlier : List Terminal) (token : Terminal) (column : List ℕ) → current_section earlier ≡ Some Bounds
+    → completed gives earlier token ≡ Some column → completes_bound gives earlier token ≡ Some column
 within = grind arith
 
-free-completes : (earlier : List Terminal) (column : List ℕ) → current_section earlier ≡ Some Bounds → last_name earlier ≡ Some column → Completes earlier Free column no_limits
+free-completes : (earlier : List Terminal) (column : List ℕ)
+    → current_section earlier ≡ Some Bounds → last_name earlier ≡ Some column → Completes earlier Free column no_limits
 free-completes = grind arith
 
-name-completes : (earlier : List Terminal) (relation : Relation) (l : Limit) (column : List ℕ) → current_section earlier ≡ Some Bounds → last_relation earlier ≡ Some relation
-    → Completes earlier (Name column) column (limits_by (flip relation) l)
+name-completes : (earlier : List Terminal) (relation : Relation) (l : Limit) (column : List ℕ) → current_section earlier ≡ Some Bounds
+    → last_relation earlier ≡ Some relation → Completes earlier (Name column) column (limits_by (flip relation) l)
 name-completes = grind arith
 
 -- a side without a sign, or with one
-side-completed : (gives : Relation → Bool) (earlier : List Terminal) (relation : Relation) (column : List ℕ) → RelatedTo column relation earlier → gives relation ≡ true → after_sign (column_before gives) earlier ≡ Some column
+side-completed : (gives : Relation → Bool) (earlier : List Terminal) (relation : Relation) (column : List ℕ)
+    → RelatedTo column relation earlier → gives relation ≡ true → after_sign (column_before gives) earlier ≡ Some column
 side-completed = grind arith
 
-signed-completed : (gives : Relation → Bool) (earlier : List Terminal) (is_new : Bool) (relation : Relation) (column : List ℕ) → SignedSideShape (SideOfBound is_new column relation) earlier → gives relation ≡ true
-    → after_sign (column_before gives) earlier ≡ Some column
+signed-completed : (gives : Relation → Bool) (earlier : List Terminal) (is_new : Bool) (relation : Relation) (column : List ℕ)
+    → SignedSideShape (SideOfBound is_new column relation) earlier
+    → gives relation ≡ true → after_sign (column_before gives) earlier ≡ Some column
 signed-completed = grind arith
 
 -- a number or an infinity
 abbrev IsValue : Terminal → Type 0
 IsValue token = (gives : Relation → Bool) (earlier : List Terminal) → completed gives earlier token ≡ after_sign (column_before gives) earlier
 
-side-completes : (earlier : List Terminal) (token : Terminal) (relation : Relation) (l : Limit) (column : List ℕ) → IsValue token → current_section earlier ≡ Some Bounds
-    → ((gives : Relation → Bool) → gives relation ≡ true → after_sign (column_before gives) earlier ≡ Some column) → Completes earlier token column (limits_by relation l)
-side-completes earlier token relation l column value here h = record {
-  lower = λ e. within gives_lower earlier token column here (value gives_lower earlier ∙ h gives_lower (gives-lower relation l e));
-  upper = λ e. within gives_upper earlier token column here (value gives_upper earlier ∙ h gives_upper (gives-upper relation l e));
+side-completes : (earlier : List Terminal) (token : Terminal) (relation : Relation) (l : Limit) (column : List ℕ)
+    → IsValue token → current_section earlier ≡ Some Bounds → ((gives : Relation → Bool) → gives relation ≡ true
+    → after_sign (column_before gives) earlier ≡ Some column) → Completes earlier token column (limits_by relation l)
+side-completes earlier token _ l _ value here h = record {
+  lower = λ e. within gives_lower earlier token _ here (value gives_lower earlier ∙ h gives_lower (gives-lower _ l e));
+  upper = λ e. within gives_upper earlier token _ here (value gives_upper earlier ∙ h gives_upper (gives-upper _ l e));
 }
 
 -- ---- names in Generals, Binaries and among the semi-continuous columns
@@ -270,50 +283,47 @@ side-completes earlier token relation l column value here h = record {
 only : (b : Bool) → ((b || false) || false) ≡ true → b ≡ true
 only = grind arith
 
-integer-named : (earlier : List Terminal) (column : List ℕ) → (is_under Generals earlier || is_under Binaries earlier) ≡ true → names_integer earlier (Name column) ≡ Some column
+integer-named : (earlier : List Terminal) (column : List ℕ)
+    → (is_under Generals earlier || is_under Binaries earlier) ≡ true → names_integer earlier (Name column) ≡ Some column
 integer-named = grind arith
 
-semi-named : (earlier : List Terminal) (column : List ℕ) → (is_under SemiContinuous earlier && not (ends_in_sign earlier)) ≡ true → names_semi earlier (Name column) ≡ Some column
+semi-named : (earlier : List Terminal) (column : List ℕ)
+    → (is_under SemiContinuous earlier && not (ends_in_sign earlier)) ≡ true → names_semi earlier (Name column) ≡ Some column
 semi-named = grind arith
 
-integer-refused : (earlier : List Terminal) (column : List ℕ) (all : Draft) (made : Declarations) → (is_under Generals earlier || is_under Binaries earlier) ≡ true → Shown earlier all → is_semi all column ≡ true
-    → changes_kind earlier (Name column) ≡ true
+integer-refused : (earlier : List Terminal) (column : List ℕ) (all : Draft) (made : Declarations) → (is_under Generals earlier
+    || is_under Binaries earlier) ≡ true → Shown earlier all → is_semi all column ≡ true → changes_kind earlier (Name column) ≡ true
 integer-refused = grind arith
 
-integers_listed : (context : Context) (earlier : List Terminal) → (is_under Generals earlier || is_under Binaries earlier) ≡ true → Shown earlier context.builder → (column : List ℕ)
-    → Steps earlier context.builder (Name column) (declare_at context (Name column) InGenerals (declare_column column ∷ declare_integer column ∷ []))
-integers_listed context earlier under shown column n =
-    declared context earlier (Name column) InGenerals (declare_column column ∷ declare_integer column ∷ [])
-    (both_so _ _ (named-now column (names_integer earlier (Name column)) (collected names_integer earlier)
-    (integer-named earlier column under)) refl)
-    (record { bound = λ e. absurd cc; semi = λ e. integer-refused earlier column context.builder [] under shown (only (is_semi context.builder column) e); rhs = λ e. absurd cc }) n
+integers_listed : (context : Context) (earlier : List Terminal) → (is_under Generals earlier || is_under Binaries earlier) ≡ true
+    → Shown earlier context.builder → (column : List ℕ) → Steps earlier context.builder
+    (Name column) (declare_at context (Name column) InGenerals (declare_column column ∷ declare_integer column ∷ []))
+integers_listed context earlier under shown column n = declared _ _ _ _ (declare_column _ ∷ declare_integer _ ∷ []) (both_so _ _
+    (named-now column (names_integer earlier (Name column)) (collected names_integer earlier) (integer-named earlier column under)) refl)
+    (record { bound = λ e. absurd cc; semi = λ e. integer-refused _ _ _ [] under shown (only _ e); rhs = λ e. absurd cc }) n
 
-binaries_listed : (context : Context) (earlier : List Terminal) → (is_under Generals earlier || is_under Binaries earlier) ≡ true → Shown earlier context.builder → (column : List ℕ)
-    → Steps earlier context.builder (Name column) (declare_at context (Name column) InBinaries (declare_column column ∷ declare_binary column ∷ []))
-binaries_listed context earlier under shown column n =
-    declared context earlier (Name column) InBinaries (declare_column column ∷ declare_binary column ∷ [])
-    (both_so _ _ (named-now column (names_integer earlier (Name column)) (collected names_integer earlier)
-    (integer-named earlier column under)) refl)
-    (record { bound = λ e. absurd cc; semi = λ e. integer-refused earlier column context.builder [] under shown (only (is_semi context.builder column) e); rhs = λ e. absurd cc }) n
+binaries_listed : (context : Context) (earlier : List Terminal) → (is_under Generals earlier || is_under Binaries earlier) ≡ true
+    → Shown earlier context.builder → (column : List ℕ) → Steps earlier context.builder
+    (Name column) (declare_at context (Name column) InBinaries (declare_column column ∷ declare_binary column ∷ []))
+binaries_listed context earlier under shown column n = declared _ _ _ _ (declare_column _ ∷ declare_binary _ ∷ []) (both_so _ _
+    (named-now column (names_integer earlier (Name column)) (collected names_integer earlier) (integer-named earlier column under)) refl)
+    (record { bound = λ e. absurd cc; semi = λ e. integer-refused _ _ _ [] under shown (only _ e); rhs = λ e. absurd cc }) n
 
-semis_listed : (context : Context) (earlier : List Terminal) → (is_under SemiContinuous earlier && not (ends_in_sign earlier)) ≡ true → Shown earlier context.builder → (column : List ℕ)
-    → Steps earlier context.builder (Name column) (declare_at context (Name column) InSemis (declare_column column ∷ declare_semi column ∷ []))
+semis_listed : (context : Context) (earlier : List Terminal) → (is_under SemiContinuous earlier && not (ends_in_sign earlier)) ≡ true
+    → Shown earlier context.builder → (column : List ℕ) → Steps earlier context.builder
+    (Name column) (declare_at context (Name column) InSemis (declare_column column ∷ declare_semi column ∷ []))
 semis_listed context earlier under shown column n =
-    declared context earlier (Name column) InSemis (declare_column column ∷ declare_semi column ∷ [])
-    (both_so _ _ (named-now column (names_semi earlier (Name column)) (collected names_semi earlier) (semi-named earlier column under))
-    refl)
-    (record {
+    declared _ _ _ _ (declare_column _ ∷ declare_semi _ ∷ []) (both_so _ _ (named-now _ _ _ (semi-named earlier _ under)) refl) (record {
       bound = λ e. absurd cc;
-      semi = λ e.
-          or_right _ _
-          (ap (λ (o : Option (List ℕ)). option_map_or (λ c. is_named c (collected names_integer earlier)) o false) (semi-named earlier column under)
-          ∙ shown.integers column (only (is_integer context.builder column) e));
+      semi = λ e. or_right _ _ (ap (λ o. option_map_or (λ c. is_named c (collected names_integer earlier)) o false)
+          (semi-named earlier column under) ∙ shown.integers column (only _ e));
       rhs = λ e. absurd cc;
     }) n
 
 -- ---- the constant
 
-constant-completes : (earlier : List Terminal) (token : Terminal) → current_section earlier ≡ Some Objective → ends_in_number earlier ≡ true → may_follow_constant token ≡ true → completes_constant earlier token ≡ true
+constant-completes : (earlier : List Terminal) (token : Terminal) → current_section earlier ≡ Some Objective
+    → ends_in_number earlier ≡ true → may_follow_constant token ≡ true → completes_constant earlier token ≡ true
 constant-completes = grind arith
 
 constant-there : (earlier : List Terminal) (all : Draft) → Shown earlier all → has_constant all ≡ true → has_constant_before earlier ≡ true
@@ -324,7 +334,8 @@ constant-there = grind arith
 opened : (context : Context) (earlier : List Terminal) (word : SectionWord) → Steps earlier context.builder (Opens word) (open_section context word)
 opened context earlier word n = grind arith
 
-signs : (context : Context) (owner : ItemOwner) (sign : SignOf) (earlier : List Terminal) (token : Terminal) → Steps earlier context.builder token (take_after_signs context owner sign token)
+signs : (context : Context) (owner : ItemOwner) (sign : SignOf) (earlier : List Terminal) (token : Terminal)
+    → Steps earlier context.builder token (take_after_signs context owner sign token)
 signs = grind (arith, signs-by, bad, term)
 
 item : (context : Context) (owner : ItemOwner) (earlier : List Terminal) (token : Terminal) → Steps earlier context.builder token (begin_item context owner token)
@@ -333,7 +344,8 @@ item = grind (arith, item-by, bad, term)
 row : (context : Context) (label : List ℕ) (earlier : List Terminal) (token : Terminal) → Steps earlier context.builder token (begin_row context label token)
 row = grind arith
 
-second : (context : Context) (left : Option (List ℕ × Relation)) (earlier : List Terminal) (relation : Relation) → Steps earlier context.builder (Compares relation) (take_second_relation context left relation (Compares relation))
+second : (context : Context) (left : Option (List ℕ × Relation)) (earlier : List Terminal) (relation : Relation)
+    → Steps earlier context.builder (Compares relation) (take_second_relation context left relation (Compares relation))
 second context left earlier relation n = grind arith
 
 -- what is known where names are listed
@@ -343,96 +355,94 @@ Listed InBinaries earlier all = (current_section earlier ≡ Some Binaries) × S
 Listed InSemis earlier all = (current_section earlier ≡ Some SemiContinuous) × Shown earlier all × (ends_in_sign earlier ≡ false)
 Listed _ earlier all = Unit {0}
 
-phrase : (place : Place) (context : Context) (earlier : List Terminal) → Listed place earlier context.builder → (token : Terminal) → Steps earlier context.builder token (begin_phrase place context token)
-phrase (BeforeItems objective) context earlier h token = item context (OfObjective objective) earlier token
+phrase : (place : Place) (context : Context) (earlier : List Terminal)
+    → Listed place earlier context.builder → (token : Terminal) → Steps earlier context.builder token (begin_phrase place context token)
+phrase (BeforeItems objective) _ _ h _ = item _ (OfObjective objective) _ _
 phrase InGenerals context earlier h token =
-    listed-by (Steps earlier context.builder) context InGenerals declare_integer (bad context earlier context.builder)
-    (integers_listed context earlier (ap (λ (o : Option Section). option_map_or (is_section Generals) o false || option_map_or (is_section Binaries) o false) h.0) h.1) token
+    listed-by (Steps earlier context.builder) context InGenerals declare_integer (bad context earlier context.builder) (integers_listed
+    context _ (ap (λ o. option_map_or (is_section Generals) o false || option_map_or (is_section Binaries) o false) h.0) h.1) token
 phrase InBinaries context earlier h token =
-    listed-by (Steps earlier context.builder) context InBinaries declare_binary (bad context earlier context.builder)
-    (binaries_listed context earlier (ap (λ (o : Option Section). option_map_or (is_section Generals) o false || option_map_or (is_section Binaries) o false) h.0) h.1) token
+    listed-by (Steps earlier context.builder) context InBinaries declare_binary (bad context earlier context.builder) (binaries_listed
+    context _ (ap (λ o. option_map_or (is_section Generals) o false || option_map_or (is_section Binaries) o false) h.0) h.1) token
 phrase InSemis context earlier h token =
     listed-by (Steps earlier context.builder) context InSemis declare_semi (bad context earlier context.builder)
-    (semis_listed context earlier
-    (both_so _ _ (ap (λ (o : Option Section). option_map_or (is_section SemiContinuous) o false) h.0) (so_not _ h.2)) h.1) token
+    (semis_listed context _ (both_so _ _ (ap (λ o. option_map_or (is_section SemiContinuous) o false) h.0) (so_not _ h.2)) h.1) token
 phrase _ context earlier h token = grind arith
 
-first : (place : Place) (context : Context) (earlier : List Terminal) → Listed place earlier context.builder → (token : Terminal) → Steps earlier context.builder token (begin place context token)
+first : (place : Place) (context : Context) (earlier : List Terminal)
+    → Listed place earlier context.builder → (token : Terminal) → Steps earlier context.builder token (begin place context token)
 first = grind (arith, begin-by, branch, opened, bad, phrase)
 
-lone : (context : Context) (owner : ItemOwner) (value : Decimal) (earlier : List Terminal) → Shown earlier context.builder → current_section earlier ≡ section_of_item owner → NumberShape owner earlier → (token : Terminal)
-    → Steps earlier context.builder token (take_after_lone_number context owner value token)
-lone context (OfObjective objective) value earlier shown here last token =
-    lone-by (Steps earlier context.builder) context objective value (bad context earlier context.builder) (λ sign. complete (Sign sign) refl) (λ word. complete (Opens word) refl) token
+lone : (context : Context) (owner : ItemOwner) (value : Decimal) (earlier : List Terminal)
+    → Shown earlier context.builder → current_section earlier ≡ section_of_item owner → NumberShape owner earlier
+    → (token : Terminal) → Steps earlier context.builder token (take_after_lone_number context owner value token)
+lone context (OfObjective objective) value earlier shown here last token = lone-by (Steps earlier context.builder) context objective value
+    (bad context earlier context.builder) (λ sign. complete (Sign sign) refl) (λ word. complete (Opens word) refl) token
   where
-    complete : (t : Terminal) → may_follow_constant t ≡ true → Steps earlier context.builder t (begin_after context (declare_constant value ∷ []) (InObjective objective) t)
-    complete t may =
-        let now = constant-completes earlier t here last may in
-        declared-before context earlier t (declare_constant value ∷ []) (begin (InObjective objective) (with_made context (declare_constant value ∷ [])) t)
-        (both_so _ _ (or_left _ _ now) refl)
-        (record {
-          bound = λ e. absurd cc;
-          semi = λ e. absurd cc;
-          rhs = λ e. both_so _ _ now (constant-there earlier context.builder shown (only (has_constant context.builder) e));
-        })
-        (first (InObjective objective) (with_made context (declare_constant value ∷ [])) earlier tt t)
+    complete : (t : Terminal) → may_follow_constant t ≡ true
+        → Steps earlier context.builder t (begin_after context (declare_constant value ∷ []) (InObjective objective) t)
+    complete t may = let now = constant-completes _ t here last may in
+        declared-before _ _ t (declare_constant _ ∷ []) _ (both_so _ _ (or_left _ _ now) refl)
+        (record { bound = λ e. absurd cc; semi = λ e. absurd cc; rhs = λ e. both_so _ _ now (constant-there _ _ shown (only _ e)) })
+        (first (InObjective objective) _ _ tt t)
 lone context (OfRow partial) value earlier shown here last token = grind arith
 
 -- ---- each state
 
 -- the declarations at the start of the objective
-started : (context : Context) (earlier : List Terminal) (made : Declarations) (place : Place) → Listed place earlier (with_declarations context.builder made) → (token : Terminal)
-    → list_all (is_shown (token ∷ earlier)) made ≡ true → Refused earlier token context.builder made → Steps earlier context.builder token (begin_after context made place token)
+started : (context : Context) (earlier : List Terminal) (made : Declarations) (place : Place)
+    → Listed place earlier (with_declarations context.builder made) → (token : Terminal) → list_all (is_shown (token ∷ earlier)) made ≡ true
+    → Refused earlier token context.builder made → Steps earlier context.builder token (begin_after context made place token)
 started = grind (arith, declared-before, first)
 
 nothing-refused : (earlier : List Terminal) (token : Terminal) (all : Draft) (sense : Sense) (label : List ℕ) → Refused earlier token all (objective_declared sense label)
 nothing-refused = grind arith
 
-first-refused_none : (earlier : List Terminal) (token : Terminal) (all : Draft) (sense : Sense) (column : List ℕ) → Refused earlier token all (first_item_declared sense column)
+first-refused_none : (earlier : List Terminal) (token : Terminal) (all : Draft) (sense : Sense) (column : List ℕ)
+    → Refused earlier token all (first_item_declared sense column)
 first-refused_none = grind arith
 
-listed-at : (place : Place) (earlier : List Terminal) (all : Draft) → Shown earlier all → current_section earlier ≡ section_at_place place → PlaceShape place earlier → Listed place earlier all
+listed-at : (place : Place) (earlier : List Terminal) (all : Draft)
+    → Shown earlier all → current_section earlier ≡ section_at_place place → PlaceShape place earlier → Listed place earlier all
 listed-at = grind arith
 
 number-value : (value : Decimal) → IsValue (Number value)
-number-value value gives earlier = refl
+number-value _ _ _ = refl
 
 infinite-value : IsValue Infinity
-infinite-value gives earlier = refl
+infinite-value _ _ = refl
 
-side : (context : Context) (sided : SideOwner) (l : Limit) (earlier : List Terminal) (token : Terminal) → Shown earlier context.builder → current_section earlier ≡ section_of_side sided → SideShape sided earlier → IsValue token
-    → Steps earlier context.builder token (take_side context sided l token)
-side context (SideOfRow partial relation) l earlier token shown here shape value = row_side context partial relation l earlier token
-side context (SideOfBound is_new column relation) l earlier token shown here shape value = λ n.
-    bound context is_new column (limits_by relation l) earlier token (InBounds None) shown (side-completes earlier token relation l column value here (λ gives k. side-completed gives earlier relation column shape k))
+side : (context : Context) (sided : SideOwner) (l : Limit) (earlier : List Terminal) (token : Terminal)
+    → Shown earlier context.builder → current_section earlier ≡ section_of_side sided
+    → SideShape sided earlier → IsValue token → Steps earlier context.builder token (take_side context sided l token)
+side context (SideOfRow partial relation) l _ _ _ _ _ _ = row_side context partial relation l _ _
+side _ (SideOfBound _ _ _) l _ _ shown here shape value = λ n. bound _ _ _ _ _ _ _ shown (side-completes _ _ _ l _ value here (λ gives k. side-completed _ _ _ _ shape k))
 
-signed_side : (context : Context) (sided : SideOwner) (l : Limit) (earlier : List Terminal) (token : Terminal) → Shown earlier context.builder → current_section earlier ≡ section_of_side sided → SignedSideShape sided earlier
-    → IsValue token → Steps earlier context.builder token (take_side context sided l token)
-signed_side context (SideOfRow partial relation) l earlier token shown here shape value = row_side context partial relation l earlier token
-signed_side context (SideOfBound is_new column relation) l earlier token shown here shape value = λ n.
-    bound context is_new column (limits_by relation l) earlier token (InBounds None) shown
-    (side-completes earlier token relation l column value here (λ gives k. signed-completed gives earlier is_new relation column shape k))
+signed_side : (context : Context) (sided : SideOwner) (l : Limit) (earlier : List Terminal) (token : Terminal)
+    → Shown earlier context.builder → current_section earlier ≡ section_of_side sided
+    → SignedSideShape sided earlier → IsValue token → Steps earlier context.builder token (take_side context sided l token)
+signed_side context (SideOfRow partial relation) l _ _ _ _ _ _ = row_side context partial relation l _ _
+signed_side _ (SideOfBound is_new _ _) l _ _ shown here shape value =
+    λ n. bound _ _ _ _ _ _ _ shown (side-completes _ _ _ l _ value here (λ gives k. signed-completed _ _ is_new _ _ shape k))
 
-step : (context : Context) (state : State) (earlier : List Terminal) → Shown earlier context.builder → current_section earlier ≡ section_at state → Shape state earlier → (token : Terminal)
-    → Steps earlier context.builder token (take context state token)
-step context (Between place) earlier shown here shape token = first place context earlier (listed-at place earlier context.builder shown here shape) token
-step context (AtObjective sense) earlier shown here shape token =
-    objective-by (Steps earlier context.builder) context sense (λ name n. n)
-    (λ t. started context earlier (objective_declared sense default_objective) (BeforeItems default_objective) tt t refl (nothing-refused earlier t context.builder sense default_objective)) token
-step context (ObjectiveName sense label) earlier shown here shape token =
-    objective_name-by (Steps earlier context.builder) context sense label
-    (declared context earlier Colon (BeforeItems label) (objective_declared sense label) refl (nothing-refused earlier Colon context.builder sense label))
-    (λ t. started context earlier (first_item_declared sense label) (InObjective default_objective) tt t refl (first-refused_none earlier t context.builder sense label)) token
-step context AtSemi earlier shown here shape token = semi-by (Steps earlier context.builder) context (λ n. n) (first InSemis (with_made context []) earlier (here, shown, shape)) token
-step context (Signs owner sign) earlier shown here shape token = signs context owner sign earlier token
+step : (context : Context) (state : State) (earlier : List Terminal) → Shown earlier context.builder → current_section earlier
+    ≡ section_at state → Shape state earlier → (token : Terminal) → Steps earlier context.builder token (take context state token)
+step _ (Between _) _ shown here shape _ = first _ _ _ (listed-at _ _ _ shown here shape) _
+step context (AtObjective sense) earlier _ _ _ _ = objective-by (Steps earlier context.builder) _ _
+    (λ name n. n) (λ t. started context _ _ (BeforeItems default_objective) tt t refl (nothing-refused _ t _ sense default_objective)) _
+step context (ObjectiveName sense label) earlier _ _ _ _ = objective_name-by (Steps earlier context.builder) context sense label
+    (declared context earlier Colon (BeforeItems label) _ refl (nothing-refused _ _ context.builder sense label))
+    (λ t. started context earlier _ (InObjective default_objective) tt t refl (first-refused_none _ t _ _ _)) _
+step context AtSemi earlier shown here shape token =
+    semi-by (Steps earlier context.builder) context (λ n. n) (first InSemis (with_made context []) earlier (here, shown, shape)) token
+step _ (Signs _ _) _ _ _ _ token = signs _ _ _ _ token
 step context (ItemNumber owner sign value) earlier shown here shape token = grind (arith, item_number-by, term, lone)
-step context (RowLabel label) earlier shown here shape token = row context label earlier token
-step context (BoundName column) earlier shown here shape token =
-    bound_name-by (Steps earlier context.builder) context column (bad context earlier context.builder)
-    (λ n. bound context true column no_limits earlier Free (InBounds None) shown (free-completes earlier column here shape)) (λ relation n. n) token
-step context (BoundLeftRelation l relation) earlier shown here shape token =
-    bound_column-by (Steps earlier context.builder) context l relation (bad context earlier context.builder)
-    (λ name n. bound context true name (limits_by (flip relation) l) earlier (Name name) (InBounds (Some (name, relation))) shown (name-completes earlier relation l name here shape)) token
+step context (RowLabel label) earlier _ _ _ token = row context label earlier token
+step context (BoundName column) earlier shown here shape token = bound_name-by (Steps earlier context.builder) context column (bad context
+    earlier context.builder) (λ n. bound context true _ _ _ _ (InBounds None) shown (free-completes _ _ here shape)) (λ relation n. n) token
+step context (BoundLeftRelation l relation) earlier shown here shape token = bound_column-by (Steps earlier context.builder)
+    context l relation (bad context earlier context.builder) (λ name n. bound context true name (limits_by (flip relation) l) earlier
+    (Name name) (InBounds (Some (name, relation))) shown (name-completes earlier relation l name here shape)) token
 step context (AtSide sided) earlier shown here shape token = grind (arith, side-by, bad, side, number-value, infinite-value)
 step context (SideSign sided sign) earlier shown here shape token = grind (arith, limit-by, bad, signed_side, number-value, infinite-value)
 step context _ earlier shown here shape token = grind arith
@@ -446,24 +456,26 @@ pub record Known (earlier : List Terminal) (context : Context) (state : State) :
 pub none-known : Known [] start.context (Between AtStart)
 none-known = grind arith
 
-taken : (earlier : List Terminal) (context : Context) (state : State) (token : Terminal) → Known earlier context state → KeepsShown earlier token (take context state token)
-taken earlier context state token known = step context state earlier known.shown known.shaped.opened.current known.shaped.shape token (shown-later token earlier context.builder known.shown)
+taken : (earlier : List Terminal) (context : Context) (state : State) (token : Terminal)
+    → Known earlier context state → KeepsShown earlier token (take context state token)
+taken _ _ _ _ known = step _ _ _ known.shown known.shaped.opened.current known.shaped.shape _ (shown-later _ _ _ known.shown)
 
-pub known-later : (earlier : List Terminal) (context : Context) (state : State) (token : Terminal) (after : Context) (next : State) → Known earlier context state → take context state token ≡ Goes after next
-    → Known (token ∷ earlier) after next
-known-later earlier context state token after next known h = record {
-  shaped = shaped-later earlier context state token after next known.shaped h;
-  shown = subst (λ (answer : AfterToken). KeepsShown earlier token answer) h (taken earlier context state token known);
+pub known-later : (earlier : List Terminal) (context : Context) (state : State) (token : Terminal) (after : Context) (next : State)
+    → Known earlier context state → take context state token ≡ Goes after next → Known (token ∷ earlier) after next
+known-later earlier _ _ token _ _ known h = record {
+  shaped = shaped-later _ _ _ _ _ _ known.shaped h;
+  shown = subst (λ answer. KeepsShown earlier token answer) h (taken _ _ _ _ known);
 }
 
-says : (kind : FaultKind) (earlier : List Terminal) (context : Context) (state : State) (token : Terminal) → Known earlier context state → take context state token ≡ Refuses kind → Says earlier token kind
-says kind earlier context state token known h = subst (λ (answer : AfterToken). KeepsShown earlier token answer) h (taken earlier context state token known)
+says : (kind : FaultKind) (earlier : List Terminal) (context : Context) (state : State) (token : Terminal)
+    → Known earlier context state → take context state token ≡ Refuses kind → Says earlier token kind
+says _ earlier _ _ token known h = subst (λ answer. KeepsShown earlier token answer) h (taken _ _ _ _ known)
 
 pub duplicate-bound : IsInWords kinds.DuplicateBound repeats_bound
-duplicate-bound = in-words kinds.DuplicateBound repeats_bound Known (record { at_start = none-known; goes = known-later; refuses = says kinds.DuplicateBound }) refl refl
+duplicate-bound = in-words _ _ _ (record { at_start = none-known; goes = known-later; refuses = says _ }) refl refl
 
 pub semi-continuous : IsInWords kinds.SemiContinuous changes_kind
-semi-continuous = in-words kinds.SemiContinuous changes_kind Known (record { at_start = none-known; goes = known-later; refuses = says kinds.SemiContinuous }) refl refl
+semi-continuous = in-words _ _ _ (record { at_start = none-known; goes = known-later; refuses = says _ }) refl refl
 
 pub duplicate-rhs : IsInWords kinds.DuplicateRhs repeats_constant
-duplicate-rhs = in-words kinds.DuplicateRhs repeats_constant Known (record { at_start = none-known; goes = known-later; refuses = says kinds.DuplicateRhs }) refl refl
+duplicate-rhs = in-words _ _ _ (record { at_start = none-known; goes = known-later; refuses = says _ }) refl refl

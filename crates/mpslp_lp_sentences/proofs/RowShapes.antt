@@ -4,20 +4,19 @@ use Rattle.mpslp_lp_sentences.proofs.Prelude
 use Prelude.{arith, ◌≡◌, refl, subst, ℕ, List, [], ◌∷◌, ◌++◌, Bool, true, false, Option, Some, None, not, unwrap_or, if◌then◌else◌}
 use Prelude.{list_any, list_any-append, Decimal, same_bytes, BuildFault, FaultKind, Limit, both_so, or_left, or_right, Declaration}
 use Prelude.{Declarations, with_declarations, declare_column, declare_constant, bounds_declared, refusals_in_turn, bounds_refusals}
-use Prelude.{kind_of_build_fault, section_of, Section, Objective, Rows, Bounds, SemiContinuous, SectionWord, Context, Relation, SignOf}
-use Prelude.{ItemOwner, OfObjective, OfRow, LastWord, To, That, Place, AtStart, BeforeItems, InObjective, BetweenRows, InRow, InBounds}
-use Prelude.{InSemis, SideOwner, SideOfRow, SideOfBound, State, Between, AtObjective, ObjectiveName, AtLastWord, AtSemi, Signs, ItemNumber}
-use Prelude.{RowName, RowLabel, RowSign, RowNumber, RowLeft, RowLeftRelation, BoundName, BoundLeftRelation, AtSide, SideSign, AfterToken}
-use Prelude.{Goes, Refuses, refuse, with_made, declare_unless_refused, take_after_declarations, take_term, take_after_signs, begin_item}
+use Prelude.{kind_of_build_fault, Section, Objective, Rows, Bounds, SemiContinuous, SectionWord, Context, Relation, SignOf, ItemOwner}
+use Prelude.{OfObjective, OfRow, LastWord, To, That, Place, AtStart, BeforeItems, InObjective, BetweenRows, InRow, InBounds, InSemis}
+use Prelude.{SideOwner, SideOfRow, SideOfBound, State, Between, AtObjective, ObjectiveName, AtLastWord, AtSemi, Signs, ItemNumber, RowName}
+use Prelude.{RowLabel, RowSign, RowNumber, RowLeft, RowLeftRelation, BoundName, BoundLeftRelation, AtSide, SideSign, AfterToken, Goes}
+use Prelude.{Refuses, refuse, with_made, declare_unless_refused, take_after_declarations, take_term, take_after_signs, begin_item}
 use Prelude.{take_side, may_begin_section, open_section, begin_row, begin_bound, take_second_relation, name_taken, begin_phrase, begin, one}
 use Prelude.{apply_sign, fits_second, limits_by, flip, objective_declared, default_objective, first_item_declared, fits_left, PartialRow}
-use Prelude.{start, has_seen, is_out_of_order, Terminal, Opens, Name, Number, Sign, Compares, Colon, new_column, begin_after}
-use Prelude.{take_after_lone_number, take, IsInWords, ends_in_number, ends_in_sign, last_name, ends_in_name, ends_in_value}
-use Prelude.{ends_in_first_word, begins_row, follows_terms, may_be_left_side, is_right_side, ends_in_constant, follows_constant}
-use Prelude.{left_relation, last_relation, bound_relation, agree, mixes_under, mixes_senses, term_columns, is_named}
-use Rattle.mpslp_lp_sentences.proofs.FaultedTokens.{in-words}
-use Rattle.mpslp_lp_sentences.proofs.TokenCases.{first_named, signs-by, item-by, limit-by, listed-by, lone-by, bound_column-by, side-by}
-use Rattle.mpslp_lp_sentences.proofs.TokenCases.{begin-by, objective-by, objective_name-by, item_number-by, semi-by}
+use Prelude.{start, Terminal, Opens, Name, Number, Sign, Compares, Colon, new_column, begin_after, take_after_lone_number, take, IsInWords}
+use Prelude.{ends_in_number, ends_in_sign, last_name, ends_in_name, ends_in_value, ends_in_first_word, begins_row, follows_terms}
+use Prelude.{may_be_left_side, is_right_side, ends_in_constant, follows_constant, left_relation, last_relation, bound_relation, agree}
+use Prelude.{mixes_under, mixes_senses, term_columns, is_named}
+use Rattle.mpslp_lp_sentences.proofs.FaultedTokens.{in-words, first_named, signs-by, item-by, limit-by, listed-by, lone-by, bound_column-by}
+use Rattle.mpslp_lp_sentences.proofs.FaultedTokens.{side-by, begin-by, objective-by, objective_name-by, item_number-by, semi-by}
 use Rattle.mpslp_lp_sentences.proofs.SectionFaults.{section_at_place, section_of_item, section_of_side, section_at, Opened, opened-later}
 use Rattle.mpslp_types.specs.declared.faults.FaultKind.TheVariants as kinds
 
@@ -33,7 +32,8 @@ HasLeft None earlier = Unit {0}
 HasLeft (Some left) earlier = left_relation earlier ≡ Some left.1
 
 abbrev pub HasTerms : List (List ℕ × Decimal) → List Terminal → Type 0
-HasTerms terms earlier = (column : List ℕ) → list_any (λ (term : List ℕ × Decimal). same_bytes column term.0) terms ≡ true → is_named column (term_columns earlier) ≡ true
+HasTerms terms earlier = (column : List ℕ)
+    → list_any (λ (term : List ℕ × Decimal). same_bytes column term.0) terms ≡ true → is_named column (term_columns earlier) ≡ true
 
 pub record IsRow (row : PartialRow) (earlier : List Terminal) : Type 0 where
   pub left : HasLeft row.left earlier
@@ -117,12 +117,13 @@ abbrev KeepsShape : Option Section → List Terminal → Terminal → AfterToken
 KeepsShape here earlier token (Goes after next) = Shape next (token ∷ earlier)
 KeepsShape here earlier token (Refuses kind) = Says here earlier token kind
 
-refused : (context : Context) (here : Option Section) (earlier : List Terminal) (token : Terminal) (kind : FaultKind) → Says here earlier token kind → KeepsShape here earlier token (refuse context token kind)
-refused context here earlier (Opens word) kind h = by (has_seen context.sections_seen (section_of word)) (is_out_of_order context.sections_seen (section_of word))
+refused : (context : Context) (here : Option Section) (earlier : List Terminal) (token : Terminal) (kind : FaultKind)
+    → Says here earlier token kind → KeepsShape here earlier token (refuse context token kind)
+refused context here earlier (Opens word) kind h = by _ _
   where
     by : (a b : Bool) → Says here earlier (Opens word) (unwrap_or (if a then Some kinds.SectionRepeated else (if b then Some kinds.SectionOrder else None)) kind)
     by = grind arith
-refused context here earlier _ kind h = h
+refused _ _ _ _ _ h = h
 
 bad : (context : Context) (here : Option Section) (earlier : List Terminal) (token : Terminal) → KeepsShape here earlier token (refuse context token kinds.BadToken)
 bad = grind arith
@@ -130,21 +131,24 @@ bad = grind arith
 build-fault : (here : Option Section) (earlier : List Terminal) (token : Terminal) (fault : BuildFault) → Says here earlier token (kind_of_build_fault fault)
 build-fault = grind arith
 
-either : (here : Option Section) (earlier : List Terminal) (token : Terminal) (b : Bool) (x y : AfterToken) → KeepsShape here earlier token x → (b ≡ false → KeepsShape here earlier token y)
-    → KeepsShape here earlier token (if b then x else y)
+either : (here : Option Section) (earlier : List Terminal) (token : Terminal) (b : Bool) (x y : AfterToken)
+    → KeepsShape here earlier token x → (b ≡ false → KeepsShape here earlier token y) → KeepsShape here earlier token (if b then x else y)
 either = grind arith
 
 -- ---- declarations
 
-declared : (context : Context) (here : Option Section) (earlier : List Terminal) (token : Terminal) (refusals : List BuildFault) (place : Place) (made : Declarations) → PlaceShape place (token ∷ earlier)
-    → KeepsShape here earlier token (declare_unless_refused context token refusals place made)
-declared context here earlier token [] place made h = h
-declared context here earlier token (refusal ∷ more) place made h = refused context here earlier token (kind_of_build_fault refusal) (build-fault here earlier token refusal)
+declared : (context : Context)
+    (here : Option Section) (earlier : List Terminal) (token : Terminal) (refusals : List BuildFault) (place : Place) (made : Declarations)
+    → PlaceShape place (token ∷ earlier) → KeepsShape here earlier token (declare_unless_refused context token refusals place made)
+declared _ _ _ _ [] _ _ h = h
+declared context here earlier token (refusal ∷ _) _ _ h = refused context here earlier token (kind_of_build_fault refusal) (build-fault here earlier token refusal)
 
-declared-before : (context : Context) (here : Option Section) (earlier : List Terminal) (token : Terminal) (refusals : List BuildFault) (made : Declarations) (next : AfterToken) → KeepsShape here earlier token next
-    → KeepsShape here earlier token (take_after_declarations context token refusals made next)
-declared-before context here earlier token [] made next h = h
-declared-before context here earlier token (refusal ∷ more) made next h = refused context here earlier token (kind_of_build_fault refusal) (build-fault here earlier token refusal)
+declared-before : (context : Context) (here : Option Section)
+    (earlier : List Terminal) (token : Terminal) (refusals : List BuildFault) (made : Declarations) (next : AfterToken)
+    → KeepsShape here earlier token next → KeepsShape here earlier token (take_after_declarations context token refusals made next)
+declared-before _ _ _ _ [] _ _ h = h
+declared-before context here earlier token (refusal ∷ _) _ _ h =
+    refused context here earlier token (kind_of_build_fault refusal) (build-fault here earlier token refusal)
 
 -- ---- facts on the tokens before
 
@@ -158,8 +162,8 @@ no_terms : (earlier : List Terminal) → HasTerms [] earlier
 no_terms earlier column h = absurd cc
 
 -- one more term
-row-longer : (row : PartialRow) (column : List ℕ) (value : Decimal) (earlier : List Terminal) → ends_in_first_word earlier ≡ false → IsRow row earlier
-    → PlaceShape (InRow (record row { terms = row.terms ++ (column, value) ∷ [] })) (Name column ∷ earlier)
+row-longer : (row : PartialRow) (column : List ℕ) (value : Decimal) (earlier : List Terminal) → ends_in_first_word earlier ≡ false
+    → IsRow row earlier → PlaceShape (InRow (record row { terms = row.terms ++ (column, value) ∷ [] })) (Name column ∷ earlier)
 row-longer = grind (arith, list_any-append, or_right, or_left)
 
 -- what is known of the row of an item, if it has one
@@ -171,13 +175,15 @@ term : (context : Context) (owner : ItemOwner) (column : List ℕ) (value : Deci
     → KeepsShape (section_of_item owner) earlier (Name column) (take_term context owner column value (Name column))
 term context (OfObjective objective) column value earlier h = grind (arith, declared)
 term context (OfRow row) column value earlier h =
-    either (Some Rows) earlier (Name column) (list_any (λ t. same_bytes column t.0) row.terms) (refuse context (Name column) kinds.DuplicateEntry)
+    either (Some Rows) earlier (Name column) (list_any (λ t. same_bytes column t.0) _) (refuse context (Name column) kinds.DuplicateEntry)
     (Goes (with_made context []) (Between (InRow (record row { terms = row.terms ++ (column, value) ∷ [] }))))
-    (refused context (Some Rows) earlier (Name column) kinds.DuplicateEntry tt) (λ e. row-longer row column value earlier h.1 h.0)
+    (refused context (Some Rows) earlier (Name column) kinds.DuplicateEntry tt) (λ e. row-longer _ column value _ h.1 h.0)
 
-signs : (context : Context) (owner : ItemOwner) (sign : SignOf) (earlier : List Terminal) → SignsShape owner earlier → (token : Terminal) → KeepsShape (section_of_item owner) earlier token (take_after_signs context owner sign token)
+signs : (context : Context) (owner : ItemOwner) (sign : SignOf) (earlier : List Terminal) → SignsShape owner earlier
+    → (token : Terminal) → KeepsShape (section_of_item owner) earlier token (take_after_signs context owner sign token)
 signs context owner sign earlier h token =
-    signs-by (KeepsShape (section_of_item owner) earlier) context owner sign (bad context (section_of_item owner) earlier) (λ more. next owner more h) (λ name. term context owner name (apply_sign sign one) earlier (named owner h)) (λ value. number owner value h) token
+    signs-by (KeepsShape (section_of_item owner) earlier) context owner sign (bad context (section_of_item owner) earlier)
+    (λ more. next _ more h) (λ name. term context _ name (apply_sign sign one) _ (named _ h)) (λ value. number _ value h) token
   where
     next : (o : ItemOwner) (more : SignOf) → SignsShape o earlier → SignsShape o (Sign more ∷ earlier)
     next = grind arith
@@ -193,9 +199,10 @@ abbrev ItemShape : ItemOwner → List Terminal → Type 0
 ItemShape (OfObjective objective) earlier = Unit {0}
 ItemShape (OfRow row) earlier = Shape (RowLeftRelation row) earlier
 
-item : (context : Context) (owner : ItemOwner) (earlier : List Terminal) → ItemShape owner earlier → (token : Terminal) → KeepsShape (section_of_item owner) earlier token (begin_item context owner token)
-item context owner earlier h token =
-    item-by (KeepsShape (section_of_item owner) earlier) context owner (bad context (section_of_item owner) earlier) (λ more. next owner more h) (λ name. term context owner name one earlier (named owner h)) (λ value. number owner value h) token
+item : (context : Context) (owner : ItemOwner) (earlier : List Terminal)
+    → ItemShape owner earlier → (token : Terminal) → KeepsShape (section_of_item owner) earlier token (begin_item context owner token)
+item context owner earlier h token = item-by (KeepsShape (section_of_item owner) earlier) context owner (bad context (section_of_item owner)
+    earlier) (λ more. next _ more h) (λ name. term context _ name one _ (named _ h)) (λ value. number _ value h) token
   where
     next : (o : ItemOwner) (more : SignOf) → ItemShape o earlier → SignsShape o (Sign more ∷ earlier)
     next = grind arith
@@ -206,17 +213,18 @@ item context owner earlier h token =
     number : (o : ItemOwner) (value : Decimal) → ItemShape o earlier → NumberShape o (Number value ∷ earlier)
     number = grind arith
 
-side : (context : Context) (sided : SideOwner) (l : Limit) (earlier : List Terminal) (token : Terminal) → begins_row (token ∷ earlier) ≡ true → KeepsShape (section_of_side sided) earlier token (take_side context sided l token)
+side : (context : Context) (sided : SideOwner) (l : Limit) (earlier : List Terminal) (token : Terminal)
+    → begins_row (token ∷ earlier) ≡ true → KeepsShape (section_of_side sided) earlier token (take_side context sided l token)
 side context (SideOfRow row relation) l earlier token h = grind (arith, row, declared)
-side context (SideOfBound is_new column relation) l earlier token h =
-    let limits = limits_by relation l in
-    declared context (Some Bounds) earlier token (bounds_refusals (with_declarations context.builder (new_column is_new column)) column limits.lower limits.upper) (InBounds None)
-    (new_column is_new column ++ bounds_declared column limits.lower limits.upper) tt
+side context (SideOfBound _ column relation) l earlier token h = let limits = limits_by relation l in declared context
+    (Some Bounds) earlier token (bounds_refusals (with_declarations context.builder (new_column _ _)) column limits.lower limits.upper)
+    (InBounds None) (new_column _ _ ++ bounds_declared column limits.lower limits.upper) tt
 
 opened : (context : Context) (here : Option Section) (earlier : List Terminal) (word : SectionWord) → KeepsShape here earlier (Opens word) (open_section context word)
 opened = grind arith
 
-row : (context : Context) (label : List ℕ) (earlier : List Terminal) → begins_row earlier ≡ true → (token : Terminal) → KeepsShape (Some Rows) earlier token (begin_row context label token)
+row : (context : Context) (label : List ℕ) (earlier : List Terminal)
+    → begins_row earlier ≡ true → (token : Terminal) → KeepsShape (Some Rows) earlier token (begin_row context label token)
 row = grind arith
 
 bound : (context : Context) (earlier : List Terminal) (token : Terminal) → KeepsShape (Some Bounds) earlier token (begin_bound context token)
@@ -225,85 +233,92 @@ bound = grind arith
 differ : (first second : Relation) → fits_second first second ≡ false → not (agree first second) ≡ true
 differ = grind arith
 
-second : (context : Context) (left : Option (List ℕ × Relation)) (earlier : List Terminal) → PlaceShape (InBounds left) earlier → (relation : Relation)
+second : (context : Context) (left : Option (List ℕ × Relation)) (earlier : List Terminal)
+    → PlaceShape (InBounds left) earlier → (relation : Relation)
     → KeepsShape (Some Bounds) earlier (Compares relation) (take_second_relation context left relation (Compares relation))
 second = grind arith
 
-ended : (context : Context) (row : PartialRow) (earlier : List Terminal) → IsRow row earlier → ends_in_name earlier ≡ true → (relation : Relation)
-    → KeepsShape (Some Rows) earlier (Compares relation) (if fits_left row.left relation then Goes context (AtSide (SideOfRow row relation)) else refuse context (Compares relation) kinds.MixedSenses)
+ended : (context : Context) (row : PartialRow) (earlier : List Terminal) → IsRow row earlier → ends_in_name earlier ≡ true
+    → (relation : Relation) → KeepsShape (Some Rows) earlier (Compares relation) (if fits_left row.left relation then Goes context
+    (AtSide (SideOfRow row relation)) else refuse context (Compares relation) kinds.MixedSenses)
 ended = grind arith
 
-listed : (place : Place) (kind_declared : List ℕ → Declaration) (context : Context) (earlier : List Terminal) → ((name : List ℕ) → PlaceShape place (Name name ∷ earlier)) → (token : Terminal)
-    → KeepsShape (section_at_place place) earlier token (name_taken place kind_declared context token)
-listed place kind_declared context earlier h token =
-    listed-by (KeepsShape (section_at_place place) earlier) context place kind_declared (bad context (section_at_place place) earlier)
-    (λ name. declared context (section_at_place place) earlier (Name name) (refusals_in_turn context.builder (declare_column name ∷ kind_declared name ∷ [])) place (declare_column name ∷ kind_declared name ∷ []) (h name)) token
+listed : (place : Place) (kind_declared : List ℕ → Declaration) (context : Context) (earlier : List Terminal)
+    → ((name : List ℕ) → PlaceShape place (Name name ∷ earlier))
+    → (token : Terminal) → KeepsShape (section_at_place place) earlier token (name_taken place kind_declared context token)
+listed place kind_declared context earlier h token = listed-by (KeepsShape (section_at_place place) earlier) context place kind_declared
+    (bad context (section_at_place place) earlier) (λ name. declared context (section_at_place place) _ _ (refusals_in_turn context.builder
+    (declare_column _ ∷ kind_declared name ∷ [])) _ (declare_column _ ∷ kind_declared name ∷ []) (h name)) token
 
-phrase : (place : Place) (context : Context) (earlier : List Terminal) → PlaceShape place earlier → (token : Terminal) → KeepsShape (section_at_place place) earlier token (begin_phrase place context token)
+phrase : (place : Place) (context : Context) (earlier : List Terminal)
+    → PlaceShape place earlier → (token : Terminal) → KeepsShape (section_at_place place) earlier token (begin_phrase place context token)
 phrase AtStart context earlier h token = bad context None earlier token
 phrase _ context earlier h token = grind arith
 
-first : (place : Place) (context : Context) (earlier : List Terminal) → PlaceShape place earlier → (token : Terminal) → KeepsShape (section_at_place place) earlier token (begin place context token)
-first place context earlier h token =
-    begin-by (KeepsShape (section_at_place place) earlier) context place
-    (λ word. either (section_at_place place) earlier (Opens word) (may_begin_section place) (open_section context word) (refuse context (Opens word) kinds.BadToken)
-    (opened context (section_at_place place) earlier word) (λ e. bad context (section_at_place place) earlier (Opens word)))
-    (phrase place context earlier h) token
+first : (place : Place) (context : Context) (earlier : List Terminal)
+    → PlaceShape place earlier → (token : Terminal) → KeepsShape (section_at_place place) earlier token (begin place context token)
+first place context earlier h token = begin-by (KeepsShape (section_at_place place) earlier) context place
+    (λ word. either (section_at_place place) earlier (Opens word) (may_begin_section place)
+    (open_section context word) (refuse context (Opens word) kinds.BadToken) (opened context (section_at_place place) earlier word)
+    (λ e. bad context (section_at_place place) earlier (Opens word))) (phrase _ context _ h) token
 
-later : (context : Context) (made : Declarations) (place : Place) (earlier : List Terminal) → PlaceShape place earlier → (token : Terminal) → KeepsShape (section_at_place place) earlier token (begin_after context made place token)
+later : (context : Context) (made : Declarations) (place : Place) (earlier : List Terminal) → PlaceShape place earlier
+    → (token : Terminal) → KeepsShape (section_at_place place) earlier token (begin_after context made place token)
 later = grind (arith, declared-before, section_at_place, first)
 
-lone : (context : Context) (owner : ItemOwner) (value : Decimal) (earlier : List Terminal) → NumberShape owner earlier → (token : Terminal) → KeepsShape (section_of_item owner) earlier token (take_after_lone_number context owner value token)
-lone context (OfObjective objective) value earlier h token =
-    lone-by (KeepsShape (Some Objective) earlier) context objective value (bad context (Some Objective) earlier) (λ sign. later context (declare_constant value ∷ []) (InObjective objective) earlier tt (Sign sign))
-    (λ word. later context (declare_constant value ∷ []) (InObjective objective) earlier tt (Opens word)) token
+lone : (context : Context) (owner : ItemOwner) (value : Decimal) (earlier : List Terminal) → NumberShape owner earlier
+    → (token : Terminal) → KeepsShape (section_of_item owner) earlier token (take_after_lone_number context owner value token)
+lone context (OfObjective objective) value earlier h token = lone-by (KeepsShape (Some Objective) earlier) context objective value
+    (bad context (Some Objective) earlier) (λ sign. later context (declare_constant _ ∷ []) (InObjective objective) earlier tt (Sign sign))
+    (λ word. later context (declare_constant _ ∷ []) (InObjective objective) earlier tt (Opens word)) token
 lone context (OfRow partial) value earlier h token = grind arith
 
-last_word : (context : Context) (wanted : LastWord) (earlier : List Terminal) → Shape (AtLastWord wanted) earlier → (token : Terminal) → KeepsShape (section_at (AtLastWord wanted)) earlier token (take context (AtLastWord wanted) token)
+last_word : (context : Context) (wanted : LastWord) (earlier : List Terminal) → Shape (AtLastWord wanted) earlier
+    → (token : Terminal) → KeepsShape (section_at (AtLastWord wanted)) earlier token (take context (AtLastWord wanted) token)
 last_word = grind arith
 
-row_signed : (context : Context) (label : List ℕ) (sign : SignOf) (earlier : List Terminal) → SignShape earlier → (token : Terminal) → KeepsShape (Some Rows) earlier token (take context (RowSign label sign) token)
+row_signed : (context : Context) (label : List ℕ) (sign : SignOf) (earlier : List Terminal)
+    → SignShape earlier → (token : Terminal) → KeepsShape (Some Rows) earlier token (take context (RowSign label sign) token)
 row_signed = grind arith
 
 -- the first number of a row
 number-value : (earlier : List Terminal) → LeftNumberShape earlier → ends_in_value earlier ≡ true
 number-value = grind arith
 
-row_numbered : (context : Context) (label : List ℕ) (sign : SignOf) (value : Decimal) (earlier : List Terminal) → LeftNumberShape earlier → (token : Terminal)
-    → KeepsShape (Some Rows) earlier token (take context (RowNumber label sign value) token)
+row_numbered : (context : Context) (label : List ℕ) (sign : SignOf) (value : Decimal) (earlier : List Terminal)
+    → LeftNumberShape earlier → (token : Terminal) → KeepsShape (Some Rows) earlier token (take context (RowNumber label sign value) token)
 row_numbered = grind arith
 
 -- a name that is no label, but that of the first term
 pub in-row : (context : Context) (label : List ℕ) (earlier : List Terminal) → NameShape label earlier → PlaceShape (InRow (first_named context label)) earlier
 in-row = grind arith
 
-row_named : (context : Context) (label : List ℕ) (earlier : List Terminal) → NameShape label earlier → (token : Terminal) → KeepsShape (Some Rows) earlier token (take context (RowName label) token)
+row_named : (context : Context) (label : List ℕ) (earlier : List Terminal)
+    → NameShape label earlier → (token : Terminal) → KeepsShape (Some Rows) earlier token (take context (RowName label) token)
 row_named = grind arith
 
-item_numbered : (context : Context) (owner : ItemOwner) (sign : SignOf) (value : Decimal) (earlier : List Terminal) → NumberShape owner earlier → (token : Terminal)
-    → KeepsShape (section_of_item owner) earlier token (take context (ItemNumber owner sign value) token)
+item_numbered : (context : Context) (owner : ItemOwner) (sign : SignOf) (value : Decimal) (earlier : List Terminal) → NumberShape
+    owner earlier → (token : Terminal) → KeepsShape (section_of_item owner) earlier token (take context (ItemNumber owner sign value) token)
 item_numbered context owner sign value earlier h token = grind (arith, item_number-by, section_of_item, term, lone, row)
 
 -- ---- each state
 
-step : (context : Context) (state : State) (earlier : List Terminal) → Shape state earlier → (token : Terminal) → KeepsShape (section_at state) earlier token (take context state token)
-step context (Between place) earlier h token = first place context earlier h token
-step context (AtObjective sense) earlier h token =
-    objective-by (KeepsShape (Some Objective) earlier) context sense (λ name. tt) (later context (objective_declared sense default_objective) (BeforeItems default_objective) earlier tt) token
-step context (ObjectiveName sense label) earlier h token =
-    objective_name-by (KeepsShape (Some Objective) earlier) context sense label
-    (declared context (Some Objective) earlier Colon (refusals_in_turn context.builder (objective_declared sense label)) (BeforeItems label) (objective_declared sense label) tt)
-    (later context (first_item_declared sense label) (InObjective default_objective) earlier tt) token
+step : (context : Context) (state : State) (earlier : List Terminal)
+    → Shape state earlier → (token : Terminal) → KeepsShape (section_at state) earlier token (take context state token)
+step _ (Between _) _ h _ = first _ _ _ h _
+step context (AtObjective sense) earlier h token = objective-by (KeepsShape (Some Objective) earlier) context sense
+    (λ name. tt) (later context (objective_declared sense default_objective) (BeforeItems default_objective) earlier tt) token
+step context (ObjectiveName sense label) earlier h token = objective_name-by (KeepsShape (Some Objective) earlier) context sense label
+    (declared context (Some Objective) earlier Colon (refusals_in_turn context.builder (objective_declared sense label)) (BeforeItems label)
+    (objective_declared sense label) tt) (later context (first_item_declared sense label) (InObjective default_objective) earlier tt) token
 step context AtSemi earlier h token = semi-by (KeepsShape (Some SemiContinuous) earlier) context tt (first InSemis (with_made context []) earlier h) token
-step context (Signs owner sign) earlier h token = signs context owner sign earlier h token
-step context (ItemNumber owner sign value) earlier h token = item_numbered context owner sign value earlier h token
-step context (RowLabel label) earlier h token = row context label earlier h token
-step context (RowLeftRelation partial) earlier h token = item context (OfRow partial) earlier h token
-step context (BoundLeftRelation l relation) earlier h token =
-    let limits = limits_by (flip relation) l in
-    bound_column-by (KeepsShape (Some Bounds) earlier) context l relation (bad context (Some Bounds) earlier)
-    (λ name. declared context (Some Bounds) earlier (Name name) (bounds_refusals (with_declarations context.builder (declare_column name ∷ [])) name limits.lower limits.upper) (InBounds (Some (name, relation)))
-    (declare_column name ∷ bounds_declared name limits.lower limits.upper) (h, refl)) token
+step _ (Signs _ sign) _ h token = signs _ _ sign _ h token
+step context (ItemNumber _ sign value) _ h _ = item_numbered context _ sign value _ h _
+step context (RowLabel label) _ h token = row context label _ h token
+step _ (RowLeftRelation partial) earlier h token = item _ (OfRow partial) earlier h token
+step context (BoundLeftRelation l relation) earlier h token = let limits = limits_by (flip relation) l in bound_column-by (KeepsShape (Some
+    Bounds) earlier) context l relation (bad context _ _) (λ name. declared _ _ earlier (Name name) (bounds_refusals (with_declarations
+    context.builder (declare_column name ∷ [])) name limits.lower limits.upper) (InBounds (Some (name, relation))) _ (h, refl)) token
 step context (AtSide sided) earlier h token = grind (arith, side-by, section_of_side, bad, side)
 step context (SideSign sided sign) earlier h token = grind (arith, limit-by, section_of_side, bad, side)
 step context _ earlier h token = grind arith
@@ -317,21 +332,23 @@ pub record Shaped (earlier : List Terminal) (context : Context) (state : State) 
 pub none-shaped : Shaped [] start.context (Between AtStart)
 none-shaped = grind arith
 
-pub shaped-later : (earlier : List Terminal) (context : Context) (state : State) (token : Terminal) (after : Context) (next : State) → Shaped earlier context state → take context state token ≡ Goes after next
-    → Shaped (token ∷ earlier) after next
-shaped-later earlier context state token after next known h = record {
-  opened = opened-later earlier context state token after next known.opened h;
-  shape = subst (λ (taken : AfterToken). KeepsShape (section_at state) earlier token taken) h (step context state earlier known.shape token);
+pub shaped-later : (earlier : List Terminal) (context : Context) (state : State) (token : Terminal) (after : Context) (next : State)
+    → Shaped earlier context state → take context state token ≡ Goes after next → Shaped (token ∷ earlier) after next
+shaped-later earlier _ state token _ _ known h = record {
+  opened = opened-later _ _ _ _ _ _ known.opened h;
+  shape = subst (λ taken. KeepsShape (section_at state) earlier token taken) h (step _ _ _ known.shape _);
 }
 
-mixed : (earlier : List Terminal) (context : Context) (state : State) (token : Terminal) → Shaped earlier context state → take context state token ≡ Refuses kinds.MixedSenses → mixes_senses earlier token ≡ true
+mixed : (earlier : List Terminal) (context : Context) (state : State) (token : Terminal)
+    → Shaped earlier context state → take context state token ≡ Refuses kinds.MixedSenses → mixes_senses earlier token ≡ true
 mixed = grind (arith, opened, section_at, step)
 
-constant : (earlier : List Terminal) (context : Context) (state : State) (token : Terminal) → Shaped earlier context state → take context state token ≡ Refuses kinds.ConstantInRow → follows_constant earlier token ≡ true
+constant : (earlier : List Terminal) (context : Context) (state : State) (token : Terminal)
+    → Shaped earlier context state → take context state token ≡ Refuses kinds.ConstantInRow → follows_constant earlier token ≡ true
 constant = grind (arith, section_at, step, both_so, opened)
 
 pub mixed-senses : IsInWords kinds.MixedSenses mixes_senses
-mixed-senses = in-words kinds.MixedSenses mixes_senses Shaped (record { at_start = none-shaped; goes = shaped-later; refuses = mixed }) refl refl
+mixed-senses = in-words _ _ _ (record { at_start = none-shaped; goes = shaped-later; refuses = mixed }) refl refl
 
 pub constant-in_row : IsInWords kinds.ConstantInRow follows_constant
-constant-in_row = in-words kinds.ConstantInRow follows_constant Shaped (record { at_start = none-shaped; goes = shaped-later; refuses = constant }) refl refl
+constant-in_row = in-words _ _ _ (record { at_start = none-shaped; goes = shaped-later; refuses = constant }) refl refl

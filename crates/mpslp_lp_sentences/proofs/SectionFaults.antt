@@ -13,9 +13,9 @@ use Prelude.{open_section, begin_row, begin_bound, take_second_relation, name_ta
 use Prelude.{limits_by, flip, objective_declared, default_objective, first_item_declared, terminal_fault, start, has_seen, with_section}
 use Prelude.{is_out_of_order, Terminal, Opens, Name, Compares, Colon, Free, begin_after, take_after_lone_number, take, IsInWords, opens}
 use Prelude.{has_opened, current_section, repeats_section, section_rank, opens_later, comes_late, comes_early, breaks_order}
-use Rattle.mpslp_lp_sentences.proofs.FaultedTokens.{in-words}
-use Rattle.mpslp_lp_sentences.proofs.TokenCases.{signs-by, item-by, limit-by, listed-by, last_word-by, bound_name-by, bound_column-by}
-use Rattle.mpslp_lp_sentences.proofs.TokenCases.{side-by, begin-by, objective-by, objective_name-by, item_number-by, semi-by}
+use Rattle.mpslp_lp_sentences.proofs.FaultedTokens.{in-words, signs-by, item-by, limit-by, listed-by, last_word-by, bound_name-by}
+use Rattle.mpslp_lp_sentences.proofs.FaultedTokens.{bound_column-by, side-by, begin-by, objective-by, objective_name-by, item_number-by}
+use Rattle.mpslp_lp_sentences.proofs.FaultedTokens.{semi-by}
 use Rattle.mpslp_types.specs.declared.faults.FaultKind.TheVariants as kinds
 
 -- ---- what a token does to the sections that were opened
@@ -86,7 +86,8 @@ abbrev KeepsSections : Context → Option Section → Terminal → AfterToken �
 KeepsSections context here token (Goes after next) = (after.sections_seen ≡ grown context.sections_seen token) × (section_at next ≡ section_after here token)
 KeepsSections context here token (Refuses kind) = States (terminal_fault context token) kind
 
-refused : (context : Context) (here : Option Section) (token : Terminal) (kind : FaultKind) → is_of_sections kind ≡ false → KeepsSections context here token (refuse context token kind)
+refused : (context : Context) (here : Option Section) (token : Terminal) (kind : FaultKind)
+    → is_of_sections kind ≡ false → KeepsSections context here token (refuse context token kind)
 refused = grind arith
 
 bad : (context : Context) (here : Option Section) (token : Terminal) → KeepsSections context here token (refuse context token kinds.BadToken)
@@ -95,7 +96,8 @@ bad = grind arith
 build-fault : (fault : BuildFault) → is_of_sections (kind_of_build_fault fault) ≡ false
 build-fault = grind arith
 
-either : (context : Context) (here : Option Section) (token : Terminal) (b : Bool) (x y : AfterToken) → KeepsSections context here token x → KeepsSections context here token y → KeepsSections context here token (if b then x else y)
+either : (context : Context) (here : Option Section) (token : Terminal) (b : Bool) (x y : AfterToken)
+    → KeepsSections context here token x → KeepsSections context here token y → KeepsSections context here token (if b then x else y)
 either = grind arith
 
 -- ---- declarations
@@ -105,36 +107,42 @@ abbrev opens_none : Terminal → Bool
 opens_none (Opens word) = false
 opens_none _ = true
 
-declared : (context : Context) (here : Option Section) (token : Terminal) (refusals : List BuildFault) (place : Place) (made : Declarations) → opens_none token ≡ true → section_at_place place ≡ here
-    → KeepsSections context here token (declare_unless_refused context token refusals place made)
+declared : (context : Context) (here : Option Section) (token : Terminal) (refusals : List BuildFault) (place : Place) (made : Declarations)
+    → opens_none token ≡ true
+    → section_at_place place ≡ here → KeepsSections context here token (declare_unless_refused context token refusals place made)
 declared = grind arith
 
-declared-before : (context : Context) (here : Option Section) (token : Terminal) (refusals : List BuildFault) (made : Declarations) (next : AfterToken) → KeepsSections context here token next
-    → KeepsSections context here token (take_after_declarations context token refusals made next)
+declared-before : (context : Context)
+    (here : Option Section) (token : Terminal) (refusals : List BuildFault) (made : Declarations) (next : AfterToken)
+    → KeepsSections context here token next → KeepsSections context here token (take_after_declarations context token refusals made next)
 declared-before = grind arith
 
 -- ---- what each function does
 
-stays : (context : Context) (here : Option Section) (token : Terminal) (place : Place) (made : Declarations) → opens_none token ≡ true → section_at_place place ≡ here
-    → KeepsSections context here token (declare_at context token place made)
+stays : (context : Context) (here : Option Section) (token : Terminal) (place : Place) (made : Declarations)
+    → opens_none token ≡ true → section_at_place place ≡ here → KeepsSections context here token (declare_at context token place made)
 stays = grind arith
 
-bounded : (context : Context) (front : Declarations) (column : List ℕ) (limits : Limits) (token : Terminal) (place : Place) → opens_none token ≡ true → section_at_place place ≡ Some Bounds
-    → KeepsSections context (Some Bounds) token (take_bound context front column limits token place)
+bounded : (context : Context) (front : Declarations) (column : List ℕ) (limits : Limits) (token : Terminal) (place : Place)
+    → opens_none token ≡ true
+    → section_at_place place ≡ Some Bounds → KeepsSections context (Some Bounds) token (take_bound context front column limits token place)
 bounded context front column limits token place none is = grind arith
 
-term : (context : Context) (owner : ItemOwner) (column name : List ℕ) (value : Decimal) → KeepsSections context (section_of_item owner) (Name name) (take_term context owner column value (Name name))
+term : (context : Context) (owner : ItemOwner) (column name : List ℕ) (value : Decimal)
+    → KeepsSections context (section_of_item owner) (Name name) (take_term context owner column value (Name name))
 term = grind arith
 
-signs : (context : Context) (owner : ItemOwner) (sign : SignOf) (token : Terminal) → KeepsSections context (section_of_item owner) token (take_after_signs context owner sign token)
-signs context owner sign token =
-    signs-by (KeepsSections context (section_of_item owner)) context owner sign (bad context (section_of_item owner)) (λ more. (refl, refl)) (λ name. term context owner name name (apply_sign sign one)) (λ value. (refl, refl)) token
+signs : (context : Context) (owner : ItemOwner) (sign : SignOf) (token : Terminal)
+    → KeepsSections context (section_of_item owner) token (take_after_signs context owner sign token)
+signs context owner sign token = signs-by (KeepsSections context (section_of_item owner)) _ _ _ (bad context (section_of_item owner))
+    (λ more. (refl, refl)) (λ name. term context owner name name (apply_sign sign one)) (λ value. (refl, refl)) token
 
 item : (context : Context) (owner : ItemOwner) (token : Terminal) → KeepsSections context (section_of_item owner) token (begin_item context owner token)
-item context owner token =
-    item-by (KeepsSections context (section_of_item owner)) context owner (bad context (section_of_item owner)) (λ more. (refl, refl)) (λ name. term context owner name name one) (λ value. (refl, refl)) token
+item context owner token = item-by (KeepsSections context (section_of_item owner)) _ _
+    (bad context (section_of_item owner)) (λ more. (refl, refl)) (λ name. term context owner name name one) (λ value. (refl, refl)) token
 
-side : (context : Context) (sided : SideOwner) (l : Limit) (token : Terminal) → opens_none token ≡ true → KeepsSections context (section_of_side sided) token (take_side context sided l token)
+side : (context : Context) (sided : SideOwner) (l : Limit) (token : Terminal)
+    → opens_none token ≡ true → KeepsSections context (section_of_side sided) token (take_side context sided l token)
 side context (SideOfRow row relation) l token none = grind arith
 side context (SideOfBound is_new column relation) l token none = grind arith
 
@@ -147,13 +155,15 @@ row = grind arith
 bound : (context : Context) (token : Terminal) → KeepsSections context (Some Bounds) token (begin_bound context token)
 bound = grind arith
 
-second : (context : Context) (left : Option (List ℕ × Relation)) (relation : Relation) → KeepsSections context (Some Bounds) (Compares relation) (take_second_relation context left relation (Compares relation))
+second : (context : Context) (left : Option (List ℕ × Relation)) (relation : Relation)
+    → KeepsSections context (Some Bounds) (Compares relation) (take_second_relation context left relation (Compares relation))
 second = grind arith
 
-listed : (place : Place) (kind_declared : List ℕ → Declaration) (context : Context) (token : Terminal) → KeepsSections context (section_at_place place) token (name_taken place kind_declared context token)
+listed : (place : Place) (kind_declared : List ℕ → Declaration) (context : Context) (token : Terminal)
+    → KeepsSections context (section_at_place place) token (name_taken place kind_declared context token)
 listed place kind_declared context token =
     listed-by (KeepsSections context (section_at_place place)) context place kind_declared (bad context (section_at_place place))
-    (λ name. stays context (section_at_place place) (Name name) place (declare_column name ∷ kind_declared name ∷ []) refl refl) token
+    (λ name. stays context _ (Name name) place (declare_column _ ∷ kind_declared name ∷ []) refl refl) token
 
 phrase : (place : Place) (context : Context) (token : Terminal) → KeepsSections context (section_at_place place) token (begin_phrase place context token)
 phrase AtStart context token = bad context None token
@@ -167,26 +177,27 @@ phrase InBinaries context token = listed InBinaries declare_binary context token
 phrase InSemis context token = listed InSemis declare_semi context token
 
 first : (place : Place) (context : Context) (token : Terminal) → KeepsSections context (section_at_place place) token (begin place context token)
-first place context token =
-    begin-by (KeepsSections context (section_at_place place)) context place
-    (λ word. either context (section_at_place place) (Opens word) (may_begin_section place) (open_section context word) (refuse context (Opens word) kinds.BadToken)
-    (opened context (section_at_place place) word) (bad context (section_at_place place) (Opens word)))
-    (phrase place context) token
+first place context token = begin-by (KeepsSections context (section_at_place place)) context place (λ word. either context
+    (section_at_place place) (Opens word) (may_begin_section place) (open_section context word) (refuse context (Opens word) kinds.BadToken)
+    (opened context (section_at_place place) word) (bad context (section_at_place place) (Opens word))) (phrase place context) token
 
 -- a token that completes what is before it, and is taken at the place that follows
-first-later : (context : Context) (made : Declarations) (place : Place) (token : Terminal) → KeepsSections context (section_at_place place) token (begin place (with_made context made) token)
+first-later : (context : Context) (made : Declarations) (place : Place) (token : Terminal)
+    → KeepsSections context (section_at_place place) token (begin place (with_made context made) token)
 first-later = grind (arith, first)
 
-later : (context : Context) (made : Declarations) (place : Place) (token : Terminal) → KeepsSections context (section_at_place place) token (begin_after context made place token)
+later : (context : Context) (made : Declarations) (place : Place) (token : Terminal)
+    → KeepsSections context (section_at_place place) token (begin_after context made place token)
 later = grind (arith, first-later)
 
-lone : (context : Context) (owner : ItemOwner) (value : Decimal) (token : Terminal) → KeepsSections context (section_of_item owner) token (take_after_lone_number context owner value token)
+lone : (context : Context) (owner : ItemOwner) (value : Decimal) (token : Terminal)
+    → KeepsSections context (section_of_item owner) token (take_after_lone_number context owner value token)
 lone context owner value token = grind arith
 
-last_word : (context : Context) (wanted : LastWord) (token : Terminal) → KeepsSections context (section_at (AtLastWord wanted)) token (take context (AtLastWord wanted) token)
-last_word context wanted token =
-    last_word-by (KeepsSections context here) context wanted (bad context here)
-    (λ name. either context here (Name name) (is_last_word wanted name) (Goes (with_made context []) (Between (opened_by wanted))) (refuse context (Name name) kinds.BadToken) (refl, by wanted) (bad context here (Name name))) token
+last_word : (context : Context) (wanted : LastWord) (token : Terminal)
+    → KeepsSections context (section_at (AtLastWord wanted)) token (take context (AtLastWord wanted) token)
+last_word context wanted token = last_word-by (KeepsSections context here) context wanted (bad context here)
+    (λ name. either context _ (Name name) (is_last_word wanted name) _ _ (refl, by _) (bad context here (Name name))) token
   where
     here : Option Section
     here = section_at (AtLastWord wanted)
@@ -198,23 +209,23 @@ last_word context wanted token =
 
 step : (context : Context) (state : State) (token : Terminal) → KeepsSections context (section_at state) token (take context state token)
 step context (Between place) token = first place context token
-step context (AtObjective sense) token =
-    objective-by (KeepsSections context (Some Objective)) context sense (λ name. (refl, refl)) (later context (objective_declared sense default_objective) (BeforeItems default_objective)) token
-step context (ObjectiveName sense label) token =
-    objective_name-by (KeepsSections context (Some Objective)) context sense label (stays context (Some Objective) Colon (BeforeItems label) (objective_declared sense label) refl refl)
+step context (AtObjective sense) token = objective-by (KeepsSections context (Some Objective)) context sense
+    (λ name. (refl, refl)) (later context (objective_declared sense default_objective) (BeforeItems default_objective)) token
+step context (ObjectiveName sense label) token = objective_name-by (KeepsSections context (Some Objective)) context sense label
+    (stays context _ Colon (BeforeItems label) (objective_declared sense label) refl refl)
     (later context (first_item_declared sense label) (InObjective default_objective)) token
 step context (AtLastWord wanted) token = last_word context wanted token
 step context AtSemi token = semi-by (KeepsSections context (Some SemiContinuous)) context (refl, refl) (first-later context [] InSemis) token
 step context (Signs owner sign) token = signs context owner sign token
-step context (ItemNumber owner sign value) token =
-    item_number-by (KeepsSections context (section_of_item owner)) context owner sign value (λ name. term context owner name name (apply_sign sign value)) (lone context owner (apply_sign sign value)) token
-step context (RowLabel label) token = row context label token
+step context (ItemNumber owner sign value) token = item_number-by (KeepsSections context (section_of_item owner)) context owner sign value
+    (λ name. term context owner name name (apply_sign sign value)) (lone context _ (apply_sign sign value)) token
+step _ (RowLabel _) _ = row _ _ _
 step context (RowLeftRelation partial) token = item context (OfRow partial) token
-step context (BoundName column) token =
-    bound_name-by (KeepsSections context (Some Bounds)) context column (bad context (Some Bounds)) (bounded context (declare_column column ∷ []) column no_limits Free (InBounds None) refl refl) (λ relation. (refl, refl)) token
+step context (BoundName column) token = bound_name-by (KeepsSections context (Some Bounds)) _ _ (bad context (Some Bounds))
+    (bounded context (declare_column _ ∷ []) column no_limits Free (InBounds None) refl refl) (λ relation. (refl, refl)) token
 step context (BoundLeftRelation l relation) token =
-    bound_column-by (KeepsSections context (Some Bounds)) context l relation (bad context (Some Bounds))
-    (λ name. bounded context (declare_column name ∷ []) name (limits_by (flip relation) l) (Name name) (InBounds (Some (name, relation))) refl refl) token
+    bound_column-by (KeepsSections context (Some Bounds)) context l relation (bad context (Some Bounds)) (λ name. bounded context
+    (declare_column name ∷ []) name (limits_by (flip relation) l) (Name name) (InBounds (Some (name, relation))) refl refl) token
 step context (AtSide sided) token = grind (arith, side-by, side)
 step context (SideSign sided sign) token = grind (arith, limit-by, side)
 step context AfterEnd token = bad context (Some End) token
@@ -233,13 +244,14 @@ AreSeen earlier context = (section : Section) → has_seen context.sections_seen
 seen-grown : (seen : SectionsSeen) (token : Terminal) (section : Section) → has_seen (grown seen token) section ≡ (opens section token || has_seen seen section)
 seen-grown = grind arith
 
-pub opened-later : (earlier : List Terminal) (context : Context) (state : State) (token : Terminal) (after : Context) (next : State) → Opened earlier context state → take context state token ≡ Goes after next
-    → Opened (token ∷ earlier) after next
+pub opened-later : (earlier : List Terminal) (context : Context) (state : State) (token : Terminal) (after : Context) (next : State)
+    → Opened earlier context state → take context state token ≡ Goes after next → Opened (token ∷ earlier) after next
 opened-later = grind (arith, step, seen-grown)
 
 -- ---- the errors
 
-own-fault : (context : Context) (state : State) (token : Terminal) (kind : FaultKind) → is_of_sections kind ≡ true → take context state token ≡ Refuses kind → terminal_fault context token ≡ Some kind
+own-fault : (context : Context) (state : State) (token : Terminal) (kind : FaultKind)
+    → is_of_sections kind ≡ true → take context state token ≡ Refuses kind → terminal_fault context token ≡ Some kind
 own-fault = grind (arith, step)
 
 abbrev choice : Bool → Bool → Option FaultKind
@@ -248,8 +260,9 @@ choice repeated late = if repeated then Some kinds.SectionRepeated else (if late
 chosen-order : (a b : Bool) → choice a b ≡ Some kinds.SectionOrder → (a ≡ false) × (b ≡ true)
 chosen-order = grind arith
 
-repeated : (earlier : List Terminal) (context : Context) (state : State) (token : Terminal) → Opened earlier context state → take context state token ≡ Refuses kinds.SectionRepeated → repeats_section earlier token ≡ true
-repeated earlier context state token known h = by token (own-fault context state token kinds.SectionRepeated refl h)
+repeated : (earlier : List Terminal) (context : Context) (state : State) (token : Terminal)
+    → Opened earlier context state → take context state token ≡ Refuses kinds.SectionRepeated → repeats_section earlier token ≡ true
+repeated earlier context state token known h = by _ (own-fault context state token _ refl h)
   where
     by : (t : Terminal) → terminal_fault context t ≡ Some kinds.SectionRepeated → repeats_section earlier t ≡ true
     by = grind arith
@@ -259,22 +272,23 @@ any-more p q [] more h = cc
 any-more {X} p q (x ∷ xs) more h = grind (arith, or_left, or_right, any-more p q xs more)
 
 -- a section that comes later was opened
-late : (earlier : List Terminal) (section other : Section) → nat_lt (section_rank section) (section_rank other) ≡ true → has_opened earlier other ≡ true → comes_late earlier section ≡ true
-late earlier section other above h = any-more (opens other) (opens_later section) earlier of h
+late : (earlier : List Terminal) (section other : Section)
+    → nat_lt (section_rank section) (section_rank other) ≡ true → has_opened earlier other ≡ true → comes_late earlier section ≡ true
+late earlier section other above h = any-more _ _ earlier of h
   where
     of : (t : Terminal) → opens other t ≡ true → opens_later section t ≡ true
     of = grind arith
 
-out_of_order : (earlier : List Terminal) (context : Context) (section : Section) → AreSeen earlier context → is_out_of_order context.sections_seen section ≡ true
-    → (comes_early earlier section || comes_late earlier section) ≡ true
+out_of_order : (earlier : List Terminal) (context : Context) (section : Section) → AreSeen earlier context
+    → is_out_of_order context.sections_seen section ≡ true → (comes_early earlier section || comes_late earlier section) ≡ true
 out_of_order earlier context section known h = of section h
   where
     seen : SectionsSeen
     seen = context.sections_seen
 
     -- the objective was not opened, or one of these was
-    without : (s : Section) → comes_early earlier s ≡ not (has_opened earlier Objective) → (rest : Bool) → (rest ≡ true → comes_late earlier s ≡ true) → (not seen.objective || rest) ≡ true
-        → (comes_early earlier s || comes_late earlier s) ≡ true
+    without : (s : Section) → comes_early earlier s ≡ not (has_opened earlier Objective) → (rest : Bool) → (rest ≡ true
+        → comes_late earlier s ≡ true) → (not seen.objective || rest) ≡ true → (comes_early earlier s || comes_late earlier s) ≡ true
     without s is rest more k = by seen.objective (known Objective) k
       where
         by : (b : Bool) → b ≡ has_opened earlier Objective → (not b || rest) ≡ true → (comes_early earlier s || comes_late earlier s) ≡ true
@@ -289,12 +303,10 @@ out_of_order earlier context section known h = of section h
 
     of : (s : Section) → is_out_of_order seen s ≡ true → (comes_early earlier s || comes_late earlier s) ≡ true
     of Objective k = absurd cc
-    of Rows k =
-        let late_rows : Type 0 = comes_late earlier Rows ≡ true in
-        without Rows refl (seen.bounds || (seen.generals || (seen.binaries || (seen.semis || seen.end))))
-        (one_of seen.bounds (seen.generals || (seen.binaries || (seen.semis || seen.end))) late_rows (opened_later Rows Bounds refl)
-        (one_of seen.generals (seen.binaries || (seen.semis || seen.end)) late_rows (opened_later Rows Generals refl)
-        (one_of seen.binaries (seen.semis || seen.end) late_rows (opened_later Rows Binaries refl)
+    of Rows k = let late_rows : Type 0 = comes_late earlier Rows ≡ true in without Rows refl (seen.bounds || (seen.generals
+        || (seen.binaries || (seen.semis || seen.end)))) (one_of seen.bounds (seen.generals || (seen.binaries || (seen.semis || seen.end)))
+        late_rows (opened_later Rows Bounds refl) (one_of seen.generals (seen.binaries || (seen.semis || seen.end)) late_rows
+        (opened_later Rows Generals refl) (one_of seen.binaries (seen.semis || seen.end) late_rows (opened_later Rows Binaries refl)
         (one_of seen.semis seen.end late_rows (opened_later Rows SemiContinuous refl) (opened_later Rows End refl))))) k
     of End k = or_left _ _ (sym (ap not (known Objective)) ∙ k)
     of Bounds k = without Bounds refl seen.end (opened_later Bounds End refl) k
@@ -302,21 +314,19 @@ out_of_order earlier context section known h = of section h
     of Binaries k = without Binaries refl seen.end (opened_later Binaries End refl) k
     of SemiContinuous k = without SemiContinuous refl seen.end (opened_later SemiContinuous End refl) k
 
-misplaced : (earlier : List Terminal) (context : Context) (state : State) (token : Terminal) → Opened earlier context state → take context state token ≡ Refuses kinds.SectionOrder → breaks_order earlier token ≡ true
-misplaced earlier context state token known h = by token (own-fault context state token kinds.SectionOrder refl h)
+misplaced : (earlier : List Terminal) (context : Context) (state : State) (token : Terminal)
+    → Opened earlier context state → take context state token ≡ Refuses kinds.SectionOrder → breaks_order earlier token ≡ true
+misplaced earlier context state token known h = by token (own-fault context state token _ refl h)
   where
     by : (t : Terminal) → terminal_fault context t ≡ Some kinds.SectionOrder → breaks_order earlier t ≡ true
-    by (Opens word) e =
-        let parts = chosen-order (has_seen context.sections_seen (section_of word)) (is_out_of_order context.sections_seen (section_of word)) e in
-        both_so _ _
-        (so_not _ (sym (known.seen (section_of word)) ∙ parts.0)) (out_of_order earlier context (section_of word) known.seen parts.1)
+    by (Opens _) e = let parts = chosen-order _ _ e in both_so _ _ (so_not _ (sym (known.seen _) ∙ parts.0)) (out_of_order earlier context _ known.seen parts.1)
     by _ e = absurd cc
 
 pub none-opened : Opened [] start.context (Between AtStart)
 none-opened = grind arith
 
 pub section-repeated : IsInWords kinds.SectionRepeated repeats_section
-section-repeated = in-words kinds.SectionRepeated repeats_section Opened (record { at_start = none-opened; goes = opened-later; refuses = repeated }) refl refl
+section-repeated = in-words _ _ _ (record { at_start = none-opened; goes = opened-later; refuses = repeated }) refl refl
 
 pub section-order : IsInWords kinds.SectionOrder breaks_order
-section-order = in-words kinds.SectionOrder breaks_order Opened (record { at_start = none-opened; goes = opened-later; refuses = misplaced }) refl refl
+section-order = in-words _ _ _ (record { at_start = none-opened; goes = opened-later; refuses = misplaced }) refl refl

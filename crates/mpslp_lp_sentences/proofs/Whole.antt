@@ -41,10 +41,11 @@ listened rule tokens = heard (rule tokens) tokens
 abbrev joined : Outcome Fault Draft → Declarations → Option Declarations
 joined outcome made = if is_finished outcome then Some made else None
 
-whole-joined : (tokens : Tokens) (taken : ℕ) (point : Point) → whole point taken tokens ≡ joined (phrases phrase_at point taken tokens) (made_by phrase_at point taken tokens)
-whole-joined [] taken point = refl
-whole-joined (token ∷ tokens) (suc taken) point = whole-joined tokens taken point
-whole-joined (token ∷ tokens) zero point = by (phrase_at point token tokens) (λ after more. whole-joined tokens more after)
+whole-joined : (tokens : Tokens) (taken : ℕ) (point : Point)
+    → whole point taken tokens ≡ joined (phrases phrase_at point taken tokens) (made_by phrase_at point taken tokens)
+whole-joined [] _ _ = refl
+whole-joined (token ∷ tokens) (suc taken) _ = whole-joined tokens taken _
+whole-joined (token ∷ tokens) zero point = by _ (λ after more. whole-joined tokens more _)
   where
     by : (reading : Parsed Fault Follows) → ((after : Point) (more : ℕ) → whole after more tokens ≡ joined (phrases phrase_at after more tokens) (made_by phrase_at after more tokens))
         → (elim reading as (λ _. Option Declarations) [
@@ -71,7 +72,8 @@ pub finished-from_whole : (tokens : Tokens) (point : Point) (made : Declarations
     → (is_finished (phrases phrase_at point 0 tokens) ≡ true) × (made_by phrase_at point 0 tokens ≡ made)
 finished-from_whole = grind (arith, whole-joined)
 
-pub whole-from_finished : (tokens : Tokens) (point : Point) → is_finished (phrases phrase_at point 0 tokens) ≡ true → whole point 0 tokens ≡ Some (made_by phrase_at point 0 tokens)
+pub whole-from_finished : (tokens : Tokens) (point : Point)
+    → is_finished (phrases phrase_at point 0 tokens) ≡ true → whole point 0 tokens ≡ Some (made_by phrase_at point 0 tokens)
 whole-from_finished = grind (arith, whole-joined)
 
 -- ---- how rules listen
@@ -86,7 +88,8 @@ pub listened-ahead : (following : TerminalAt → PhraseRule Follows) (token : Te
     → listened (ahead >>= following) (token ∷ tokens) ≡ listened (following token) (token ∷ tokens)
 listened-ahead = grind arith
 
-pub listened-gives : {A : Type 0} (value : A) (following : A → PhraseRule Follows) (tokens : Tokens) → listened (gives value >>= following) tokens ≡ listened (following value) tokens
+pub listened-gives : {A : Type 0} (value : A) (following : A → PhraseRule Follows) (tokens : Tokens)
+    → listened (gives value >>= following) tokens ≡ listened (following value) tokens
 listened-gives value following tokens = grind arith
 
 -- a reading that took one token
@@ -97,6 +100,6 @@ pub listened-none : (reading : Parsed Fault Follows) (tokens : Tokens) → heard
 listened-none = heard-none_more
 
 -- a reading that took one token more
-pub heard-later : {A : Type 0} (reading : Parsed Fault A) (following : A → PhraseRule Follows) (token : TerminalAt) (tokens : Tokens)
-    → heard (and_then (after_taking 1 reading) following (token ∷ tokens)) (token ∷ tokens) ≡ heard (and_then reading following tokens) tokens
+pub heard-later : {A : Type 0} (reading : Parsed Fault A) (following : A → PhraseRule Follows) (token : TerminalAt) (tokens : Tokens) →
+    heard (and_then (after_taking 1 reading) following (token ∷ tokens)) (token ∷ tokens) ≡ heard (and_then reading following tokens) tokens
 heard-later reading following token tokens = grind arith

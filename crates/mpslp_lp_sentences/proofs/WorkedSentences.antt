@@ -7,13 +7,10 @@ use Prelude.{declare_lower, declare_upper, declare_integer, declare_binary, decl
 use Prelude.{Minus, AtMost, AtLeast, EqualTo, terminals, seen, lexical_fault, is_lp_text, declarations_of, Side, Term, Item, Row}
 use Prelude.{RowSection, File, side, term, a_term, a_constant, objective, row, row_between, no_rows, rows, bound, free_bound}
 use Prelude.{bounds_between, bounds, generals, binaries, semis, file, file_tokens, is_file, file_declares, Option}
-use Rattle.std.proofs.Common.{take}
-use Rattle.std.specs.Fmt.{digits}
-use Rattle.mpslp_decimal.{proofs.CutLemmas.{Each}, specs.Decimal.{Number, trailing_zeros}}
+use Rattle.std.{proofs.Common.take, specs.Fmt.digits}
+use Rattle.mpslp_decimal.{proofs.CutLemmas.Each, specs.Decimal.{Number, trailing_zeros}}
 use Rattle.mpslp_types.specs.declared.faults.BuildFault.TheVariants.{DuplicateRhs, DuplicateEntry, SemiContinuous}
-use Rattle.mpslp_lp_sentences.specs.Phrases.{Objective}
-use Rattle.mpslp_lp_sentences.specs.Sentence.{IsSentence}
-use Rattle.mpslp_lp_sentences.proofs.SentenceRead.{sentences-read}
+use Rattle.mpslp_lp_sentences.{specs.{Phrases.Objective, Sentence.IsSentence}, proofs.SentenceFound.sentences-read}
 use Rattle.mpslp_lp_tokens.specs.declared.words.SectionWord.TheVariants as words
 
 -- a text, how many of its lines are read, the phrases of these, and what they declare
@@ -25,15 +22,14 @@ Tests = Bool × Bool × List Terminal × Declarations × List BuildFault × Decl
 
 -- the first lines of the text are the file, which declares these, and the reader's definition says the same
 abbrev tests : Worked → Tests
-tests it =
-    let seen = take it.1 (lines it.0) in (
-      is_file it.2,
-      list_all (λ line. is_none (lexical_fault line)) seen,
-      flat_map terminals seen,
-      file_declares it.2,
-      refusals_in_turn empty_draft it.3,
-      declarations_of it.0,
-    )
+tests it = let seen = take it.1 (lines it.0) in (
+  is_file it.2,
+  list_all (λ line. is_none (lexical_fault line)) seen,
+  flat_map terminals seen,
+  file_declares it.2,
+  refusals_in_turn empty_draft it.3,
+  declarations_of it.0,
+)
 
 abbrev passing : Worked → Tests
 passing it = (true, true, file_tokens it.2, it.3, [], it.3)
@@ -43,19 +39,18 @@ IsWorked it = IsSentence it.0 it.3
 
 each_sentence : (its : List Worked) → map tests its ≡ map passing its → Each IsWorked its
 each_sentence [] e = tt
-each_sentence (it ∷ its) e =
-    let h : tests it ≡ passing it = cc in (
-      record {
-        whole = it.2;
-        right = ap (λ t. t.0) h;
-        count = it.1;
-        sound = ap (λ t. t.1) h;
-        tokens = ap (λ t. t.2) h;
-        declares = ap (λ t. t.3) h;
-        unrefused = ap (λ t. t.4) h;
-      },
-      each_sentence its cc,
-    )
+each_sentence (it ∷ its) e = let h : tests it ≡ passing it = cc in (
+  record {
+    whole = it.2;
+    right = ap (λ t. t.0) h;
+    count = it.1;
+    sound = ap (λ t. t.1) h;
+    tokens = ap (λ t. t.2) h;
+    declares = ap (λ t. t.3) h;
+    unrefused = ap (λ t. t.4) h;
+  },
+  each_sentence its cc,
+)
 
 -- ---- values
 
@@ -94,8 +89,7 @@ declared sense name more = declare_sense sense ∷ declare_objective (codes name
 
 -- `term` of a row or the objective
 abbrev put : String → String → Number → Declarations
-put owner name coefficient =
-    declare_column (codes name) ∷ declare_coefficient (record { row = codes owner; column = codes name }) coefficient ∷ []
+put owner name coefficient = declare_column (codes name) ∷ declare_coefficient (record { row = codes owner; column = codes name }) coefficient ∷ []
 
 abbrev limited : String → Limit → Limit → Declaration
 limited name lower upper = declare_row (codes name) (by_limits lower upper)
@@ -110,14 +104,12 @@ small = codes "\\ the same model\nMIN\nCOST: 2Y + X\ns.t.\nMYG: 1.5 Y => 1\nLIM1
 
 abbrev small_file : File
 small_file = file (min (Some (codes "COST")) (a_term (term [] (Some (units 2)) (codes "Y")) ∷ a_term (plus "X") ∷ []))
-    (st (row (Some (codes "MYG")) (term [] (Some (number (pos 15) (negsuc 0))) (codes "Y") ∷ []) AtLeast (value 1)
-    ∷ row (Some (codes "LIM1")) (first "X" ∷ []) AtMost (value 4) ∷ []))
-    []
+    (st (row (Some (codes "MYG")) (term [] (Some (number (pos 15) (negsuc 0))) (codes "Y") ∷ []) AtLeast
+    (value 1) ∷ row (Some (codes "LIM1")) (first "X" ∷ []) AtMost (value 4) ∷ [])) []
 
 abbrev small_declared : Declarations
-small_declared = declared Minimize "COST" (put "COST" "Y" (units 2) ++ (put "COST" "X" (units 1)
-    ++ limited "MYG" (finite 1) PlusInf ∷ (put "MYG" "Y" (number (pos 15) (negsuc 0))
-    ++ limited "LIM1" MinusInf (finite 4) ∷ put "LIM1" "X" (units 1))))
+small_declared = declared Minimize "COST" (put "COST" "Y" (units 2) ++ (put "COST" "X" (units 1) ++ limited "MYG"
+    (finite 1) PlusInf ∷ (put "MYG" "Y" (number (pos 15) (negsuc 0)) ++ limited "LIM1" MinusInf (finite 4) ∷ put "LIM1" "X" (units 1))))
 
 -- ---- the texts
 

@@ -16,9 +16,8 @@ holds_among is_such earlier (token ∷ more) = is_such earlier token || holds_am
 
 abbrev lines_among : (List Terminal → Terminal → Bool) → ℕ → List Terminal → List (List ℕ) → List ℕ
 lines_among is_such n earlier [] = []
-lines_among is_such n earlier (line ∷ more) =
-    if holds_among is_such earlier (terminals line) then n ∷ lines_among is_such (suc n) (reverse (terminals line) ++ earlier) more
-    else lines_among is_such (suc n) (reverse (terminals line) ++ earlier) more
+lines_among is_such n earlier (line ∷ more) = if holds_among is_such earlier (terminals line) then n ∷ lines_among is_such
+    (suc n) (reverse (terminals line) ++ earlier) more else lines_among is_such (suc n) (reverse (terminals line) ++ earlier) more
 
 -- the numbers of the lines that have a token for which a sentence holds
 abbrev lines_with : (List Terminal → Terminal → Bool) → List ℕ → List ℕ
@@ -62,34 +61,27 @@ with_bounds bounds = codes "min x\nst\nx >= 1 x <= 2 x >= 0\nbounds\n" ++ (codes
 
 -- the first error of each file is of this kind, and on the only line with such a token
 abbrev faulty_files : List (FaultKind × (List Terminal → Terminal → Bool) × List ℕ × ℕ)
-faulty_files =
-    (SectionRepeated, repeats_section, codes "min x\nst\nmax\n", 3) ∷
-    (SectionRepeated, repeats_section, codes "min x semi x\nsemis x\nend\n", 2) ∷
-    (SectionOrder, breaks_order, codes "min x\nbounds\nst\nend\n", 3) ∷
-    (SectionOrder, breaks_order, codes "end\n", 1) ∷
-    (SectionOrder, breaks_order, codes "min x\nend bounds\n", 2) ∷
-    (ConstantInRow, follows_constant, with_row "x + 3 <= 5", 3) ∷
-    (ConstantInRow, follows_constant, with_row "1 <= 3 >= x", 3) ∷
-    (ConstantInRow, follows_constant, with_row "c: 3 + x <= 5", 3) ∷
-    (ConstantInRow, follows_constant, with_row "- - 3 <= x", 3) ∷
-    (MixedSenses, mixes_senses, with_row "1 <= x - 2 y >= 0", 3) ∷
-    (MixedSenses, mixes_senses, with_row "3 = x = 4", 3) ∷
-    (MixedSenses, mixes_senses, codes "min x\nbounds\n1 <= x >= 0\n", 3) ∷
-    (DuplicateRhs, repeats_constant, codes "min 3 + 2 x - 4\nst\nx >= 1\nend\n", 2) ∷
-    (DuplicateBound, repeats_bound, with_bounds "x >= 1\nx =\n- 2\n", 7) ∷
-    (DuplicateBound, repeats_bound, with_bounds "x <= inf\n4 >=\nx\n", 7) ∷
-    (DuplicateBound, repeats_bound, with_bounds "-1 <= x <= 4\nx free\n", 6) ∷
-    (SemiContinuous, changes_kind, codes "min x\ngen\nx\nsemi\ny\nx\nend\n", 6) ∷
-    (SemiContinuous, changes_kind, codes "min x\nsemis x\nbin\nx\nend\n", 4) ∷
-    (SemiContinuous, changes_kind, codes "min x\ngen continuous\nsemi continuous\nend\n", 3) ∷
-    (DuplicateRow, repeats_row, codes "min x\nst\na: x <= 1 a: 2 <= y\n<= - 3\nend\n", 4) ∷
-    (DuplicateRow, repeats_row, codes "min x\nst x <= 1 b: x <= 2\n- x >= -inf\nc3: x <= 4\nend\n", 4) ∷
-    (DuplicateRow, repeats_row, codes "min x\nst\nc2: x <= 1\n1 <= x\n<= 4\nend\n", 5) ∷
-    (DuplicateRow, repeats_row, codes "min cost: x\nsuch that\ncost: x <= 1\nend\n", 3) ∷
-    (DuplicateRow, repeats_row, codes "min x\nst\nobj: x <= 1\nend\n", 3) ∷
-    (DuplicateEntry, repeats_entry, codes "min x + 2 y\n- - 3\nx\nend\n", 3) ∷
-    (DuplicateEntry, repeats_entry, with_row "c: 1 <= 2 x + to - x <= 4", 3) ∷
-    []
+faulty_files = (SectionRepeated, repeats_section, codes "min x\nst\nmax\n", 3)
+    ∷ (SectionRepeated, repeats_section, codes "min x semi x\nsemis x\nend\n", 2)
+    ∷ (SectionOrder, breaks_order, codes "min x\nbounds\nst\nend\n", 3) ∷ (SectionOrder, breaks_order, codes "end\n", 1)
+    ∷ (SectionOrder, breaks_order, codes "min x\nend bounds\n", 2) ∷ (ConstantInRow, follows_constant, with_row "x + 3 <= 5", 3)
+    ∷ (ConstantInRow, follows_constant, with_row "1 <= 3 >= x", 3) ∷ (ConstantInRow, follows_constant, with_row "c: 3 + x <= 5", 3)
+    ∷ (ConstantInRow, follows_constant, with_row "- - 3 <= x", 3) ∷ (MixedSenses, mixes_senses, with_row "1 <= x - 2 y >= 0", 3)
+    ∷ (MixedSenses, mixes_senses, with_row "3 = x = 4", 3) ∷ (MixedSenses, mixes_senses, codes "min x\nbounds\n1 <= x >= 0\n", 3)
+    ∷ (DuplicateRhs, repeats_constant, codes "min 3 + 2 x - 4\nst\nx >= 1\nend\n", 2)
+    ∷ (DuplicateBound, repeats_bound, with_bounds "x >= 1\nx =\n- 2\n", 7)
+    ∷ (DuplicateBound, repeats_bound, with_bounds "x <= inf\n4 >=\nx\n", 7)
+    ∷ (DuplicateBound, repeats_bound, with_bounds "-1 <= x <= 4\nx free\n", 6)
+    ∷ (SemiContinuous, changes_kind, codes "min x\ngen\nx\nsemi\ny\nx\nend\n", 6)
+    ∷ (SemiContinuous, changes_kind, codes "min x\nsemis x\nbin\nx\nend\n", 4)
+    ∷ (SemiContinuous, changes_kind, codes "min x\ngen continuous\nsemi continuous\nend\n", 3)
+    ∷ (DuplicateRow, repeats_row, codes "min x\nst\na: x <= 1 a: 2 <= y\n<= - 3\nend\n", 4)
+    ∷ (DuplicateRow, repeats_row, codes "min x\nst x <= 1 b: x <= 2\n- x >= -inf\nc3: x <= 4\nend\n", 4)
+    ∷ (DuplicateRow, repeats_row, codes "min x\nst\nc2: x <= 1\n1 <= x\n<= 4\nend\n", 5)
+    ∷ (DuplicateRow, repeats_row, codes "min cost: x\nsuch that\ncost: x <= 1\nend\n", 3)
+    ∷ (DuplicateRow, repeats_row, codes "min x\nst\nobj: x <= 1\nend\n", 3)
+    ∷ (DuplicateEntry, repeats_entry, codes "min x + 2 y\n- - 3\nx\nend\n", 3)
+    ∷ (DuplicateEntry, repeats_entry, with_row "c: 1 <= 2 x + to - x <= 4", 3) ∷ []
 
 pub faulty_files-right : map {B = Option Fault × List ℕ} (λ row. (first_lp_fault row.2, lines_with row.1 row.2)) faulty_files
     ≡ map {B = Option Fault × List ℕ} (λ row. (Some (fault_on_line row.3 row.0), row.3 ∷ [])) faulty_files
@@ -123,7 +115,6 @@ right_files =
     (repeats_entry, codes "max x: x + y\nbounds x <= 4 x >= 1\ngen x bin x\nend\n") ∷
     []
 
-pub right_files-right : map {B = Bool × List ℕ} (λ row. (is_lp_text row.1, lines_with row.0 row.1)) right_files
-    ≡ map {B = Bool × List ℕ} (λ row. (true, [])) right_files
+pub right_files-right : map {B = Bool × List ℕ} (λ row. (is_lp_text row.1, lines_with row.0 row.1)) right_files ≡ map {B = Bool × List ℕ} (λ row. (true, [])) right_files
 unfolding digits trailing_zeros
 right_files-right = refl

@@ -1,4 +1,4 @@
-use Rattle.mpslp_canonical_lp.proofs.CanonicalDeclares.{declared-fits}
+use Rattle.mpslp_canonical_lp.proofs.LpFormat.{declared-fits}
 use Rattle.mpslp_canonical_lp.proofs.laws.declared_models_fit.Goals as goal
 
 pub returns : goal.returns

@@ -1,22 +1,16 @@
 use Rattle.mpslp_lp.proofs.Prelude
-use Prelude.{sym, subst, None, Ok, InBounds, SideOfBound, State, Between, TakesSome}
+use Prelude.{sym, subst, None, Ok, InBounds, SideOfBound, TakesSome}
 use Rattle.mpslp_lp.proofs.PlainPhrases.{phrase-goes, phrase-refused, right-last}
 use Rattle.mpslp_lp.proofs.plain_bounds.take_right_side.Goals as goal
 
 pub returns-in-Ok : goal.returns-in-Ok
-returns-in-Ok c = λ start found goes begins.
-    let context = c.args.context.now in
-    let after = c.declare_bound.new.context in
-    let right = c.args.right.now in
-    let sided = SideOfBound c.args.is_new c.args.column.now right.relation in
-    subst (λ (next : State). TakesSome context start found (Ok c.args.left) after next) (sym c.set_state.ensures)
-    (phrase-goes context start found c.args.left _ (right-last context start sided found c.args.left right.relation right.limit goes begins) after (Between (InBounds None))
-    (λ terminal unopened. c.in-Ok.ensures terminal (InBounds None) unopened))
+returns-in-Ok c = λ start found goes begins. let context = c.args.context.now in let after = c.declare_bound.new.context in
+    let right = c.args.right.now in let sided = SideOfBound c.args.is_new c.args.column.now right.relation in
+    subst (λ next. TakesSome context start found (Ok c.args.left) after next) (sym c.set_state.ensures)
+    (phrase-goes _ _ _ _ _ (right-last _ _ _ _ _ _ _ goes begins) _ _ (λ terminal unopened. c.in-Ok.ensures terminal _ unopened))
 
 pub returns-in-Err : goal.returns-in-Err
-returns-in-Err c = λ start found goes begins.
-    let context = c.args.context.now in
-    let right = c.args.right.now in
-    let sided = SideOfBound c.args.is_new c.args.column.now right.relation in
-    phrase-refused context start found c.args.left _ (right-last context start sided found c.args.left right.relation right.limit goes begins) c.declare_bound.new.context c.args.state.now
-    c.in-Err.error c.error_before.result (λ terminal unopened. c.in-Err.ensures terminal (InBounds None) unopened) c.error_before.ensures
+returns-in-Err c = λ start found goes begins. let context = c.args.context.now in
+    let right = c.args.right.now in let sided = SideOfBound c.args.is_new c.args.column.now right.relation in
+    phrase-refused context start found c.args.left _ (right-last _ _ _ _ _ _ _ goes begins) c.declare_bound.new.context c.args.state.now _ _
+    (λ terminal unopened. c.in-Err.ensures terminal (InBounds None) unopened) c.error_before.ensures

@@ -1,24 +1,16 @@
 use Rattle.mpslp_lp.proofs.Prelude
-use Prelude.{◌≡◌, sym, subst, refl, List, inl, inr, Token, default_row, terminal_of_token, terminal_with_text, take, TerminalKind}
-use Prelude.{BetweenRows, Between, RowLabel, Begins}
+use Prelude.{◌≡◌, sym, subst, refl, inl, inr, default_row, terminal_of_token, terminal_with_text, take, TerminalKind, BetweenRows, Between}
+use Prelude.{RowLabel, Begins}
 use Rattle.mpslp_lp.proofs.plain_row_starts.take_row_start.Goals as goal
 
 pub returns-in-Name : goal.returns-in-Name
-returns-in-Name c =
-    let first = c.in-Some.first in
-    let rest = c.next_terminal.new.tokens in
-    c.take_after_name.ensures
-    (subst (λ (kind : TerminalKind). Begins c.args.tokens (terminal_with_text kind first.text.now) rest) c.in-Name.is
-    (subst (λ (found : List Token). Begins found (terminal_of_token first) rest) c.again-left.ensures c.in-Some.ensures.next))
+returns-in-Name c = let first = c.in-Some.first in let rest = c.next_terminal.new.tokens in
+    c.take_after_name.ensures (subst (λ kind. Begins c.args.tokens (terminal_with_text kind first.text.now) rest) c.in-Name.is
+    (subst (λ found. Begins found (terminal_of_token first) rest) c.again-left.ensures c.in-Some.ensures.next))
 
 pub returns-in-Sign : goal.returns-in-Sign
-returns-in-Sign c =
-    let context = c.args.context.now in
-    let first = c.in-Some.first in
-    let SameAt = λ (kind : TerminalKind). take context (Between BetweenRows) (terminal_with_text kind first.text.now) ≡ take context (RowLabel (default_row context)) (terminal_with_text kind first.text.now) in
-    c.take_unlabelled_term.ensures
-    (elim c.in-Sign.is as (λ _. SameAt first.kind) [
-      | inl sign ↦ subst SameAt (sym sign.1) refl
-      | inr number ↦ subst SameAt (sym number.1) refl
-    ])
-    (subst (λ (found : List Token). Begins found (terminal_of_token first) c.next_terminal.new.tokens) c.again-left.ensures c.in-Some.ensures.next)
+returns-in-Sign c = let context = c.args.context.now in let first = c.in-Some.first in
+    let SameAt = λ (kind : TerminalKind). take context (Between BetweenRows) (terminal_with_text kind first.text.now) ≡ take context
+    (RowLabel (default_row context)) (terminal_with_text kind first.text.now) in c.take_unlabelled_term.ensures (elim c.in-Sign.is as (λ _.
+    SameAt first.kind) [ inl sign ↦ subst SameAt (sym sign.1) refl | inr number ↦ subst SameAt (sym number.1) refl ])
+    (subst (λ found. Begins found (terminal_of_token first) c.next_terminal.new.tokens) c.again-left.ensures c.in-Some.ensures.next)

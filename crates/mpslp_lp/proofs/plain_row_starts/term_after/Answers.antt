@@ -8,6 +8,6 @@ returns-in-Some-unsigned_from-clause-term c = λ found sign. record {
   size = c.in-Some-unsigned_from.term.value;
   after_sign = c.args.tokens.now;
   signed = inl sign;
-  term = c.in-Some-unsigned_from.ensures.term c.args.tokens.now c.in-Some.ensures.next;
+  term = c.in-Some-unsigned_from.ensures.term _ c.in-Some.ensures.next;
   gives = c.of.ensures;
 }

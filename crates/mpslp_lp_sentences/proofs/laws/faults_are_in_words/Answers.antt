@@ -1,5 +1,5 @@
-use Rattle.mpslp_lp_sentences.proofs.{SectionFaults.{section-repeated, section-order}, RowShapes.{mixed-senses, constant-in_row}}
-use Rattle.mpslp_lp_sentences.proofs.{RowNameFaults.{duplicate-row}, EntryFaults.{duplicate-entry}}
+use Rattle.mpslp_lp_sentences.proofs.SectionFaults.{section-repeated, section-order}
+use Rattle.mpslp_lp_sentences.proofs.{RowShapes.{mixed-senses, constant-in_row}, RowNames.duplicate-row, EntryFaults.duplicate-entry}
 use Rattle.mpslp_lp_sentences.proofs.DraftFaults.{duplicate-rhs, duplicate-bound, semi-continuous}
 use Rattle.mpslp_lp_sentences.proofs.laws.faults_are_in_words.Goals as goal
 

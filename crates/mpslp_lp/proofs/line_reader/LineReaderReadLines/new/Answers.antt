@@ -1,7 +1,7 @@
 use Rattle.mpslp_lp.proofs.Prelude
-use Prelude.{sym, subst, [], LedTo, Context, Between, AtStart}
+use Prelude.{sym, subst, [], LedTo, Between, AtStart}
 use Rattle.mpslp_lp.proofs.LineReaderLemmas.{led-none}
 use Rattle.mpslp_lp.proofs.line_reader.LineReaderReadLines.new.Goals as goal
 
 pub returns : goal.returns
-returns c = subst (λ (b : Context). LedTo [] b (Between AtStart) 1) (sym c.start.ensures) led-none
+returns c = subst (λ b. LedTo [] b (Between AtStart) 1) (sym c.start.ensures) led-none
