@@ -1,4 +1,4 @@
--- Drafts that a builder can hold: what calls answer, which drafts they make, and what a draft means at the end.
+-- Drafts that a builder can hold: what calls return, which drafts they make, and what a draft means at the end.
 use Rattle.mpslp_builder.proofs.Prelude
 use Prelude.{arith, rules, ◌≡◌, refl, sym, ap, subst, ◌∙◌, ℕ, List, [], ◌∷◌, ◌++◌, Bool, true, false, not, ◌&&◌, ◌||◌, Option, None}
 use Prelude.{is_some, list_all, option_map_or, append-nil, append_assoc, list_all-append, Number, LinearModel, RowDefinition, Declaration}

@@ -1,4 +1,4 @@
--- One line: its first error as it is read, in particular that of a line of COLUMNS.
+-- One line: its first error when it is read, in particular that of a line of COLUMNS.
 use Rattle.mpslp_mps.proofs.Prelude
 use Prelude.{arith, ◌≡◌, refl, ℕ, List, [], ◌∷◌, Bool, true, false, cond, not, is_some, Option, Some, None, Draft, Fields, LineContent}
 use Prelude.{word_shape, row_shape, column_shape, is_marker_line, marker_shape, vector_shape, bound_type, BoundType, Section, Name}
