@@ -341,10 +341,10 @@ fn packs_decimals(rt: HostRuntime) -> Result<(), Fail> {
 
 #[test]
 fn laws_can_be_called() {
-    laws::one_form();
+    laws::one_form_of_a_decimal();
     laws::literals_are_read_by_value();
-    laws::text_is_read_back();
-    laws::one_text();
-    laws::order_is_by_value();
-    laws::sums_are_exact();
+    laws::decimal_text_is_read_back();
+    laws::one_text_of_a_decimal();
+    laws::decimal_order_is_by_value();
+    laws::decimal_sums_are_exact();
 }

@@ -125,5 +125,5 @@ row_back (Finite a) (Finite b) h w = by _ refl
     by : (t : Bool) → have_same_value a b ≡ t → limits_of (by_type (cond t Equal AtLeast)) a (cond t None (difference_of b a))
         ≡ Some (record { lower = Finite a; upper = Finite b })
     by true e = same_values a b e good_a (same_decimal a b dec_a dec_b e)
-    by false e = apart_values a b (difference_of b a) refl w dec_a dec_b (λ d is. difference_size a b d (second_so (is_bounded_decimal b) _ rest) is)
+    by false e = apart_values a b _ refl w dec_a dec_b (λ d is. difference_size a b d (second_so (is_bounded_decimal b) _ rest) is)
 row_back _ _ h w = cc

@@ -51,7 +51,7 @@ good-with_declaration : (all draft : Draft) (d : Declaration) → IsGood all dra
 good-with_declaration all b (declare_row name definition) g legal known allowed = record {
   objective = g.objective;
   constant = g.constant;
-  rows = put_names _ name _ b.rows
+  rows = put_names _ _ _ b.rows
       (both_so _ _ (first_so _ _ legal)
       (both_so _ _ (second_so _ _ legal) allowed)) g.rows;
   rhs_values = g.rhs_values;
@@ -59,7 +59,7 @@ good-with_declaration all b (declare_row name definition) g legal known allowed 
   coefficients = g.coefficients;
   lowers = g.lowers;
   uppers = g.uppers;
-  rows_sorted = is_sorted-put _ nat_list_cmp_total name _ b.rows g.rows_sorted;
+  rows_sorted = is_sorted-put _ nat_list_cmp_total _ _ b.rows g.rows_sorted;
   columns_sorted = g.columns_sorted;
   coefficients_sorted = g.coefficients_sorted;
 }
@@ -168,42 +168,46 @@ puts-all : {K X : Type 0} (R : K → K → Ordering) (part : Declaration → Lis
     → ((all : Draft) (d : Declaration) → entries (with_declaration all d) ≡ puts R (part d) (entries all))
     → (ds : Declarations) (all : Draft) → entries (with_declarations all ds) ≡ puts R (flat_map part ds) (entries all)
 puts-all R part entries one [] all = refl
-puts-all R part entries one (d ∷ ds) all = puts-all R part entries one ds (with_declaration all d)
-    ∙ ap (puts R (flat_map part ds)) (one all d) ∙ sym (puts-append R (part d) (flat_map part ds) (entries all))
+puts-all R part entries one (d ∷ ds) all =
+    puts-all R _ _ one ds _ ∙ ap (puts R (flat_map part ds)) (one all d) ∙ sym (puts-append R (part d) (flat_map part ds) (entries all))
 
 pub rows-all : (ds : Declarations) (all : Draft) → (with_declarations all ds).rows ≡ puts bytes_cmp (flat_map row_part ds) all.rows
-rows-all = puts-all bytes_cmp row_part (λ all. all.rows) (λ all d. grind arith)
+rows-all = puts-all _ _ (λ all. all.rows) (λ all d. grind arith)
 
-pub rhs_values-all : (ds : Declarations) (all : Draft) → (with_declarations all ds).rhs_values ≡ puts bytes_cmp (flat_map rhs_part ds) all.rhs_values
-rhs_values-all = puts-all bytes_cmp rhs_part (λ all. all.rhs_values) (λ all d. grind arith)
+pub rhs_values-all : (ds : Declarations) (all : Draft)
+    → (with_declarations all ds).rhs_values ≡ puts bytes_cmp (flat_map rhs_part ds) all.rhs_values
+rhs_values-all = puts-all _ _ (λ all. all.rhs_values) (λ all d. grind arith)
 
 pub ranges-all : (ds : Declarations) (all : Draft) → (with_declarations all ds).ranges ≡ puts bytes_cmp (flat_map range_part ds) all.ranges
-ranges-all = puts-all bytes_cmp range_part (λ all. all.ranges) (λ all d. grind arith)
+ranges-all = puts-all _ _ (λ all. all.ranges) (λ all d. grind arith)
 
-pub columns-all : (ds : Declarations) (all : Draft) → (with_declarations all ds).columns ≡ puts bytes_cmp (flat_map column_part ds) all.columns
-columns-all = puts-all bytes_cmp column_part (λ all. all.columns) (λ all d. grind arith)
+pub columns-all : (ds : Declarations) (all : Draft)
+    → (with_declarations all ds).columns ≡ puts bytes_cmp (flat_map column_part ds) all.columns
+columns-all = puts-all _ _ (λ all. all.columns) (λ all d. grind arith)
 
 pub coefficients-all : (ds : Declarations) (all : Draft)
     → (with_declarations all ds).coefficients ≡ puts key_cmp (flat_map coefficient_part ds) all.coefficients
-coefficients-all = puts-all key_cmp coefficient_part (λ all. all.coefficients) (λ all d. grind arith)
+coefficients-all = puts-all _ _ (λ all. all.coefficients) (λ all d. grind arith)
 
 pub lowers-all : (ds : Declarations) (all : Draft) → (with_declarations all ds).lowers ≡ puts bytes_cmp (flat_map lower_part ds) all.lowers
-lowers-all = puts-all bytes_cmp lower_part (λ all. all.lowers) (λ all d. grind arith)
+lowers-all = puts-all _ _ (λ all. all.lowers) (λ all d. grind arith)
 
 pub uppers-all : (ds : Declarations) (all : Draft) → (with_declarations all ds).uppers ≡ puts bytes_cmp (flat_map upper_part ds) all.uppers
-uppers-all = puts-all bytes_cmp upper_part (λ all. all.uppers) (λ all d. grind arith)
+uppers-all = puts-all _ _ (λ all. all.uppers) (λ all d. grind arith)
 
 pub marked-all : (ds : Declarations) (all : Draft) → (with_declarations all ds).marked ≡ puts bytes_cmp (flat_map marked_part ds) all.marked
-marked-all = puts-all bytes_cmp marked_part (λ all. all.marked) (λ all d. grind arith)
+marked-all = puts-all _ _ (λ all. all.marked) (λ all d. grind arith)
 
-pub integers-all : (ds : Declarations) (all : Draft) → (with_declarations all ds).integers ≡ puts bytes_cmp (flat_map integer_part ds) all.integers
-integers-all = puts-all bytes_cmp integer_part (λ all. all.integers) (λ all d. grind arith)
+pub integers-all : (ds : Declarations) (all : Draft)
+    → (with_declarations all ds).integers ≡ puts bytes_cmp (flat_map integer_part ds) all.integers
+integers-all = puts-all _ _ (λ all. all.integers) (λ all d. grind arith)
 
-pub binaries-all : (ds : Declarations) (all : Draft) → (with_declarations all ds).binaries ≡ puts bytes_cmp (flat_map binary_part ds) all.binaries
-binaries-all = puts-all bytes_cmp binary_part (λ all. all.binaries) (λ all d. grind arith)
+pub binaries-all : (ds : Declarations) (all : Draft)
+    → (with_declarations all ds).binaries ≡ puts bytes_cmp (flat_map binary_part ds) all.binaries
+binaries-all = puts-all _ _ (λ all. all.binaries) (λ all d. grind arith)
 
 pub semis-all : (ds : Declarations) (all : Draft) → (with_declarations all ds).semis ≡ puts bytes_cmp (flat_map semi_part ds) all.semis
-semis-all = puts-all bytes_cmp semi_part (λ all. all.semis) (λ all d. grind arith)
+semis-all = puts-all _ _ (λ all. all.semis) (λ all d. grind arith)
 
 -- ---- each map of a draft holds its entries in the order of their keys
 
@@ -227,32 +231,32 @@ empty_sorted = grind arith
 
 pub sorted-with_declarations : (ds : Declarations) (all : Draft) → IsSortedDraft all → IsSortedDraft (with_declarations all ds)
 sorted-with_declarations ds all s = record {
-  rows = subst (λ (es : List (List ℕ × RowDefinition)). T (is_sorted bytes_cmp es)) (sym (rows-all ds all))
+  rows = subst (λ es. T (is_sorted bytes_cmp es)) (sym (rows-all ds all))
       (is_sorted-puts bytes_cmp bytes_total tied_names (flat_map row_part ds) all.rows s.rows);
-  rhs_values = subst (λ (es : List (List ℕ × Number)). T (is_sorted bytes_cmp es)) (sym (rhs_values-all ds all))
+  rhs_values = subst (λ es. T (is_sorted bytes_cmp es)) (sym (rhs_values-all ds all))
       (is_sorted-puts bytes_cmp bytes_total tied_names (flat_map rhs_part ds) all.rhs_values s.rhs_values);
-  ranges = subst (λ (es : List (List ℕ × Number)). T (is_sorted bytes_cmp es)) (sym (ranges-all ds all))
+  ranges = subst (λ es. T (is_sorted bytes_cmp es)) (sym (ranges-all ds all))
       (is_sorted-puts bytes_cmp bytes_total tied_names (flat_map range_part ds) all.ranges s.ranges);
-  columns = subst (λ (es : List (List ℕ × Unit {0})). T (is_sorted bytes_cmp es)) (sym (columns-all ds all))
+  columns = subst (λ es. T (is_sorted bytes_cmp es)) (sym (columns-all ds all))
       (is_sorted-puts bytes_cmp bytes_total tied_names (flat_map column_part ds) all.columns s.columns);
-  coefficients = subst (λ (es : List (CoefficientKey × Number)). T (is_sorted key_cmp es)) (sym (coefficients-all ds all))
+  coefficients = subst (λ es. T (is_sorted key_cmp es)) (sym (coefficients-all ds all))
       (is_sorted-puts key_cmp key_total_sorted same_key (flat_map coefficient_part ds) all.coefficients s.coefficients);
-  lowers = subst (λ (es : List (List ℕ × Limit)). T (is_sorted bytes_cmp es)) (sym (lowers-all ds all))
+  lowers = subst (λ es. T (is_sorted bytes_cmp es)) (sym (lowers-all ds all))
       (is_sorted-puts bytes_cmp bytes_total tied_names (flat_map lower_part ds) all.lowers s.lowers);
-  uppers = subst (λ (es : List (List ℕ × Limit)). T (is_sorted bytes_cmp es)) (sym (uppers-all ds all))
+  uppers = subst (λ es. T (is_sorted bytes_cmp es)) (sym (uppers-all ds all))
       (is_sorted-puts bytes_cmp bytes_total tied_names (flat_map upper_part ds) all.uppers s.uppers);
-  marked = subst (λ (es : List (List ℕ × Unit {0})). T (is_sorted bytes_cmp es)) (sym (marked-all ds all))
+  marked = subst (λ es. T (is_sorted bytes_cmp es)) (sym (marked-all ds all))
       (is_sorted-puts bytes_cmp bytes_total tied_names (flat_map marked_part ds) all.marked s.marked);
-  integers = subst (λ (es : List (List ℕ × Unit {0})). T (is_sorted bytes_cmp es)) (sym (integers-all ds all))
+  integers = subst (λ es. T (is_sorted bytes_cmp es)) (sym (integers-all ds all))
       (is_sorted-puts bytes_cmp bytes_total tied_names (flat_map integer_part ds) all.integers s.integers);
-  binaries = subst (λ (es : List (List ℕ × Unit {0})). T (is_sorted bytes_cmp es)) (sym (binaries-all ds all))
+  binaries = subst (λ es. T (is_sorted bytes_cmp es)) (sym (binaries-all ds all))
       (is_sorted-puts bytes_cmp bytes_total tied_names (flat_map binary_part ds) all.binaries s.binaries);
-  semis = subst (λ (es : List (List ℕ × Unit {0})). T (is_sorted bytes_cmp es)) (sym (semis-all ds all))
+  semis = subst (λ es. T (is_sorted bytes_cmp es)) (sym (semis-all ds all))
       (is_sorted-puts bytes_cmp bytes_total tied_names (flat_map semi_part ds) all.semis s.semis);
 }
 
 pub sorted-draft_of : (ds : Declarations) → IsSortedDraft (draft_of ds)
-sorted-draft_of ds = sorted-with_declarations ds empty_draft empty_sorted
+sorted-draft_of ds = sorted-with_declarations ds _ _
 
 pub sorted-from_made : (all : Draft) → IsMade all → IsSortedDraft all
 sorted-from_made all made = subst IsSortedDraft (sym made.draft) (sorted-draft_of made.declarations)
@@ -263,8 +267,8 @@ pub row_named : (row : List ℕ × Row) → is_sound_row row ≡ true → is_mps
 row_named = grind arith
 
 pub row_sides : (row : List ℕ × Row) → is_sound_row row ≡ true → are_sides row.1.lower row.1.upper ≡ true
-row_sides row h = first_so (are_sides row.1.lower row.1.upper) (has_bounded_distance row.1.lower row.1.upper)
-    (second_so (is_mps_name row.0) (are_sides row.1.lower row.1.upper && has_bounded_distance row.1.lower row.1.upper) h)
+row_sides row h =
+    first_so _ _ (second_so (is_mps_name row.0) (are_sides row.1.lower row.1.upper && has_bounded_distance row.1.lower row.1.upper) h)
 
 pub row_distance : (row : List ℕ × Row) → is_sound_row row ≡ true → has_bounded_distance row.1.lower row.1.upper ≡ true
 row_distance row h = grind arith
@@ -273,12 +277,12 @@ pub column_named : (column : List ℕ × Column) → is_sound_column column ≡ 
 column_named = grind arith
 
 pub column_sides : (column : List ℕ × Column) → is_sound_column column ≡ true → are_sides column.1.lower column.1.upper ≡ true
-column_sides column h = first_so (are_sides column.1.lower column.1.upper) (suits column.1.kind column.1.lower column.1.upper)
-    (second_so (is_mps_name column.0) (are_sides column.1.lower column.1.upper && suits column.1.kind column.1.lower column.1.upper) h)
+column_sides column h = first_so _ _ (second_so (is_mps_name column.0) (are_sides column.1.lower column.1.upper && suits column.1.kind
+    column.1.lower column.1.upper) h)
 
 pub column_suited : (column : List ℕ × Column) → is_sound_column column ≡ true → suits column.1.kind column.1.lower column.1.upper ≡ true
-column_suited column h = second_so (are_sides column.1.lower column.1.upper) (suits column.1.kind column.1.lower column.1.upper)
-    (second_so (is_mps_name column.0) (are_sides column.1.lower column.1.upper && suits column.1.kind column.1.lower column.1.upper) h)
+column_suited column h = second_so _ _ (second_so (is_mps_name column.0) (are_sides column.1.lower column.1.upper && suits column.1.kind
+    column.1.lower column.1.upper) h)
 
 pub lower_of : (l u : Limit) → are_sides l u ≡ true → is_lower_side l ≡ true
 lower_of = grind arith
@@ -306,6 +310,7 @@ no_truth e = cc
 pub differs : (x y : List ℕ) → is_lt (bytes_cmp x y) ≡ true → same_bytes y x ≡ false
 differs = grind (arith, no_truth, same_name, bytes_total)
 
-pub later_differ : {X : Type 0} (x : List ℕ) (es : List (List ℕ × X)) → below_all bytes_cmp x es ≡ true → Each (λ e. same_bytes e.0 x ≡ false) es
+pub later_differ : {X : Type 0} (x : List ℕ) (es : List (List ℕ × X)) → below_all bytes_cmp x es ≡ true
+    → Each (λ e. same_bytes e.0 x ≡ false) es
 later_differ x [] h = tt
 later_differ x (e ∷ es) h = (differs x e.0 (first_so (is_lt (bytes_cmp x e.0)) (below_all bytes_cmp x es) h), later_differ x es (second_so (is_lt (bytes_cmp x e.0)) (below_all bytes_cmp x es) h))

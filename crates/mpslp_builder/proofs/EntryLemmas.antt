@@ -54,7 +54,8 @@ module _ {K X : Type 0} (R : K → K → Ordering) where
     none-tied q x es tie below = ap (λ (k : K). find R k es) (same q x (equal_from (R q x) tie)) ∙ none-later x es below
 
     -- what is found after sorted entries are put
-    pub find-puts : (q : K) (es base : List (K × X)) → is_sorted R es ≡ true → find R q (puts R es base) ≡ first_there (find R q es) (find R q base)
+    pub find-puts : (q : K) (es base : List (K × X)) → is_sorted R es ≡ true
+        → find R q (puts R es base) ≡ first_there (find R q es) (find R q base)
     find-puts q [] base h = refl
     find-puts q (e ∷ es) base h = find-puts q es (put R e.0 e.1 base) (second_so (below_all R e.0 es) (is_sorted R es) h)
         ∙ ap (first_there (find R q es)) (find-put R o q e.0 e.1 base) ∙ by (eq_by_cmp R q e.0) refl
@@ -253,7 +254,8 @@ module _ {K X Y : Type 0} (R : K → K → Ordering) (o : IsTotalOrder R) (same 
 
   -- Entries of the elements that pass, and then of the others, give all elements' entries in order.
   pub parted-give : (p : Y → Bool) (xs : List Y) → T (is_sorted R (map entry xs)) → Each (λ x. is_some (find R (entry x).0 (f x)) ≡ true) xs
-      → Each (λ x. Each (λ e. e ≡ entry x) (f x)) xs → puts R (flat_map f (filter p xs) ++ flat_map f (filter (λ x. not (p x)) xs)) [] ≡ map entry xs
+      → Each (λ x. Each (λ e. e ≡ entry x) (f x)) xs
+      → puts R (flat_map f (filter p xs) ++ flat_map f (filter (λ x. not (p x)) xs)) [] ≡ map entry xs
   parted-give p xs sorted some own = let target = map entry xs in
       let finds : Each (λ x. find R _ _ ≡ Some _) xs = Each-unmap _ xs (finds_own R o same _ sorted) in
       let right : Each (λ x. Each _ _) xs = Each-both _ _ _ (λ x is each. Each-weaker _ _ (λ e same_entry. subst
@@ -342,7 +344,8 @@ module _ {K : Type 0} (R : K → K → Ordering) (o : IsTotalOrder R) where
 
   module _ {X : Type 0} where
     -- the entries after one that has the key do not have it
-    above_kept : (k x : K) (es : List (K × X)) → is_eq (R k x) ≡ true → below_all R x es ≡ true → filter (λ e. not (is_eq (R k e.0))) es ≡ es
+    above_kept : (k x : K) (es : List (K × X)) → is_eq (R k x) ≡ true → below_all R x es ≡ true
+        → filter (λ e. not (is_eq (R k e.0))) es ≡ es
     above_kept k x [] tie above = refl
     above_kept k x (e ∷ es) tie above = let here = o.congr k x e.0 (equal_from _ tie) ∙ less_from _ (first_so (is_lt _) _ above) in
         ap (λ r. cond (not (is_eq r)) (e ∷ filter (λ y. not (is_eq (R k y.0))) es) (filter (λ y. not (is_eq (R k y.0))) es)) here
@@ -381,7 +384,7 @@ module _ {X : Type 0} where
   columns_rise (e ∷ es) zero (suc j) d sorted le in' = grind (arith, below_columns, arith)
   columns_rise (e ∷ es) (suc i) zero d sorted le in' = absurd (omega arith)
   columns_rise (e ∷ es) (suc i) (suc j) d sorted le in' = grind
-      (arith, arith, columns_rise es i j d (second_so (below_all key_cmp e.0 es) (is_sorted key_cmp es) sorted) (omega arith) (omega arith))
+      (arith, columns_rise es i j d (second_so (below_all key_cmp e.0 es) (is_sorted key_cmp es) sorted) (omega arith) (omega arith))
 
   abbrev pub elements : List ℕ → List ℕ → List (CoefficientKey × X) → List (CoefficientKey × X)
   elements objective column es = filter (λ e. not (same_bytes objective e.0.row) && same_bytes column e.0.column) es
@@ -400,7 +403,8 @@ any-name q [] = refl
 any-name q (e ∷ es) = grind (arith, any-name q es)
 
 -- an entry that is found is in the list
-pub found-any : {X : Type 0} (q : List ℕ) (x : X) (es : List (List ℕ × X)) → at_name es q ≡ Some x → list_any (λ e. same_bytes q e.0) es ≡ true
+pub found-any : {X : Type 0} (q : List ℕ) (x : X) (es : List (List ℕ × X)) → at_name es q ≡ Some x
+    → list_any (λ e. same_bytes q e.0) es ≡ true
 found-any {X} q x [] is = grind (arith)
 found-any {X} q x (e ∷ es) is = by (eq_by_cmp bytes_cmp q e.0) refl is (λ more. found-any q x es more)
   where
@@ -426,7 +430,8 @@ at-mapped {X} {Y} g q (e ∷ es) = grind (arith, then_stated, at-mapped g q es)
 
 -- ---- the model
 
-from_sorted-back : {K X : Type 0} {R : K → K → Ordering} (m : FinMap R X) (es : List (K × X)) → es ≡ maps.entries m → m ≡ maps.from_sorted es
+from_sorted-back : {K X : Type 0} {R : K → K → Ordering} (m : FinMap R X) (es : List (K × X)) → es ≡ maps.entries m
+    → m ≡ maps.from_sorted es
 from_sorted-back {K} {X} {R} m es e =
     maps.same_entries_map m _ (sym (maps.entries-from_sorted R es (subst (λ xs. T (is_sorted R xs)) (sym e) (maps.entries_sorted m)) ∙ e))
 

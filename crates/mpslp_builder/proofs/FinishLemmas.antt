@@ -1,28 +1,27 @@
 -- The model that finish makes of tables whose rows and columns are sorted by name.
 use Rattle.mpslp_builder.proofs.Prelude
 use Prelude.{◌≡◌, refl, sym, ap, subst, ◌∙◌, ℕ, zero, suc, ◌+◌, ◌<◌, List, [], ◌∷◌, length, map, arith, Bool, true, false, cond}
-use Prelude.{IsPermutation, Option, Some, None, slice_get, filter_map, option_map_or, is_eq, is_lt, eq_by_cmp, texts_ties, find, keys_of}
-use Prelude.{AllByRecursion, cons_option, range_with_len, IsSortedBy, bytes_cmp, same_bytes, Each, Each-both, sorted_of, each_part}
+use Prelude.{IsPermutation, Option, Some, None, slice_get, filter_map, option_map_or, is_eq, is_lt, eq_by_cmp, find}
+use Prelude.{cons_option, range_with_len, IsSortedBy, bytes_cmp, same_bytes, Each, Each-both, sorted_of, each_part}
 use Prelude.{given_parts, IsOnce, bytes_total, tied_names, along_permutation, all-from_each, name_at, entries_at, ◌++◌, is_some, option_map}
 use Prelude.{Number, Sense, Each-weaker, IsInjective, find-sorted_of, or_else, find-two, name_same, ObjectiveParts, ColumnParts, RowParts}
 use Prelude.{Draft, at_name, declared_of, column_of, row_entry, definition_of, rhs_of, range_of, no_part, lower_of, upper_of, as_part}
 use Prelude.{mark_of, integer_of, binary_of, semi_of, objective_rhs, name_of_row_key, draft_from, declared_in, get_or, inl, inr, ◌⊎◌}
-use Prelude.{filter, slice_index, option_and_then, nat_cmp, first_so, second_so, lookup, list_all, Each-from_list_all, Row, key_cmp}
+use Prelude.{filter, slice_index, option_and_then, nat_cmp, lookup, list_all, Each-from_list_all, Row, key_cmp}
 use Prelude.{columns_in, all_cells, all_named, is_kept, ModelParts, name_tied, moved_in, order_within, cells_of, name_of_objective}
 use Prelude.{cells_by_name, AreNumbered, rules, ◌≢◌, unwrap_or, All, negated, zero_number, constant_of, rhs_in, itself, order_length}
-use Prelude.{order_apart, as_many, is_sorted, put, Minimize, Free, true_from, both_so, Each-map, IsSound, plain_limits, linear_model}
+use Prelude.{order_apart, as_many, is_sorted, put, Minimize, Free, true_from, both_so, Each-map, plain_limits, linear_model}
 use Prelude.{AreModelParts, moved_cells, is_sorted-sorted_of, is_sorted-filter, each-kept, IsMade, objective_name, row_limits, model_of}
 use Prelude.{DraftMeans, file_fault, list_all-from_Each}
 use Rattle.std.proofs.lemmas.List.Sorted.{IsPermutation-refl, IsPermutation-cons, IsPermutation-trans, IsPermutation-map, All-permutation}
-use Rattle.std.specs.{Cmp.{tied_itself, eq_by_cmp_equiv}, List.IsDistinct}
+use Rattle.std.specs.{Cmp.{tied_itself}}
 use Rattle.mpslp_model_core.proofs.CellLemmas.{NeverFalls, never_falls-from_sort, permuted-is_map, two_heads, find-permutation}
 use Rattle.mpslp_model_core.proofs.{CellLemmas.once-permutation, RenumberLemmas.{each-from_all, unless_zero, find-moved, renumbered}}
 use Rattle.mpslp_builder_parts.specs.Parts.{limits_in, bounds_of}
 use Rattle.mpslp_builder_parts.proofs.RankLemmas.{AreRanks, rank_at, ranks_length, ranks_apart, get-taken, place_below, length-taken}
-use Rattle.mpslp_builder.proofs.{TableDrafts.find-each_part, MadeDrafts.meant-from_made, DraftEntries.sorted-from_made}
+use Rattle.mpslp_builder.proofs.{TableDrafts.{find-each_part, once_too}, MadeDrafts.meant-from_made, DraftEntries.sorted-from_made}
 use Rattle.mpslp_builder.proofs.MeaningFromNoFault.{sorted-mapped}
 use Rattle.mpslp_model_core.specs.ModelParts as parts
-use Rattle.std.specs.FinMap as maps
 
 -- ---- entries that are sorted by name: the part of each is in the order of the maps of a draft
 
@@ -33,10 +32,12 @@ front_kept : {Y : Type 0} (o : Option Y) (xs ys : List Y) → IsPermutation xs y
 front_kept None xs ys h = h
 front_kept (Some x) xs ys h = IsPermutation-cons x xs ys h
 
-fronts_turned : {Y : Type 0} (a b : Option Y) (xs : List Y) → IsPermutation (cons_option a (cons_option b xs)) (cons_option b (cons_option a xs))
+fronts_turned : {Y : Type 0} (a b : Option Y) (xs : List Y)
+    → IsPermutation (cons_option a (cons_option b xs)) (cons_option b (cons_option a xs))
 fronts_turned = grind (arith, two_heads)
 
-filter_map-permutation : {X Y : Type 0} (f : X → Option Y) (xs ys : List X) → IsPermutation xs ys → IsPermutation (filter_map f xs) (filter_map f ys)
+filter_map-permutation : {X Y : Type 0} (f : X → Option Y) (xs ys : List X) → IsPermutation xs ys
+    → IsPermutation (filter_map f xs) (filter_map f ys)
 filter_map-permutation f = along_permutation (λ xs ys. IsPermutation (filter_map f xs) (filter_map f ys))
     (λ xs. IsPermutation-refl (filter_map f xs)) (λ x xs ys h. front_kept (f x) (filter_map f xs) (filter_map f ys) h) (λ x y xs.
     fronts_turned (f x) (f y) (filter_map f xs)) (λ xs ys zs. IsPermutation-trans (filter_map f xs) (filter_map f ys) (filter_map f zs))
@@ -96,21 +97,6 @@ module _ {V X : Type 0} (f : V → X) where
   part-never_falls [] h = tt
   part-never_falls (e ∷ es) h = (part-each (λ name. is_lt (bytes_cmp name e.0) ≡ false) es h.0, part-never_falls es h.1)
 
-  -- whether a name is among the entries does not depend on their parts
-  none-part : {Y : Type 0} (g : V → Y) (q : List ℕ) (es : List (List ℕ × V)) → find bytes_cmp q (each_part g es) ≡ None
-      → find bytes_cmp q (each_part f es) ≡ None
-  none-part g q [] h = refl
-  none-part g q (e ∷ es) h =
-      elim (eq_by_cmp bytes_cmp q e.0) as (λ b. cond b (Some (g e.1)) (find bytes_cmp q (each_part g es)) ≡ None
-      → cond b (Some (f e.1)) (find bytes_cmp q (each_part f es)) ≡ None) [
-        | true ↦ λ never. cc
-        | false ↦ λ rest. none-part g q es rest
-      ] h
-
-  pub once-part : {Y : Type 0} (g : V → Y) (es : List (List ℕ × V)) → IsOnce (each_part g es) → IsOnce (each_part f es)
-  once-part g [] h = tt
-  once-part g (e ∷ es) h = (none-part g e.0 es h.0, once-part g es h.1)
-
   pub parts-permutation : (es ordered : List (List ℕ × V)) → IsPermutation es ordered → IsPermutation (each_part f es) (each_part f ordered)
   parts-permutation es ordered p = subst (λ (xs : List (List ℕ × X)). IsPermutation xs (each_part f ordered)) (sym (part-map es))
       (subst (IsPermutation (map (λ (e : List ℕ × V). (e.0, f e.1)) es)) (sym (part-map ordered)) (IsPermutation-map (λ (e : List ℕ × V). (e.0, f e.1)) es ordered p))
@@ -128,12 +114,7 @@ module _ {V X : Type 0} (f : V → X) where
 differs : {V X : Type 0} (f : V → X) (q : List ℕ) (es : List (List ℕ × V)) → find bytes_cmp q (each_part f es) ≡ None
     → Each (λ d. eq_by_cmp bytes_cmp d.0 q ≡ false) es
 differs f q [] h = tt
-differs f q (e ∷ es) h =
-    elim (eq_by_cmp bytes_cmp q e.0) as (λ b. eq_by_cmp bytes_cmp q e.0 ≡ b
-    → cond b (Some (f e.1)) (find bytes_cmp q (each_part f es)) ≡ None → Each (λ d. eq_by_cmp bytes_cmp d.0 q ≡ false) (e ∷ es)) [
-      | true ↦ λ _ never. cc
-      | false ↦ λ apart rest. ((eq_by_cmp_equiv bytes_total).symm e.0 q ∙ apart, differs f q es rest)
-    ] refl h
+differs f q (e ∷ es) h = grind (arith, bytes_total, differs f q es)
 
 module _ {V X : Type 0} (f : V → Option X) where
   pub no_part-found : (q : List ℕ) (es : List (List ℕ × V)) → Each (λ d. eq_by_cmp bytes_cmp d.0 q ≡ false) es
@@ -166,19 +147,6 @@ each-ordered P es order p h =
     each-from_all P (entries_at es order) (All-permutation P es (entries_at es order) (taken-permutation es order p) (all-from_each P es h))
 
 -- ---- keys that are distinct
-
-distinct-none : {V X : Type 0} (f : V → X) (k : List ℕ) (es : List (List ℕ × V)) → AllByRecursion (λ q. same_bytes k q ≡ false) (keys_of es)
-    → find bytes_cmp k (each_part f es) ≡ None
-distinct-none f k [] h = refl
-distinct-none f k (e ∷ es) h = ap (λ (b : Bool). cond b (Some (f e.1)) (find bytes_cmp k (each_part f es))) (sym (texts_ties k e.0) ∙ h.0)
-    ∙ distinct-none f k es h.1
-
--- distinct keys give distinct names
-pub once-from_distinct : {V X : Type 0} (f : V → X) (es : List (List ℕ × V)) → IsDistinct (λ x y. same_bytes x y) (keys_of es)
-    → IsOnce (each_part f es)
-unfolding IsDistinct
-once-from_distinct f [] h = tt
-once-from_distinct f (e ∷ es) h = (distinct-none f e.0 es h.0, once-from_distinct f es h.1)
 
 -- ---- what tables state of a row or of a column is what their draft states of its name
 
@@ -343,21 +311,13 @@ module _ (objective : Option ObjectiveParts) (rows : List (List ℕ × RowParts)
 
   within-column : (cells : List (ℕ × Number)) → list_all (λ e. is_some (name_of_row_key objective rows e.0)) cells ≡ true
       → Each (λ e. e.0 < length rows + 1) cells
-  within-column cells h =
-      Each-weaker (λ e. is_some (name_of_row_key objective rows e.0) ≡ true) (λ e. e.0 < length rows + 1)
-      (λ e there.
-      elim (name_of_row_key objective rows e.0) as (λ o. name_of_row_key objective rows e.0 ≡ o → is_some o ≡ true → e.0 < length rows + 1) [
-        | None ↦ λ _ never. cc
-        | Some r ↦ λ is _. number-within e.0 r is
-      ] refl there)
-      cells (Each-from_list_all (λ e. is_some (name_of_row_key objective rows e.0)) cells h)
+  within-column cells h = Each-weaker (λ e. is_some (name_of_row_key objective rows e.0) ≡ true) (λ e. e.0 < length rows + 1) (λ e there.
+      (grind (arith, number-within))) cells (Each-from_list_all (λ e. is_some (name_of_row_key objective rows e.0)) cells h)
 
   pub within-all : (cs : List (List ℕ × ColumnParts)) → all_named (name_of_row_key objective rows) (cells_by_name cs) ≡ true
       → Each (λ e. Each (λ cell. cell.0 < length rows + 1) (cells_of e.1)) cs
   within-all [] h = tt
-  within-all (c ∷ cs) h = let here = list_all (λ e. is_some (name_of_row_key objective rows e.0)) (cells_of c.1) in
-      let rest = all_named (name_of_row_key objective rows) (cells_by_name cs) in
-      (within-column (cells_of c.1) (first_so here rest h), within-all cs (second_so here rest h))
+  within-all (c ∷ cs) h = grind (arith, within-column (cells_of c.1), within-all cs)
 
 -- ---- sorted tables
 
@@ -385,7 +345,8 @@ module _ (objective : Option ObjectiveParts) (rows : List (List ℕ × RowParts)
   later-row : (k : ℕ) → parts.name_of_row_key m (suc k) ≡ option_map (λ e. e.0) (slice_get (entries_at rows f.row_order) k)
   later-row k = (λ i. option_map (λ (e : List ℕ × Row). e.0) (slice_get (f.rows_are i) k)) ∙ part-get limits_in (entries_at rows f.row_order) k
 
-  later-at : (k : ℕ) → k < length f.row_order → parts.name_of_row_key m (suc k) ≡ name_of_row_key objective rows (suc (get_or f.row_order k 0))
+  later-at : (k : ℕ) → k < length f.row_order
+      → parts.name_of_row_key m (suc k) ≡ name_of_row_key objective rows (suc (get_or f.row_order k 0))
   later-at = grind (arith, later-row, get-taken, order_within)
 
   pub keeps : (n : ℕ) (r : List ℕ) → name_of_row_key objective rows n ≡ Some r → parts.name_of_row_key m (slice_index f.ranks n) ≡ Some r
@@ -409,29 +370,21 @@ module _ (objective : Option ObjectiveParts) (rows : List (List ℕ × RowParts)
           ] refl named
 
   number-below : (n : ℕ) (r : List ℕ) → name_of_row_key objective rows n ≡ Some r → n < length f.ranks
-  number-below n r is = by n is
-    where
-      by : (n : ℕ) → name_of_row_key objective rows n ≡ Some r → n < length f.ranks
-      by zero is = omega (arith, ranks_length (length rows) f.row_order f.ranks f.rows_permuted f.ranked)
-      by (suc i) is = omega (arith, ranks_length (length rows) f.row_order f.ranks f.rows_permuted f.ranked, named-row objective rows i r is)
+  number-below n r is = grind (arith, ranks_length (length rows) f.row_order f.ranks f.rows_permuted f.ranked, named-row objective rows)
 
   -- ---- coefficients
 
   lookup-holds : (P : ColumnParts → Type 0) (t : List ℕ → Bool) (cs : List (List ℕ × ColumnParts)) (v : ColumnParts) → Each (λ e. P e.1) cs
       → lookup t cs ≡ Some v → P v
   lookup-holds P t [] v h is = cc
-  lookup-holds P t (c ∷ cs) v h is =
-      elim (t c.0) as (λ b. cond b (Some c.1) (lookup t cs) ≡ Some v → P v) [
-        | true ↦ λ at. let same : c.1 ≡ v = cc in subst P same h.0
-        | false ↦ λ later. lookup-holds P t cs v h.1 later
-      ] is
+  lookup-holds P t (c ∷ cs) v h is = grind (arith, lookup-holds P t cs v h.1)
 
   module _ (n : AreNumbered objective rows columns) (once : IsOnce (each_part no_part columns)) where
     found_cells : (k : ℕ) (r c : List ℕ) → name_of_row_key objective rows k ≡ Some r
         → option_and_then (find nat_cmp (slice_index f.ranks k)) (find bytes_cmp c (parts.cells_by_name m))
         ≡ unless_zero (option_and_then (find nat_cmp k) (find bytes_cmp c (cells_by_name columns)))
     found_cells k r c is =
-        let moved_once = once-part (moved_in f.ranks) no_part columns once in
+        let moved_once = once_too no_part (moved_in f.ranks) columns once in
         let permuted = parts-permutation (moved_in f.ranks) columns (entries_at columns f.column_order)
         (taken-permutation columns f.column_order f.columns_permuted) in
         let moved = ap (find bytes_cmp c) f.cells_are
@@ -465,12 +418,12 @@ module _ (objective : Option ObjectiveParts) (rows : List (List ℕ × RowParts)
           named = all_named_rows objective rows;
           keeps = keeps;
           adds_none = λ k r is. let e = earlier k r is in (e.0, e.1);
-          once = once-part cells_of no_part columns once;
+          once = once_too no_part cells_of columns once;
           once_later = subst IsOnce (sym f.cells_are)
               (once-permutation bytes_cmp bytes_total (each_part (moved_in f.ranks) columns)
               (each_part (moved_in f.ranks) (entries_at columns f.column_order))
               (parts-permutation (moved_in f.ranks) columns (entries_at columns f.column_order)
-              (taken-permutation columns f.column_order f.columns_permuted)) (once-part (moved_in f.ranks) no_part columns once));
+              (taken-permutation columns f.column_order f.columns_permuted)) (once_too no_part (moved_in f.ranks) columns once));
           cells = found_cells;
         })
 
@@ -486,23 +439,14 @@ pub record AreOrdered {V : Type 0} (entries : List (List ℕ × V)) (order : Lis
 
 pub cells_within : (objective : Option ObjectiveParts) (rows : List (List ℕ × RowParts)) (columns : List (List ℕ × ColumnParts)) (bound : ℕ)
     → AreNumbered objective rows columns → bound ≡ length rows + 1 → All (λ column. All (λ cell. cell.0 < bound) column.1.cells) columns
-cells_within objective rows columns bound n is = all-from_each (λ column. All (λ cell. cell.0 < bound) column.1.cells) columns
-    (Each-weaker (λ e. Each (λ cell. cell.0 < length rows + 1) (cells_of e.1)) (λ column. All (λ cell. cell.0 < bound) column.1.cells)
-    (λ e h. all-from_each (λ cell. cell.0 < bound) (cells_of e.1)
-    (subst (λ (bound : ℕ). Each (λ cell. cell.0 < bound) (cells_of e.1)) (sym is) h)) columns (within-all objective rows columns n.named))
+cells_within objective rows columns bound n is = grind (arith, all-from_each, within-all objective rows columns n.named)
 
 -- ---- the right-hand side of the objective
 
 apart_rows : (o : ObjectiveParts) (rows : List (List ℕ × RowParts)) → ((i : ℕ) (e : List ℕ × RowParts) → slice_get rows i ≡ Some e
     → e.0 ≡ o.name → ⊥) → Each (λ e. eq_by_cmp bytes_cmp e.0 o.name ≡ false) rows
 apart_rows o [] h = tt
-apart_rows o (e ∷ rows) h = (
-  elim (eq_by_cmp bytes_cmp e.0 o.name) as (λ b. eq_by_cmp bytes_cmp e.0 o.name ≡ b → b ≡ false) [
-    | true ↦ λ tie. absurd (h zero e refl (name_same e.0 o.name tie))
-    | false ↦ λ _. refl
-  ] refl,
-  apart_rows o rows (λ i d is same. h (suc i) d is same),
-)
+apart_rows o (e ∷ rows) h = grind (arith, h zero e refl, name_same e.0 o.name, apart_rows o rows (λ i d is same. h (suc i) d is same))
 
 pub objective_says : (o : ObjectiveParts) (rows : List (List ℕ × RowParts)) → IsInjective (name_of_row_key (Some o) rows)
     → at_name (sorted_of bytes_cmp (objective_rhs (Some o) ++ given_parts rhs_of rows)) o.name ≡ o.rhs
@@ -512,11 +456,7 @@ objective_says o rows apart =
     (apart_rows o rows (λ i e is same. let zero_is : zero
     ≡ suc i = apart zero (suc i) o.name refl (ap (option_map (λ (e : List ℕ × RowParts). e.0)) is ∙ ap Some same) in absurd cc)) in
     find-sorted_of bytes_cmp bytes_total o.name (objective_rhs (Some o) ++ given) ∙ find-two bytes_cmp o.name (objective_rhs (Some o)) given
-    ∙ elim (o.rhs)
-    as (λ r. or_else (find bytes_cmp o.name (option_map_or (λ value. (o.name, value) ∷ []) r [])) (find bytes_cmp o.name given) ≡ r) [
-      | None ↦ none
-      | Some value ↦ ap (λ (b : Bool). or_else (cond b (Some value) None) (find bytes_cmp o.name given)) (name_tied o.name o.name refl)
-    ]
+    ∙ (grind (arith, or_else, name_tied))
 
 pub constant_is : (sense : Option Sense) (constant : Option Number) (objective : Option ObjectiveParts) (rows : List (List ℕ × RowParts))
     (columns : List (List ℕ × ColumnParts)) → is_some objective ≡ true → IsInjective (name_of_row_key objective rows) → unwrap_or constant
@@ -533,8 +473,7 @@ name_of_part f _ _ = refl
 -- entries with the same parts have the same names
 names_alike : {V W X : Type 0} (f : W → X) (g : V → X) (made : List (List ℕ × W)) (entries : List (List ℕ × V))
     → each_part f made ≡ each_part g entries → (n : ℕ) → name_at made n ≡ name_at entries n
-names_alike f g made entries same n = name_of_part f made n
-    ∙ ap (λ (parts : List (List ℕ × _)). option_map_or (λ part. part.0) (slice_get parts n) []) same ∙ sym (name_of_part g entries n)
+names_alike f g made entries same n = grind (arith, name_of_part f made n, name_of_part g entries n)
 
 -- the order of entries with the same parts
 pub ordered_alike : {V W X : Type 0} (f : W → X) (g : V → X) (made : List (List ℕ × W)) (entries : List (List ℕ × V)) (order : List ℕ)
@@ -582,17 +521,16 @@ pub record AreCells (m : ModelParts) : Type 0 where
 
 pub meant_parts : (all : Draft) (m : ModelParts) → IsMade all → is_some all.objective ≡ true → file_fault all ≡ None → AreMeantParts all m
     → AreCells m → AreModelParts m
-meant_parts all m made there none p cells =
-    let sorted = sorted-from_made all made in
-    record {
-      rows = ap (is_sorted bytes_cmp) p.rows
-          ∙ sorted-mapped (λ row. unwrap_or (row_limits all row) (plain_limits Free zero_number)) all.rows ∙ true_from _ sorted.rows;
-      columns = ap (is_sorted bytes_cmp) p.columns ∙ sorted-mapped (λ column. column_of all column.0) all.columns
-          ∙ true_from _ sorted.columns;
-      cells = cells.sorted;
-      named = cells.named;
-      sound = subst IsSound (sym (meant_model all m p)) (meant-from_made all made there none).sound;
-    }
+meant_parts all m made there none p cells = grind (
+  arith,
+  sorted-from_made all made,
+  sorted-mapped (λ row. unwrap_or (row_limits all row)
+      (plain_limits Free zero_number)) all.rows,
+  true_from,
+  sorted-mapped (λ column. column_of all column.0) all.columns,
+  meant_model all m p,
+  meant-from_made all made there none,
+)
 
 pub meant_draft : (all : Draft) (m : ModelParts) → IsMade all → is_some all.objective ≡ true → file_fault all ≡ None → AreMeantParts all m
     → DraftMeans all (linear_model m)
@@ -615,8 +553,7 @@ moved_sorted ranks cells = search (rules, is_sorted-filter, true_from, is_sorted
 module _ (objective : Option ObjectiveParts) (rows : List (List ℕ × RowParts)) (columns : List (List ℕ × ColumnParts)) (m : ModelParts) (f : AreFinished objective rows columns m) where
   all_sorted : (cs : List (List ℕ × ColumnParts)) → list_all (λ c. is_sorted nat_cmp c.1) (each_part (moved_in f.ranks) cs) ≡ true
   all_sorted [] = refl
-  all_sorted (c ∷ cs) = both_so (is_sorted nat_cmp (moved_in f.ranks c.1))
-      (list_all (λ c. is_sorted nat_cmp c.1) (each_part (moved_in f.ranks) cs)) (moved_sorted f.ranks c.1.cells) (all_sorted cs)
+  all_sorted (c ∷ cs) = grind (arith, both_so, moved_sorted f.ranks, all_sorted cs)
 
   moved_named : (cells : List (ℕ × Number)) → list_all (λ e. is_some (name_of_row_key objective rows e.0)) cells ≡ true
       → list_all (λ e. is_some (parts.name_of_row_key m e.0)) (moved_cells f.ranks cells) ≡ true
@@ -627,20 +564,14 @@ module _ (objective : Option ObjectiveParts) (rows : List (List ℕ × RowParts)
       cells (Each-weaker (λ e. is_some (name_of_row_key objective rows e.0) ≡ true) (λ e. P (slice_index f.ranks e.0))
       (λ e there. still_named e.0 there) cells (Each-from_list_all (λ e. is_some (name_of_row_key objective rows e.0)) cells h)))))
     where
-      still_named : (k : ℕ) → is_some (name_of_row_key objective rows k) ≡ true → is_some (parts.name_of_row_key m (slice_index f.ranks k)) ≡ true
-      still_named k there =
-          elim (name_of_row_key objective rows k) as (λ o. name_of_row_key objective rows k ≡ o → is_some o ≡ true
-          → is_some (parts.name_of_row_key m (slice_index f.ranks k)) ≡ true) [
-            | None ↦ λ _ never. cc
-            | Some r ↦ λ is _. ap is_some (keeps objective rows columns m f k r is)
-          ] refl there
+      still_named : (k : ℕ) → is_some (name_of_row_key objective rows k) ≡ true
+          → is_some (parts.name_of_row_key m (slice_index f.ranks k)) ≡ true
+      still_named k there = grind (arith, keeps objective rows columns m f k)
 
   each_named : (cs : List (List ℕ × ColumnParts)) → all_named (name_of_row_key objective rows) (cells_by_name cs) ≡ true
       → Each (λ c. list_all (λ e. is_some (parts.name_of_row_key m e.0)) (moved_in f.ranks c.1) ≡ true) cs
   each_named [] h = tt
-  each_named (c ∷ cs) h = let here = list_all (λ e. is_some (name_of_row_key objective rows e.0)) (cells_of c.1) in
-      let rest = all_named (name_of_row_key objective rows) (cells_by_name cs) in
-      (moved_named (cells_of c.1) (first_so here rest h), each_named cs (second_so here rest h))
+  each_named (c ∷ cs) h = grind (arith, moved_named (cells_of c.1), each_named cs)
 
   all_named-from : (cs : List (List ℕ × ColumnParts)) → Each (λ c. list_all (λ e. is_some (parts.name_of_row_key m e.0))
       (moved_in f.ranks c.1) ≡ true) cs → all_named (parts.name_of_row_key m) (each_part (moved_in f.ranks) cs) ≡ true

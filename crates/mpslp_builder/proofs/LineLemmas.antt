@@ -51,38 +51,35 @@ module _ (sense : Option Sense) (constant : Option Number) (t u : Tables) where
   pub row_added : (k : List ℕ) (definition : RowDefinition) → IsNumbered t
       → HasRowAdded t k (record { definition = definition; rhs = None; range = None }) u → has_row (draft sense constant t) k ≡ false
       → draft sense constant u ≡ with_declaration (draft sense constant t) (declare_row k definition)
-  row_added k definition numbered h absent = (λ i. draft_from sense constant (h.objective i) (h.rows i) (h.columns i))
-      ∙ row_draft sense constant t.objective t.rows.entries t.columns.entries k definition numbered absent
+  row_added k definition numbered h absent =
+      (λ i. draft_from sense constant (h.objective i) (h.rows i) (h.columns i)) ∙ row_draft _ _ _ _ _ k _ numbered absent
 
   pub row_added_numbered : (k : List ℕ) (definition : RowDefinition) → IsNumbered t
       → HasRowAdded t k (record { definition = definition; rhs = None; range = None }) u → length t.rows.entries < 4294967294
       → has_row (draft sense constant t) k ≡ false → IsNumbered u
-  row_added_numbered k definition numbered h few absent = numbered_as (u.objective, u.rows.entries, u.columns.entries)
-      (t.objective, t.rows.entries ++ (k, record { definition = definition; rhs = None; range = None }) ∷ [], t.columns.entries)
-      (λ i. (h.objective i, h.rows i, h.columns i)) (row_numbered sense constant t.objective t.rows.entries t.columns.entries k definition numbered few absent)
+  row_added_numbered k definition numbered h few absent = numbered_as _ _ (λ i. (h.objective i, h.rows i, h.columns i)) (row_numbered sense
+      constant t.objective t.rows.entries t.columns.entries k definition numbered few absent)
 
   module _ (change : RowParts → RowParts) (i : ℕ) (h : HasRowChanged t i change u) where
     rows_written : draft sense constant u ≡ draft_from sense constant t.objective (set_value_at t.rows.entries i (change h.parts)) t.columns.entries
     rows_written = λ j. draft_from sense constant (h.written.objective j) (h.written.rows j) (h.written.columns j)
 
     pub row_changed_numbered : IsNumbered t → IsNumbered u
-    row_changed_numbered numbered = numbered_as (u.objective, u.rows.entries, u.columns.entries)
-        (t.objective, set_value_at t.rows.entries i (change h.parts), t.columns.entries) (λ j. (h.written.objective j, h.written.rows j, h.written.columns j))
-        (written_numbered sense constant t.objective t.rows.entries t.columns.entries i h.key h.parts (change h.parts) h.was numbered)
+    row_changed_numbered numbered = numbered_as _ _ (λ j. (h.written.objective j, h.written.rows j, h.written.columns j)) (written_numbered
+        sense constant t.objective t.rows.entries t.columns.entries i h.key h.parts (change h.parts) h.was numbered)
 
   module _ (numbered : IsNumbered t) (once : IsOnceEach t) (i : ℕ) (r : List ℕ) (row : row_name t (suc i) ≡ Some r) (x : Number) where
     pub range_added : HasRowChanged t i (λ row. record row { range = Some x }) u
         → draft sense constant u ≡ with_declaration (draft sense constant t) (declare_range r x)
-    range_added h = rows_written (λ row. record row { range = Some x }) i h ∙ range_draft sense constant t.objective t.rows.entries
-        t.columns.entries i h.key h.parts (record h.parts { range = Some x }) h.was x numbered once.rows refl
-        ∙ ap (λ (name : List ℕ). with_declaration (draft sense constant t) (declare_range name x))
-        (entry_named (slice_get t.rows.entries i) h.key h.parts r h.was row)
+    range_added h = rows_written (λ row. record row { range = Some x }) i h ∙ range_draft _ _ _ _ _ i _ _ _ h.was x numbered once.rows refl
+        ∙ ap (λ name. with_declaration (draft _ _ t) (declare_range name x)) (entry_named (slice_get t.rows.entries i) h.key h.parts r h.was
+        row)
 
     row_rhs_added : HasRowChanged t i (λ row. record row { rhs = Some x }) u
         → draft sense constant u ≡ with_declaration (draft sense constant t) (declare_rhs r x)
-    row_rhs_added h = rows_written (λ row. record row { rhs = Some x }) i h ∙ rhs_draft sense constant t.objective t.rows.entries
-        t.columns.entries i h.key h.parts (record h.parts { rhs = Some x }) h.was x numbered once.rows refl ∙ ap (λ (name : List ℕ).
-        with_declaration (draft sense constant t) (declare_rhs name x)) (entry_named (slice_get t.rows.entries i) h.key h.parts r h.was row)
+    row_rhs_added h = rows_written (λ row. record row { rhs = Some x }) i h ∙ rhs_draft _ _ _ _ _ i _ _ _ h.was x numbered once.rows refl ∙
+        ap (λ name. with_declaration (draft _ _ t) (declare_rhs name x)) (entry_named (slice_get t.rows.entries i) h.key h.parts r h.was
+        row)
 
   -- ---- the objective
 
@@ -95,25 +92,22 @@ module _ (sense : Option Sense) (constant : Option Number) (t u : Tables) where
 
   pub objective_named_numbered : (name : List ℕ) → IsNumbered t → t.objective ≡ None → HasObjective t (record { name = name; rhs = None }) u
       → has_row (draft sense constant t) name ≡ false → IsNumbered u
-  objective_named_numbered name numbered none h absent = numbered_as (u.objective, u.rows.entries, u.columns.entries)
-      (Some (record { name = name; rhs = None }), t.rows.entries, t.columns.entries) (λ i. (h.objective i, h.rows i, h.columns i))
-      (objective_numbered sense constant name t.rows.entries t.columns.entries
-      (subst (λ (o : Option ObjectiveParts). AreNumbered o t.rows.entries t.columns.entries) none numbered)
-      (ap (λ (o : Option ObjectiveParts). has_row (draft_from sense constant o t.rows.entries t.columns.entries) name) (sym none) ∙ absent))
+  objective_named_numbered name numbered none h absent = numbered_as _ _ (λ i. (h.objective i, h.rows i, h.columns i)) (objective_numbered
+      sense constant name t.rows.entries t.columns.entries (subst (λ (o : Option ObjectiveParts). AreNumbered o t.rows.entries
+      t.columns.entries) none numbered) (ap (λ (o : Option ObjectiveParts). has_row (draft_from sense constant o t.rows.entries
+      t.columns.entries) name) (sym none) ∙ absent))
 
   module _ (x : Number) (h : HasObjectiveChanged t (λ o. record o { rhs = Some x }) u) where
     objective_rhs_added : (r : List ℕ) → row_name t zero ≡ Some r → h.parts.rhs ≡ None
         → draft sense constant u ≡ with_declaration (draft sense constant t) (declare_rhs r x)
-    objective_rhs_added r is none = let name : h.parts.name ≡ r = let both : Some h.parts.name ≡ Some r = sym (ap name_of_objective h.was)
-        ∙ is in cc in (λ i. draft_from sense constant (h.written.objective i) (h.written.rows i) (h.written.columns i))
-        ∙ objective_rhs_draft sense constant h.parts x t.rows.entries t.columns.entries none
-        ∙ (λ i. with_declaration (draft_from sense constant (sym h.was i) t.rows.entries t.columns.entries) (declare_rhs (name i) x))
+    objective_rhs_added r is none = let name : h.parts.name ≡ r = let both = sym (ap name_of_objective h.was) ∙ is in cc in (λ i. draft_from
+        sense constant (h.written.objective i) (h.written.rows i) (h.written.columns i)) ∙ objective_rhs_draft _ _ _ x _ t.columns.entries
+        none ∙ (λ i. with_declaration (draft_from sense constant (sym h.was i) t.rows.entries t.columns.entries) (declare_rhs (name i) x))
 
     objective_rhs_numbered_too : IsNumbered t → IsNumbered u
-    objective_rhs_numbered_too numbered = numbered_as (u.objective, u.rows.entries, u.columns.entries)
-        (Some (record h.parts { rhs = Some x }), t.rows.entries, t.columns.entries) (λ i.
-        (h.written.objective i, h.written.rows i, h.written.columns i)) (objective_rhs_numbered sense constant h.parts x t.rows.entries
-        t.columns.entries (subst (λ (o : Option ObjectiveParts). AreNumbered o t.rows.entries t.columns.entries) h.was numbered))
+    objective_rhs_numbered_too numbered = numbered_as _ _ (λ i. (h.written.objective i, h.written.rows i, h.written.columns i))
+        (objective_rhs_numbered sense constant h.parts x t.rows.entries t.columns.entries (subst (λ (o : Option ObjectiveParts). AreNumbered
+        o t.rows.entries t.columns.entries) h.was numbered))
 
   no_rhs : (value : Option Number) (b : Bool) → (is_some value || b) ≡ false → value ≡ None
   no_rhs = grind arith
@@ -133,21 +127,19 @@ module _ (sense : Option Sense) (constant : Option Number) (t u : Tables) where
 
   pub column_added : (k : List ℕ) → HasColumnAdded t k new_column u → has_column (draft sense constant t) k ≡ false
       → draft sense constant u ≡ with_declaration (draft sense constant t) (declare_column k)
-  column_added k h absent = (λ i. draft_from sense constant (h.objective i) (h.rows i) (h.columns i))
-      ∙ column_draft sense constant t.objective t.rows.entries t.columns.entries k absent
+  column_added k h absent =
+      (λ i. draft_from sense constant (h.objective i) (h.rows i) (h.columns i)) ∙ column_draft _ _ _ _ t.columns.entries k absent
 
   pub column_added_numbered : (k : List ℕ) → HasColumnAdded t k new_column u → IsNumbered t → IsNumbered u
-  column_added_numbered k h numbered =
-      numbered_as (u.objective, u.rows.entries, u.columns.entries) (t.objective, t.rows.entries, t.columns.entries ++ (k, new_column) ∷ [])
-      (λ i. (h.objective i, h.rows i, h.columns i)) (column_numbered sense constant t.objective t.rows.entries t.columns.entries k numbered)
+  column_added_numbered k h numbered = numbered_as _ _ (λ i. (h.objective i, h.rows i, h.columns i)) (column_numbered sense constant
+      t.objective t.rows.entries t.columns.entries k numbered)
 
   module _ (change : ColumnParts → ColumnParts) (i : ℕ) (h : HasColumnChanged t i change u) where
     columns_written : draft sense constant u ≡ draft_from sense constant t.objective t.rows.entries (set_value_at t.columns.entries i (change h.parts))
     columns_written = λ j. draft_from sense constant (h.written.objective j) (h.written.rows j) (h.written.columns j)
 
     numbered_written : AreNumbered t.objective t.rows.entries (set_value_at t.columns.entries i (change h.parts)) → IsNumbered u
-    numbered_written = numbered_as (u.objective, u.rows.entries, u.columns.entries)
-        (t.objective, t.rows.entries, set_value_at t.columns.entries i (change h.parts)) (λ j. (h.written.objective j, h.written.rows j, h.written.columns j))
+    numbered_written = numbered_as _ _ (λ j. (h.written.objective j, h.written.rows j, h.written.columns j))
 
     -- a change that keeps the coefficients keeps their numbers
     pub column_changed_numbered : cells_of (change h.parts) ≡ cells_of h.parts → IsNumbered t → IsNumbered u
@@ -158,45 +150,44 @@ module _ (sense : Option Sense) (constant : Option Number) (t u : Tables) where
     -- what is declared of the name of the entry is declared of the name of the number
     by_name : (change : ColumnParts → ColumnParts) (h : HasColumnChanged t i change u) (after : List ℕ → Draft) → draft_from sense constant
         t.objective t.rows.entries (set_value_at t.columns.entries i (change h.parts)) ≡ after h.key → draft sense constant u ≡ after c
-    by_name change h after is = columns_written change i h ∙ is ∙ ap after (entry_named (slice_get t.columns.entries i) h.key h.parts c h.was column)
+    by_name change h after is = columns_written _ i h ∙ is ∙ ap after (entry_named (slice_get t.columns.entries i) h.key h.parts c h.was column)
 
     pub mark_added : HasColumnChanged t i (λ parts. record parts { marked = true }) u
         → draft sense constant u ≡ with_declaration (draft sense constant t) (declare_marked c)
-    mark_added h = by_name (λ parts. record parts { marked = true }) h (λ name. with_declaration (draft sense constant t)
-        (declare_marked name)) (mark_draft sense constant t.objective t.rows.entries t.columns.entries i h.key h.parts h.was once.columns)
+    mark_added h = by_name (λ parts. record parts { marked = true }) h (λ name. with_declaration _ (declare_marked name)) (mark_draft sense
+        constant t.objective t.rows.entries t.columns.entries i h.key h.parts h.was once.columns)
 
     pub integer_added : HasColumnChanged t i (λ parts. record parts { integer = true }) u
         → draft sense constant u ≡ with_declaration (draft sense constant t) (declare_integer c)
-    integer_added h = by_name (λ parts. record parts { integer = true }) h (λ name. with_declaration (draft sense constant t) (declare_integer name))
+    integer_added h = by_name (λ parts. record parts { integer = true }) h (λ name. with_declaration _ (declare_integer name))
         (integer_draft sense constant t.objective t.rows.entries t.columns.entries i h.key h.parts h.was once.columns)
 
     pub binary_added : HasColumnChanged t i (λ parts. record parts { binary = true }) u
         → draft sense constant u ≡ with_declaration (draft sense constant t) (declare_binary c)
-    binary_added h = by_name (λ parts. record parts { binary = true }) h (λ name. with_declaration (draft sense constant t)
-        (declare_binary name)) (binary_draft sense constant t.objective t.rows.entries t.columns.entries i h.key h.parts h.was once.columns)
+    binary_added h = by_name (λ parts. record parts { binary = true }) h (λ name. with_declaration _ (declare_binary name)) (binary_draft
+        sense constant t.objective t.rows.entries t.columns.entries i h.key h.parts h.was once.columns)
 
     pub semi_added : HasColumnChanged t i (λ parts. record parts { semi = true }) u
         → draft sense constant u ≡ with_declaration (draft sense constant t) (declare_semi c)
-    semi_added h = by_name (λ parts. record parts { semi = true }) h (λ name. with_declaration (draft sense constant t) (declare_semi name))
-        (semi_draft sense constant t.objective t.rows.entries t.columns.entries i h.key h.parts h.was once.columns)
+    semi_added h = by_name (λ parts. record parts { semi = true }) h (λ name. with_declaration _ (declare_semi name)) (semi_draft sense
+        constant t.objective t.rows.entries t.columns.entries i h.key h.parts h.was once.columns)
 
     pub sides_added : (lower upper : Option Limit) → HasColumnChanged t i (with_bounds lower upper) u
         → draft sense constant u ≡ with_declarations (draft sense constant t) (bounds_declared c lower upper)
-    sides_added lower upper h =
-        by_name (with_bounds lower upper) h (λ name. with_declarations (draft sense constant t) (bounds_declared name lower upper))
-        (sides_draft sense constant t.objective t.rows.entries t.columns.entries i h.key h.parts h.was lower upper once.columns)
+    sides_added lower upper h = by_name _ h (λ name. with_declarations _ (bounds_declared name lower upper)) (sides_draft sense constant
+        t.objective t.rows.entries t.columns.entries i h.key h.parts h.was lower upper once.columns)
 
     module _ (numbered : IsNumbered t) (n : ℕ) (r : List ℕ) (row : row_name t n ≡ Some r) (x : Number) (h : HasColumnChanged t i (with_cell n x) u) where
       pub cell_added : find nat_cmp n (cells_at t i) ≡ None
           → draft sense constant u ≡ with_declaration (draft sense constant t) (declare_coefficient (at r c) x)
-      cell_added absent = by_name (with_cell n x) h (λ k. with_declaration (draft sense constant t) (declare_coefficient (at r k) x))
-          (cell_draft sense constant t.objective t.rows.entries t.columns.entries i h.key h.parts h.was numbered n r row x once.columns
-          (ap (λ (k : List ℕ). has_coefficient (draft sense constant t) (at r k)) (entry_named (slice_get t.columns.entries i) h.key h.parts
-          c h.was column) ∙ cell_at sense constant t once i c (entry_at t.columns.entries i c column) n r numbered row ∙ ap is_some absent))
+      cell_added absent = by_name _ h (λ k. with_declaration _ (declare_coefficient (at r k) x)) (cell_draft sense constant t.objective
+          t.rows.entries t.columns.entries i h.key h.parts h.was numbered n r row x once.columns (ap (λ (k : List ℕ). has_coefficient (draft
+          sense constant t) (at r k)) (entry_named (slice_get t.columns.entries i) h.key h.parts c h.was column) ∙ cell_at sense constant t
+          once i c (entry_at t.columns.entries i c column) n r numbered row ∙ ap is_some absent))
 
       pub cell_added_numbered : IsNumbered u
-      cell_added_numbered = numbered_written (with_cell n x) i h
-          (cell_numbered sense constant t.objective t.rows.entries t.columns.entries i h.key h.parts h.was numbered n r row x)
+      cell_added_numbered = numbered_written _ i h (cell_numbered sense constant t.objective t.rows.entries t.columns.entries i h.key
+          h.parts h.was numbered n r row x)
 
 -- ---- lines of a column by number: what each step declares, and what is still known after it
 
@@ -235,9 +226,9 @@ follows_same = grind arith
 pub follows_then : (t u v : Tables) → Follows t u → Follows u v → Follows t v
 follows_then t u v a b = record {
   numbered = b.numbered;
-  made = λ sense constant made. b.made sense constant (a.made sense constant made);
+  made = λ sense constant made. b.made _ _ (a.made sense constant made);
   rows = λ n. b.rows n ∙ a.rows n;
-  columns = λ i name is. b.columns i name (a.columns i name is);
+  columns = λ i name is. b.columns i _ (a.columns i name is);
 }
 
 -- unchanged tables have the same coefficients
@@ -250,12 +241,12 @@ laid_none = grind arith
 pub laid_then : (t u v : Tables) (ds es : Declarations) → AreDeclared t ds u → AreDeclared u es v → AreDeclared t (ds ++ es) v
 laid_then t u v ds es a b = record {
   free = λ sense constant.
-      refusals_in_turn-append ds es (draft sense constant t)
-      ∙ join_none (refusals_in_turn (draft sense constant t) ds) (refusals_in_turn (with_declarations (draft sense constant t) ds) es)
+      refusals_in_turn-append ds es _
+      ∙ join_none _ _
       (a.free sense constant)
       (ap (λ (d : Draft). refusals_in_turn d es) (sym (a.declared sense constant)) ∙ b.free sense constant);
   declared = λ sense constant.
-      b.declared sense constant ∙ ap (λ (d : Draft). with_declarations d es) (a.declared sense constant)
+      b.declared _ _ ∙ ap (λ d. with_declarations d es) (a.declared sense constant)
       ∙ sym (with_declarations-append ds es (draft sense constant t));
 }
 
@@ -263,10 +254,7 @@ laid_then t u v ds es a b = record {
 laid_one : (t u : Tables) (d : _) → ((sense : Option Sense) (constant : Option Number) → refusals (draft sense constant t) d ≡ [])
     → ((sense : Option Sense) (constant : Option Number) → draft sense constant u ≡ with_declaration (draft sense constant t) d)
     → AreDeclared t (d ∷ []) u
-laid_one t u d free declared = record {
-  free = λ sense constant. ap (λ (faults : List BuildFault). faults ++ []) (free sense constant);
-  declared = declared;
-}
+laid_one t u d free declared = search rules
 
 module _ (t u : Tables) (numbered : IsNumbered t) where
   module _ (change : ColumnParts → ColumnParts) (i : ℕ) (h : HasColumnChanged t i change u) where
@@ -274,18 +262,17 @@ module _ (t u : Tables) (numbered : IsNumbered t) where
     rows_same n = λ j. name_of_row_key (h.written.objective j) (h.written.rows j) n
 
     columns_same : (j : ℕ) (name : List ℕ) → column_name t j ≡ Some name → column_name u j ≡ Some name
-    columns_same j name is = ap (λ (es : List (List ℕ × ColumnParts)). option_map (λ e. e.0) (slice_get es j)) h.written.columns
-        ∙ name_kept t.columns.entries i j (change h.parts) ∙ is
+    columns_same j name is = ap (λ es. option_map (λ e. e.0) (slice_get es j)) h.written.columns ∙ name_kept _ i j _ ∙ is
 
     own_name : column_name t i ≡ Some h.key
     own_name = ap (option_map (λ (e : List ℕ × ColumnParts). e.0)) h.was
 
     cells_were : cells_at t i ≡ cells_of h.parts
-    cells_were = ap (λ (o : Option (List ℕ × ColumnParts)). option_map_or (λ e. cells_of e.1) o []) h.was
+    cells_were = ap (λ o. option_map_or (λ e. cells_of e.1) o []) h.was
 
     cells_are : cells_at u i ≡ cells_of (change h.parts)
-    cells_are = ap (λ (es : List (List ℕ × ColumnParts)). option_map_or (λ e. cells_of e.1) (slice_get es i) []) h.written.columns
-        ∙ written_there cells_of [] t.columns.entries i h.key h.parts (change h.parts) h.was
+    cells_are = ap (λ es. option_map_or (λ e. cells_of e.1) (slice_get es i) []) h.written.columns ∙ written_there cells_of []
+        t.columns.entries i h.key h.parts (change _) h.was
 
   module _ (once : IsOnceEach t) (i : ℕ) where
     -- ---- the mark
@@ -293,61 +280,60 @@ module _ (t u : Tables) (numbered : IsNumbered t) where
     module _ (h : HasColumnChanged t i (λ parts. record parts { marked = true }) u) (semi : column_satisfies t i (λ parts. parts.semi) ≡ false) where
       mark_free : (c : List ℕ) → column_name t i ≡ Some c → (sense : Option Sense) (constant : Option Number)
           → refusals (draft sense constant t) (declare_marked c) ≡ []
-      mark_free c is sense constant = integer_stated constant t once i c is (number_there no_part t.columns.entries i c is) false (sym semi)
+      mark_free c is sense constant = integer_stated constant t once i c is (number_there no_part t.columns.entries i c is) _ (sym semi)
 
       mark_draft_line : (c : List ℕ) → column_name t i ≡ Some c → (sense : Option Sense) (constant : Option Number)
           → draft sense constant u ≡ with_declaration (draft sense constant t) (declare_marked c)
-      mark_draft_line c is sense constant = mark_added sense constant t u once i c is h
+      mark_draft_line c is sense constant = mark_added _ _ t u once i c is h
 
       pub mark_laid : (c : List ℕ) → column_name t i ≡ Some c → AreDeclared t (declare_marked c ∷ []) u
-      mark_laid c is = laid_one t u (declare_marked c) (mark_free c is) (mark_draft_line c is)
+      mark_laid c is = laid_one t u _ (mark_free c is) (mark_draft_line c is)
 
       pub mark_follows : Follows t u
       mark_follows =
           let change : ColumnParts → ColumnParts = λ parts. record parts { marked = true } in
           let c = h.key in
-          let is = own_name change i h in record {
-            numbered = column_changed_numbered None None t u change i h refl numbered;
+          let is = own_name _ i h in record {
+            numbered = column_changed_numbered None None t u _ i h refl numbered;
             made = λ sense constant made. made_after (declare_marked c) (mark_draft_line c is sense constant) made refl
                 (mark_free c is sense constant) refl;
-            rows = rows_same change i h;
-            columns = columns_same change i h;
+            rows = rows_same _ i h;
+            columns = columns_same _ i h;
           }
 
       pub mark_cells : cells_at u i ≡ cells_at t i
-      mark_cells = let change : ColumnParts → ColumnParts = λ parts. record parts { marked = true } in cells_are change i h
-          ∙ sym (cells_were change i h)
+      mark_cells =
+          let change : ColumnParts → ColumnParts = λ parts. record parts { marked = true } in cells_are _ i h ∙ sym (cells_were change i h)
 
     -- ---- a coefficient
 
     module _ (n : ℕ) (r : List ℕ) (row : row_name t n ≡ Some r) (x : Number) (h : HasColumnChanged t i (with_cell n x) u) (absent : find nat_cmp n (cells_at t i) ≡ None) where
       cell_free : (c : List ℕ) → column_name t i ≡ Some c → (sense : Option Sense) (constant : Option Number)
           → refusals (draft sense constant t) (declare_coefficient (at r c) x) ≡ []
-      cell_free c is sense constant = cell_stated constant t once i c is (number_there no_part t.columns.entries i c is) n r false numbered
-          row (row_there None constant t n r row) (sym (ap is_some absent))
+      cell_free c is sense constant = cell_stated constant t once i c is (number_there no_part t.columns.entries i c is) n r _ numbered row
+          (row_there None constant t n r row) (sym (ap is_some absent))
 
       cell_draft_line : (c : List ℕ) → column_name t i ≡ Some c → (sense : Option Sense) (constant : Option Number)
           → draft sense constant u ≡ with_declaration (draft sense constant t) (declare_coefficient (at r c) x)
-      cell_draft_line c is sense constant = cell_added sense constant t u once i c is numbered n r row x h absent
+      cell_draft_line c is sense constant = cell_added _ _ t u once i c is numbered n r row x h absent
 
       pub cell_laid : (c : List ℕ) → column_name t i ≡ Some c → AreDeclared t (entry_declared c (r, x)) u
-      cell_laid c is = laid_one t u (declare_coefficient (at r c) x) (cell_free c is) (cell_draft_line c is)
+      cell_laid c is = laid_one t u _ (cell_free c is) (cell_draft_line c is)
 
       pub cell_follows : is_decimal x ≡ true → Follows t u
       cell_follows decimal =
           let c = h.key in
-          let is = own_name (with_cell n x) i h in record {
+          let is = own_name _ i h in record {
             numbered = cell_added_numbered None None t u once i c is numbered n r row x h;
             made = λ sense constant made. made_after (declare_coefficient (at r c) x) (cell_draft_line c is sense constant) made decimal
                 (cell_free c is sense constant) refl;
-            rows = rows_same (with_cell n x) i h;
-            columns = columns_same (with_cell n x) i h;
+            rows = rows_same _ i h;
+            columns = columns_same _ i h;
           }
 
       pub cell_others : (m : ℕ) → m ≢ n → find nat_cmp m (cells_at u i) ≡ find nat_cmp m (cells_at t i)
-      cell_others m other = ap (find nat_cmp m) (cells_are (with_cell n x) i h) ∙ find-put nat_cmp nat_cmp_total m n x (cells_of h.parts)
-          ∙ ap (λ (b : Bool). cond b (Some x) (find nat_cmp m (cells_of h.parts))) (apart (nat_cmp m n) refl)
-          ∙ ap (find nat_cmp m) (sym (cells_were (with_cell n x) i h))
+      cell_others m other = ap (find nat_cmp m) (cells_are (with_cell n x) i h) ∙ find-put _ nat_cmp_total m n x _ ∙ ap (λ b. cond b (Some
+          x) (find nat_cmp m (cells_of h.parts))) (apart (nat_cmp m n) refl) ∙ ap (find nat_cmp m) (sym (cells_were (with_cell n x) i h))
         where
           apart : (o : Ordering) → nat_cmp m n ≡ o → is_eq o ≡ false
           apart Less is = refl
@@ -359,7 +345,7 @@ module _ (t u : Tables) (numbered : IsNumbered t) where
   module _ (k : List ℕ) (h : HasColumnAdded t k new_column u) (absent : has_column (draft None None t) k ≡ false) where
     start_draft : (sense : Option Sense) (constant : Option Number)
         → draft sense constant u ≡ with_declaration (draft sense constant t) (declare_column k)
-    start_draft sense constant = column_added sense constant t u k h absent
+    start_draft sense constant = column_added _ _ t u k h absent
 
     pub start_follows : is_mps_name k ≡ true → Follows t u
     start_follows legal = record {
@@ -367,19 +353,19 @@ module _ (t u : Tables) (numbered : IsNumbered t) where
       made = λ sense constant made. made_after (declare_column k) (start_draft sense constant) made legal refl refl;
       rows = λ n i. name_of_row_key (h.objective i) (h.rows i) n;
       columns = λ i name is.
-          ap (λ (es : List (List ℕ × ColumnParts)). option_map (λ e. e.0) (slice_get es i)) h.columns
-          ∙ names-more t.columns.entries ((k, new_column) ∷ []) i name is;
+          ap (λ es. option_map (λ e. e.0) (slice_get es i)) h.columns
+          ∙ names-more _ _ i _ is;
     }
 
     pub started : HasStarted t k (length t.columns.entries) u
     started =
-        let here : slice_get u.columns.entries (length t.columns.entries) ≡ Some (k, new_column) =
-        ap (λ (es : List (List ℕ × ColumnParts)). slice_get es (length t.columns.entries)) h.columns
-        ∙ added_there t.columns.entries (k, new_column) in record {
+        let here =
+        ap (λ es. slice_get es (length t.columns.entries)) h.columns
+        ∙ added_there t.columns.entries _ in record {
           named = ap (option_map (λ (e : List ℕ × ColumnParts). e.0)) here;
-          declared = laid_one t u (declare_column k) (λ sense constant. refl) start_draft;
-          cells = ap (λ (o : Option (List ℕ × ColumnParts)). option_map_or (λ e. cells_of e.1) o []) here;
-          semi = ap (λ (o : Option (List ℕ × ColumnParts)). option_map_or (λ e. e.1.semi) o false) here;
+          declared = laid_one t u _ (λ sense constant. refl) start_draft;
+          cells = ap (λ o. option_map_or (λ e. cells_of e.1) o []) here;
+          semi = ap (λ o. option_map_or (λ e. e.1.semi) o false) here;
         }
 
 -- a column that is declared may be declared again
@@ -418,13 +404,13 @@ any-looked_up name (term ∷ terms) = grind (arith, any-looked_up name terms)
 -- in two lists one after the other
 pub any-both : (name : List ℕ) (first more : Terms) (b : Bool) → is_some (find bytes_cmp name first) ≡ false
     → list_any (λ term. same_bytes name term.0) more ≡ b → list_any (λ term. same_bytes name term.0) (first ++ more) ≡ b
-any-both name first more b absent is = list_any-append (λ (term : List ℕ × Number). same_bytes name term.0) first more
-    ∙ (λ i. (any-found name first ∙ absent) i || is i)
+any-both name first more b absent is = grind
+    (arith, list_any-append (λ (term : List ℕ × Number). same_bytes name term.0) first more, any-found name first)
 
 pub any-first : (name : List ℕ) (first more : Terms) → is_some (find bytes_cmp name first) ≡ true
     → list_any (λ term. same_bytes name term.0) (first ++ more) ≡ true
-any-first name first more there = list_any-append (λ (term : List ℕ × Number). same_bytes name term.0) first more
-    ∙ ap (λ (b : Bool). b || list_any (λ term. same_bytes name term.0) more) (any-found name first ∙ there)
+any-first name first more there = grind
+    (arith, list_any-append (λ (term : List ℕ × Number). same_bytes name term.0) first more, any-found name first)
 
 pub any-none : (name : List ℕ) (terms : Terms) → length terms ≡ 0 → list_any (λ term. same_bytes name term.0) terms ≡ false
 any-none name [] h = refl
@@ -448,13 +434,13 @@ unless_then t u v ds es (Ok x) a b = laid_then t u v ds es a b
 unless_then t u v ds es (Err fault) a (inl none) = inl none
 unless_then t u v ds es (Err fault) a (inr first) =
     inr (λ sense constant.
-    let before = draft sense constant t in
+    let before = draft _ _ t in
     ap head_of (
     refusals_in_turn-append ds es before
     ∙ ap (λ (faults : List BuildFault). faults ++ refusals_in_turn (with_declarations before ds) es) (a.free sense constant)
     ∙ ap (λ (all : Draft). refusals_in_turn all es) (sym (a.declared sense constant))
     )
-    ∙ first sense constant)
+    ∙ first _ _)
 
 -- there is no memory
 pub unless_memory : (t u : Tables) (ds : Declarations) (answer : Answer) → IsErrAnd answer (λ fault. fault ≡ OutOfMemory)
@@ -478,29 +464,29 @@ unless_err = grind (arith, inl, inr, refusals_in_turn-append, head-first)
 -- the coefficient is declared already
 pub taken_place : (t u v : Tables) (once : IsOnceEach u) (numbered : IsNumbered u) (n i : ℕ) (r c : List ℕ) (x : Number) → HasColumn t c i u
     → row_name u n ≡ Some r → true ≡ is_some (find nat_cmp n (cells_at u i)) → AreDeclaredUnless t (term_declared r (c, x)) (Err DuplicateEntry) v
-taken_place t u v once numbered n i r c x column row stated = inr (λ sense constant. ap
-    (λ (all : Draft). head_of (refusals all (declare_coefficient (at r c) x) ++ [])) (sym (column.declared.declared sense constant))
-    ∙ ap (λ (faults : List BuildFault). head_of (faults ++ [])) (cell_stated constant u once i c column.named
-    (number_there no_part u.columns.entries i c column.named) n r true numbered row (row_there None constant u n r row) stated))
+taken_place t u v once numbered n i r c x column row stated = inr (λ sense constant. ap (λ all. head_of (refusals all (declare_coefficient
+    (at r c) x) ++ [])) (sym (column.declared.declared sense constant)) ∙ ap (λ faults. head_of (faults ++ [])) (cell_stated constant u once
+    i c column.named (number_there no_part u.columns.entries i c column.named) n r true numbered row (row_there None constant u n r row)
+    stated))
 
 -- a coefficient of any row that there is
 pub cell_follows_there : (t u : Tables) → IsNumbered t → IsOnceEach t → (i n : ℕ) → is_some (row_name t n) ≡ true → (x : Number)
     → HasColumnChanged t i (with_cell n x) u → find nat_cmp n (cells_at t i) ≡ None → is_decimal x ≡ true → Follows t u
-cell_follows_there t u numbered once i n row x h absent decimal = by (row_name t n) refl row
+cell_follows_there t u numbered once i n row x h absent decimal = by _ refl row
   where
     by : (name : Option (List ℕ)) → row_name t n ≡ name → is_some name ≡ true → Follows t u
     by None is there = cc
-    by (Some name) is there = cell_follows t u numbered once i n name is x h absent decimal
+    by (Some name) is there = cell_follows t u numbered once i n _ is x h absent decimal
 
 -- the other coefficients of the column are the same
 pub cell_others_there : (t u : Tables) → IsNumbered t → IsOnceEach t → (i n : ℕ) → is_some (row_name t n) ≡ true → (x : Number)
     → HasColumnChanged t i (with_cell n x) u → find nat_cmp n (cells_at t i) ≡ None → (m : ℕ) → m ≢ n
     → find nat_cmp m (cells_at u i) ≡ find nat_cmp m (cells_at t i)
-cell_others_there t u numbered once i n row x h absent m other = by (row_name t n) refl row
+cell_others_there t u numbered once i n row x h absent m other = by _ refl row
   where
     by : (name : Option (List ℕ)) → row_name t n ≡ name → is_some name ≡ true → find nat_cmp m (cells_at u i) ≡ find nat_cmp m (cells_at t i)
     by None is there = cc
-    by (Some name) is there = cell_others t u numbered once i n name is x h absent m other
+    by (Some name) is there = cell_others t u numbered once i n _ is x h absent m other
 
 -- ---- terms in turn
 
@@ -521,7 +507,7 @@ decides_next = grind (arith, unless_then)
 pub decides_err : (t u v : Tables) (first left all : Declarations) (answer : Answer) (fault : BuildFault) → IsErrAnd answer (λ stated.
     stated ≡ fault) → AreDeclaredUnless u first (Err fault) v → Decides u (first ++ left) t all → AreDeclaredUnless t all answer v
 decides_err t u v first left all answer fault stated refused before =
-    before answer v (unless_reported u v (first ++ left) answer fault stated (unless_err u v v first left fault refused))
+    before _ v (unless_reported u v (first ++ left) answer fault stated (unless_err u v v first left fault refused))
 
 -- nothing is left
 pub decides_all : (t u : Tables) (all : Declarations) → Decides u [] t all → AreDeclared t all u
@@ -537,8 +523,8 @@ next_is k = omega arith
 
 pub rest_of : {X : Type 0} (f : X → Declarations) (xs : List X) (k : ℕ) (x : X) → k < length xs → x ≡ get_or xs k x
     → flat_map f (drop k xs) ≡ f x ++ flat_map f (drop (k + 1) xs)
-rest_of {X} f xs k x inside here = rest_at f xs k x (slice_get_read xs (length xs) k x refl inside here)
-    ∙ ap (λ (n : ℕ). f x ++ flat_map f (drop n xs)) (next_is k)
+rest_of {X} f xs k x inside here =
+    rest_at f xs k x (slice_get_read xs (length xs) k x refl inside here) ∙ ap (λ n. f x ++ flat_map f (drop n xs)) (next_is k)
 
 -- of two lists one after the other
 pub both_parts : {X : Type 0} (f : X → Declarations) (first more given all : List X) → given ≡ first → first ++ more ≡ all
@@ -570,4 +556,4 @@ module _ (t u v : Tables) (name column : List ℕ) (term : List ℕ × Number) (
 
   pub term_refused : (answer : Answer) (fault : BuildFault) → IsErrAnd answer (λ stated. stated ≡ fault)
       → AreDeclaredUnless u (term_declared name (column, term.1)) (Err fault) v → AreDeclaredUnless t all answer v
-  term_refused answer fault stated refused = decides_err t u v (term_declared name (column, term.1)) rest all answer fault stated refused decides
+  term_refused answer fault stated refused = decides_err t u v (term_declared name (column, term.1)) _ all _ _ stated refused decides

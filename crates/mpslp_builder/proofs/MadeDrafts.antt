@@ -1,11 +1,11 @@
 -- Drafts that a builder can hold: what calls return, which drafts they make, and what a draft means at the end.
 use Rattle.mpslp_builder.proofs.Prelude
-use Prelude.{arith, rules, ◌≡◌, refl, sym, ap, subst, ◌∙◌, ℕ, List, [], ◌∷◌, ◌++◌, Bool, true, false, not, ◌&&◌, ◌||◌, Option, None}
+use Prelude.{arith, rules, ◌≡◌, refl, sym, ap, subst, ◌∙◌, ℕ, List, [], ◌∷◌, ◌++◌, Bool, true, false, not, ◌&&◌, Option, None}
 use Prelude.{is_some, list_all, option_map_or, append-nil, append_assoc, list_all-append, Number, LinearModel, RowDefinition, Declaration}
 use Prelude.{declare_objective, declare_row, declare_rhs, Declarations, Draft, with_declaration, with_declarations, draft_of, has_name}
-use Prelude.{has_row, is_objective, is_free_definition, is_free_row, is_row_by_limits, is_definition_by_limits, bounds_declared, is_given}
+use Prelude.{has_row, is_free_row, bounds_declared, is_given}
 use Prelude.{has_objective, AreConsistent, refusals, refusals_in_turn, bounds_refusals, is_legal, HasNoFreeRhs, IsMade, model_of}
-use Prelude.{DraftMeans, file_fault, Limit, BuildFault, UnknownColumn, DuplicateRhs, DuplicateBound, InfiniteValue, both_so, or_right, back}
+use Prelude.{DraftMeans, file_fault, Limit, BuildFault, UnknownColumn, DuplicateBound, InfiniteValue, both_so, or_right, back}
 use Prelude.{both_false, Some, Result, IfOk, MatchResult, Fault, ReadFault, Finishes, Means, IsAnswerOf, cond, IsTrue, Ok, Err, IsErrAnd}
 use Prelude.{ForSome, eq_by_cmp, first_so, second_so, texts_ties, find, put, is_sorted, T, is_mps_name, bytes_cmp, CoefficientKey, key_cmp}
 use Prelude.{same_key, equal_from, CoefficientsAreKnown, has_column, those_of, OutOfMemory as OutOfMemory_answer, Answer, Answers}
@@ -58,21 +58,13 @@ free_rhs-kept = grind (arith, free_rhs-row, first_none, free_rhs-side)
 
 -- the names that it uses are declared
 pub declared_names-from_made : (all : Draft) → IsMade all → HasDeclaredNames all
-declared_names-from_made all made = let fine = none-fine made.declarations _ empty_declared_names empty_kinds_apart refl made.unrefused in
-    subst HasDeclaredNames (sym made.draft) fine.declared_names
+declared_names-from_made all made = grind (arith, none-fine made.declarations, empty_declared_names, empty_kinds_apart)
 
 -- several legal declarations, none of them rejected
 made-with_declarations : (all : Draft) (more : Declarations) → IsMade all → list_all is_legal more ≡ true → refusals_in_turn all more ≡ []
     → HasNoFreeRhs (with_declarations all more) → IsMade (with_declarations all more)
-made-with_declarations all more made legal unrefused no_free_rhs = record {
-  declarations = made.declarations ++ more;
-  legal = list_all-append _ made.declarations _ ∙ both_so _ _ made.legal legal;
-  unrefused = refusals_in_turn-append made.declarations _ _
-      ∙ join_none _ _ made.unrefused
-      (ap (λ before. refusals_in_turn before more) (sym made.draft) ∙ unrefused);
-  draft = ap (λ before. with_declarations before more) made.draft ∙ sym (with_declarations-append made.declarations _ _);
-  no_free_rhs = no_free_rhs;
-}
+made-with_declarations all more made legal unrefused no_free_rhs = grind
+    (arith, list_all-append, both_so, refusals_in_turn-append made.declarations, join_none, with_declarations-append made.declarations)
 
 -- one legal declaration that is not rejected and is no right-hand side of a row of type N
 pub made-with_declaration : (all : Draft) (d : Declaration) → IsMade all → is_legal d ≡ true → refusals all d ≡ []
@@ -97,11 +89,7 @@ legal_bounds = grind arith
 pub made-bounds : (all : Draft) (column : List ℕ) (lower upper : Option Limit) → IsMade all → option_map_or is_given lower true ≡ true
     → option_map_or is_given upper true ≡ true → bounds_refusals all column lower upper ≡ []
     → IsMade (with_declarations all (bounds_declared column lower upper))
-made-bounds all column lower upper made h k unrefused = made-with_declarations all (bounds_declared _ _ _) made (legal_bounds _ lower _ h k)
-    (bounds-in_turn all _ _ _ unrefused) (free_rhs-bounds _ _)
-  where
-    free_rhs-bounds : (lower upper : Option Limit) → HasNoFreeRhs (with_declarations all (bounds_declared column lower upper))
-    free_rhs-bounds = grind arith
+made-bounds all column lower upper made h k unrefused = grind (arith, made-with_declarations all, legal_bounds, bounds-in_turn all)
 
 -- ---- properties of such a draft
 
@@ -118,18 +106,7 @@ consistent-from_made = grind (arith, consistent-from_none, objective-declared)
 -- a right-hand side of a row of type N is never rejected
 pub free_rhs-passes : (all : Draft) (row : List ℕ) (value : Number) → IsMade all → is_free_row all row ≡ true
     → refusals all (declare_rhs row value) ≡ []
-free_rhs-passes all row value made free = let there = definition_there _ free in
-    let no_objective = not_both _ (has_name _ row) ((declared_names-from_made all made).apart row) there in
-    let filled = has_name _ row || (is_row_by_limits all row || (is_objective all row && is_some all.constant)) in
-    pass _ _ ((filled, DuplicateRhs) ∷ []) (ap not (or_right _ (has_name _ row) there)) (pass _ _ [] (both_false
-    _ _ (made.no_free_rhs row free) (both_false _ _ (not_by_limits _ free) (ap (λ b. b && is_some all.constant) no_objective))) refl)
-  where
-    definition_there : (o : Option RowDefinition) → option_map_or is_free_definition o false ≡ true → is_some o ≡ true
-    definition_there = grind arith
-
-    not_by_limits : (o : Option RowDefinition) → option_map_or is_free_definition o false ≡ true
-        → option_map_or is_definition_by_limits o false ≡ false
-    not_by_limits = grind arith
+free_rhs-passes all row value made free = grind (arith, not_both, declared_names-from_made all made, pass, or_right, both_false)
 
 -- each entry of it is valid, also before the objective is named
 pub good-from_made : (all : Draft) → IsMade all → IsGood all all
@@ -156,7 +133,7 @@ no_fault-from_made all m made there meant = no_fault-from_meant all m (well_form
 module _ (all : Draft) (made : IsMade all) (there : is_some all.objective ≡ true) where
   -- the draft means what its declarations mean
   means : (m : LinearModel) → DraftMeans all m → Means made.declarations m
-  means m meant = record { consistent = consistent-from_made all made there; meant = subst (λ (draft : Draft). DraftMeans draft m) made.draft meant }
+  means m meant = record { consistent = consistent-from_made all made there; meant = subst (λ draft. DraftMeans draft m) made.draft meant }
 
   draft_means : (m : LinearModel) → Means made.declarations m → DraftMeans all m
   draft_means = grind arith
@@ -222,11 +199,11 @@ named_so : {X : Type 0} (p : List ℕ → Bool) (name : List ℕ) (es : List (Li
     → has_name es name ≡ true → p name ≡ true
 named_so p name [] all h = cc
 named_so {X} p name (e ∷ es) all h =
-    elim (eq_by_cmp bytes_cmp name e.0) as (λ b. eq_by_cmp bytes_cmp name e.0 ≡ b
+    elim (eq_by_cmp bytes_cmp _ e.0) as (λ b. eq_by_cmp bytes_cmp name e.0 ≡ b
     → is_some (cond b (Some e.1) (find bytes_cmp name es)) ≡ true → p name ≡ true) [
       | true ↦ λ same _. ap p (same_name name e.0 (texts_ties name e.0 ∙ same))
-          ∙ first_so (p e.0) (list_all (λ (e : List ℕ × X). p e.0) es) all
-      | false ↦ λ _ there. named_so p name es (second_so (p e.0) (list_all (λ (e : List ℕ × X). p e.0) es) all) there
+          ∙ first_so _ _ all
+      | false ↦ λ _ there. named_so p _ es (second_so (p e.0) (list_all (λ (e : List ℕ × X). p e.0) es) all) there
     ] refl h
 
 -- a declared column has a legal name
@@ -273,12 +250,7 @@ made_sides {inner} {all} column lower upper seen made l u none = grind (arith, m
 keyed_so : (p : CoefficientKey → Bool) (key : CoefficientKey) (es : List (CoefficientKey × Number)) → list_all (λ e. p e.0) es ≡ true
     → is_some (find key_cmp key es) ≡ true → p key ≡ true
 keyed_so p key [] all h = cc
-keyed_so p key (e ∷ es) all h =
-    elim (eq_by_cmp key_cmp key e.0) as (λ b. eq_by_cmp key_cmp key e.0 ≡ b → is_some (cond b (Some e.1) (find key_cmp key es)) ≡ true
-    → p key ≡ true) [
-      | true ↦ λ same _. ap p (same_key key e.0 (equal_from _ same)) ∙ first_so _ (list_all _ es) all
-      | false ↦ λ _ there. keyed_so p key es (second_so _ (list_all _ es) all) there
-    ] refl h
+keyed_so p key (e ∷ es) all h = grind (arith, same_key key e.0, equal_from, keyed_so p key es)
 
 -- the row (or objective) and the column of a declared coefficient are declared
 pub coefficients_known : (all : Draft) → IsMade all → CoefficientsAreKnown all

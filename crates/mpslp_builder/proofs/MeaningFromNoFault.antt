@@ -8,7 +8,7 @@ use Prelude.{InfiniteLimit, RangeInexact, LimitTooLarge, LimitsCrossed, Negative
 use Prelude.{first_so, is_decimal, is_negative, size_of, decimal_of, scaled, at_scale, negated, sum_of, difference_of, Row, is_at_most}
 use Prelude.{is_lower_side, is_upper_side, are_sides, has_bounded_distance, is_given, by_type, by_limits, have_infinite_side, sides}
 use Prelude.{is_large_limit, Limit, MinusInf, Finite, PlusInf, Free, AtMost, AtLeast, both_so, nor, rules, ◌<◌, sym, ap, subst, ◌∙◌, length}
-use Prelude.{◌||◌, ℤ, is_some, unwrap_or, texts_ties, T, eq_by_cmp, is_lt, find, is_sorted, below_all, zero_number, is_zero, same_bytes}
+use Prelude.{◌||◌, ℤ, is_some, unwrap_or, texts_ties, T, is_lt, is_sorted, below_all, zero_number, is_zero, same_bytes}
 use Prelude.{is_mps_name, is_one_of, bytes_cmp, LinearModel, CoefficientKey, key_cmp, is_sound_row, is_sound_column, is_sound_coefficient}
 use Prelude.{is_plus_infinite, is_minus_infinite, Declarations, draft_of, has_name, has_row, has_column, plain_limits, zero_limit}
 use Prelude.{one_limit, column_of, rhs_or_zero, row_limits, row_entry, model_of, objective_name, DraftMeans, Means, are_given, is_legal}
@@ -45,19 +45,11 @@ pub record HasNoFault (all : Draft) : Type 0 where
 
 none_filtered : {X : Type 0} (p : X → Bool) (xs : List X) → filter p xs ≡ [] → list_all (λ x. not (p x)) xs ≡ true
 none_filtered p [] h = refl
-none_filtered {X} p (x ∷ xs) h =
-    elim (p x) as (λ b. cond b (x ∷ filter p xs) (filter p xs) ≡ [] → (not b && list_all (λ x. not (p x)) xs) ≡ true) [
-      | true ↦ λ e. cc
-      | false ↦ λ e. none_filtered p xs e
-    ] h
+none_filtered {X} p (x ∷ xs) h = grind (arith, none_filtered p xs)
 
 filtered_none : {X : Type 0} (p : X → Bool) (xs : List X) → list_all (λ x. not (p x)) xs ≡ true → filter p xs ≡ []
 filtered_none p [] h = refl
-filtered_none {X} p (x ∷ xs) h =
-    elim (p x) as (λ b. (not b && list_all (λ x. not (p x)) xs) ≡ true → cond b (x ∷ filter p xs) (filter p xs) ≡ []) [
-      | true ↦ λ e. cc
-      | false ↦ λ e. filtered_none p xs e
-    ] h
+filtered_none {X} p (x ∷ xs) h = grind (arith, filtered_none p xs)
 
 none_mapped : {X Y : Type 0} (f : X → Y) (xs : List X) → map f xs ≡ [] → xs ≡ []
 none_mapped f [] h = refl
@@ -98,8 +90,8 @@ branch_of = grind arith
 -- No error is reported, so there is none.
 pub no_fault-from_none : (all : Draft) → file_fault all ≡ None → HasNoFault all
 no_fault-from_none all h =
-    let there = is_nonempty all.columns in
-    let none = whole_fault _ None in
+    let there = is_nonempty _ in
+    let none = whole_fault _ _ in
     let k8 = SemiBounds ∷ [] in
     let k7 = BinaryBounds ∷ k8 in
     let k6 = BoundsCrossed ∷ k7 in
@@ -222,8 +214,7 @@ pub record IsSoundForm (limits : Option Row) : Type 0 where
 from_limits : (limits : Option Row) → may_have_sides limits ≡ true → is_inexact limits ≡ false → is_too_large limits ≡ false
     → is_crossed limits ≡ false → IsSoundForm limits
 from_limits None m a b c = cc
-from_limits (Some row) m a b c = let s = limits-from_tests row.lower _ (first_so _ _ m) (second_so _ _ m) a b c in
-    record { row = row; is = refl; sides = s.sides; distance = s.distance }
+from_limits (Some row) m a b c = grind (arith, limits-from_tests row.lower)
 
 pub sound-from_no_fault : (definition : RowDefinition) (b : Number) (r : Option Number) → is_legal_form definition ≡ true
     → is_decimal b ≡ true → has_infinite_rhs definition b r ≡ false → is_inexact (limits_of definition b r) ≡ false → is_too_large
@@ -248,10 +239,7 @@ named_row = grind arith
 
 pub one_of-names : {X : Type 0} (q : List ℕ) (es : List (List ℕ × X)) → is_one_of (names_in es) q ≡ has_name es q
 one_of-names q [] = refl
-one_of-names {X} q (e ∷ es) =
-    ap (λ (b : Bool). b || is_one_of (names_in es) q) (texts_ties q e.0)
-    ∙ elim (eq_by_cmp bytes_cmp q e.0) as (λ b. (b || is_one_of (names_in es) q) ≡ is_some (cond b (Some e.1) (find bytes_cmp q es)))
-    [ true ↦ refl | false ↦ one_of-names q es ]
+one_of-names {X} q (e ∷ es) = ap (λ b. b || is_one_of (names_in es) q) (texts_ties q e.0) ∙ (grind (arith, one_of-names q es))
 
 below-mapped : {X Y : Type 0} (g : List ℕ × X → Y) (x : List ℕ) (es : List (List ℕ × X))
     → below_all bytes_cmp x (map (λ e. (e.0, g e)) es) ≡ below_all bytes_cmp x es
@@ -326,7 +314,7 @@ row_tests all row = let b = rhs_or_zero all row.0 in let r = at_name all.ranges 
 
 sound_row : (all : Draft) (row : List ℕ × RowDefinition) → list_all (λ e. is_decimal e.1) all.rhs_values ≡ true → row_tests all row ≡ true
     → IsSoundForm (row_limits all row)
-sound_row all row sides h = let b = rhs_or_zero all _ in let r = at_name all.ranges row.0 in let limits = limits_of row.1 b r in
+sound_row all row sides h = let b = rhs_or_zero all _ in let r = at_name _ row.0 in let limits = limits_of row.1 b r in
     let legal = are_given row.1 && not (have_infinite_side row.1) in let a1 = is_mps_name row.0 && legal in
     let t4 = not (is_crossed limits) in let t3 = not (is_too_large limits) in let t2 = not (is_inexact limits) in
     let t1 = not (has_infinite_rhs _ b r) in let h1 = second_so a1 (t1 && (t2 && (t3 && t4))) h in
@@ -359,8 +347,8 @@ abbrev column_tests : Draft → List ℕ → Bool
 column_tests all name = is_mps_name name && (not (has_crossed_bounds all name) && not (has_semi_bounds all name))
 
 tested_column : (all : Draft) (name : List ℕ) → IsGood all all → column_tests all name ≡ true → is_sound_column (name, column_of all name) ≡ true
-tested_column all name g h = let crossed = not _ in let semi = not _ in let rest = second_so _ _ h in
-    sound_column all name g (first_so (is_mps_name name) (crossed && semi) h) (first_so crossed semi rest) (second_so _ _ rest)
+tested_column all name g h = let crossed = not _ in let semi = not _ in let rest = second_so _ _ h in sound_column all _ g (first_so
+    (is_mps_name name) (crossed && semi) h) (first_so crossed semi rest) (second_so _ _ rest)
 
 some_columns : {X Y : Type 0} (f : X → Y) (xs : List X) → is_nonempty xs ≡ true → 0 < length (map f xs)
 some_columns = grind arith
@@ -368,15 +356,15 @@ some_columns = grind arith
 -- ---- the entries of the model of a draft
 
 pub rows_are : (all : Draft) → IsGood all all → maps.entries (model_of all).rows ≡ map (row_entry all) all.rows
-rows_are all g = maps.entries-from_sorted bytes_cmp (map (row_entry all) all.rows)
-    (subst T (sym (sorted-mapped (λ row. unwrap_or (row_limits all row) (plain_limits Free zero_number)) all.rows)) g.rows_sorted)
+rows_are all g = maps.entries-from_sorted _ _ (subst T (sym (sorted-mapped (λ row. unwrap_or (row_limits all row) (plain_limits Free
+    zero_number)) all.rows)) g.rows_sorted)
 
 pub columns_are : (all : Draft) → IsGood all all → maps.entries (model_of all).columns ≡ map (λ column. (column.0, column_of all column.0)) all.columns
-columns_are all g = maps.entries-from_sorted bytes_cmp (map (λ column. (column.0, column_of all column.0)) all.columns)
-    (subst T (sym (sorted-mapped (λ column. column_of all column.0) all.columns)) g.columns_sorted)
+columns_are all g =
+    maps.entries-from_sorted _ _ (subst T (sym (sorted-mapped (λ column. column_of all column.0) all.columns)) g.columns_sorted)
 
 pub column_names : (all : Draft) → IsGood all all → maps.keys (model_of all).columns ≡ names_in all.columns
-column_names all g = ap names_in (columns_are all g) ∙ names-mapped (λ column. column_of all column.0) all.columns
+column_names all g = ap names_in (columns_are all g) ∙ names-mapped (λ column. column_of all _) _
 
 -- ---- without an error the model is meant
 
@@ -387,8 +375,8 @@ meant-from_no_fault all w none =
     let g = w.good in
     let f = no_fault-from_none all none in
     let rows = rows_pass_meaning all g f in
-    let is_kept : CoefficientKey × Number → Bool = λ entry. not (is_zero entry.1) in
-    let kept_are : maps.entries m.coefficients ≡ filter is_kept all.coefficients = maps.entries-from_sorted
+    let is_kept : CoefficientKey × Number → Bool = λ entry. not _ in
+    let kept_are = maps.entries-from_sorted
     key_cmp _ (sorted-filtered is_kept all.coefficients g.coefficients_sorted) in
     let row_names : maps.keys m.rows ≡ names_in _ = ap names_in (rows_are all g) ∙ names-mapped _ _ in
     record {
@@ -483,12 +471,7 @@ exact_distance = grind arith
 
 near : (l u : Limit) → is_lower_side l ≡ true → is_upper_side u ≡ true → has_bounded_distance l u ≡ true
     → (is_inexact (Some (record { lower = l; upper = u })) ≡ false) × (is_too_large (Some (record { lower = l; upper = u })) ≡ false)
-near (Finite a) (Finite b) h k d =
-    let e = exact_distance _ d in (
-      e.0,
-      both_false _ _ (finite_size a h)
-          (both_false _ _ (finite_size b k) e.1),
-    )
+near (Finite a) (Finite b) h k d = search (rules, exact_distance, both_false, finite_size a h, finite_size b k)
 near (Finite a) PlusInf h k d = grind arith
 near MinusInf MinusInf h k d = (refl, refl)
 near MinusInf (Finite b) h k d = grind arith
@@ -508,7 +491,7 @@ tests_of definition b r name None is there h = absurd cc
 tests_of definition b r name (Some row) is there h =
     let rest = second_so _ _ h in
     let s = first_so _ _ rest in
-    let n = near row.lower row.upper (lower_of row.lower row.upper s) (upper_of row.lower row.upper s) (second_so _ _ rest) in
+    let n = near _ row.upper (lower_of row.lower row.upper s) (upper_of row.lower row.upper s) (second_so _ _ rest) in
     record {
       finite = so_not _ (no_infinite_side _ b r (ap sides_hold is ∙ s));
       exact = so_not _ (ap is_inexact is ∙ n.0);
@@ -524,8 +507,8 @@ not_not : (b : Bool) → b ≡ true → not (not b) ≡ true
 not_not = grind arith
 
 column_straight : (all : Draft) (name : List ℕ) → is_sound_column (name, column_of all name) ≡ true → not (has_crossed_bounds all name) ≡ true
-column_straight all name h = let l = lower_bound all name in let u = upper_bound all name in let suited = suits _ l u in
-    not_not _ (straight_of l u (first_so _ suited (second_so _ _ h)))
+column_straight all name h = let l = lower_bound all _ in let u = upper_bound all _ in let suited = suits _ l u in not_not _ (straight_of l
+    u (first_so _ suited (second_so _ _ h)))
 
 column_suited : (all : Draft) (name : List ℕ) → is_sound_column (name, column_of all name) ≡ true → not (has_semi_bounds all name) ≡ true
 column_suited all name h = let sides = are_sides (lower_bound all name) (upper_bound all _) in
@@ -540,8 +523,8 @@ no_fault-from_meant all m w meant =
     let n = model_of all in
     let sound = subst IsSound meant.model meant.sound in
     let g = w.good in
-    let rows : list_all (λ row. is_sound_row (row_entry all row) && is_some (row_limits all row)) all.rows ≡ true =
-    and_all (λ row. is_sound_row (row_entry all row)) (λ row. is_some (row_limits all row)) all.rows
+    let rows =
+    and_all (λ row. is_sound_row (row_entry all row)) (λ row. is_some _) all.rows
     (map_all (row_entry all) is_sound_row all.rows ∙ ap (list_all _) (sym (rows_are all g)) ∙ sound.rows) meant.exact_limits in
     let columns : list_all (λ column. is_sound_column (column.0, column_of all column.0)) all.columns ≡ true =
     map_all (λ column. (column.0, column_of all column.0)) is_sound_column all.columns ∙ ap (list_all _) (sym (columns_are all g))

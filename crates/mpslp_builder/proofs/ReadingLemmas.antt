@@ -8,8 +8,8 @@ use Prelude.{has_name, has_coefficient, is_objective, is_free_row, is_row_by_lim
 use Prelude.{range_of, cells_of, as_part, name_of_objective, objective_rhs, draft, IsNumbered, row_key_of, row_name, row_satisfies}
 use Prelude.{column_satisfies, cells_at, is_objective_ref, IsOnceEach, ObjectiveParts, RowParts, ColumnParts, RowRef, Objective, Tables}
 use Prelude.{declared_of, lower_of, upper_of, declared_in, drop, ◌+◌, ◌-◌, map, filter, filter_map, slice_index_or, unwrap_or, list_any}
-use Prelude.{first_so, second_so, is_lt, is_eq, Ordering, Less, Equal, Greater, put, is_sorted, by_order, below_all, T, drop_more}
-use Prelude.{zero_number, both_so, nor, true_from, T_from, head_of, is_nonempty, IsOnce, RowFault, ColumnFault, is_sorted-sorted_of, Draft}
+use Prelude.{second_so, is_lt, Ordering, Less, Greater, put, is_sorted, below_all, T, drop_more}
+use Prelude.{zero_number, both_so, nor, true_from, head_of, is_nonempty, IsOnce, RowFault, ColumnFault, is_sorted-sorted_of, Draft}
 use Prelude.{names_in, row_passes, whole_fault, file_fault, no_part, row_test, bounds_test, kind_of_row_fault, kind_of_column_fault}
 use Prelude.{row_fails, column_fails, is_wrong_row, is_wrong_column, lesser, is_below, least_name, entry_name, named_fault, FaultKind}
 use Prelude.{less_from, not, is_infinite_size, is_plus_infinite, is_minus_infinite, Limit, UnknownRow, UnknownColumn, DuplicateRhs}
@@ -22,19 +22,13 @@ use Rattle.mpslp_builder.proofs.TableDrafts.{found_there, find_own, find_given_o
 use Rattle.mpslp_builder.proofs.{RefusalLemmas.{first_none, rest_none, left_none, right_none}, SlotLemmas.has-put_key}
 use Rattle.mpslp_model_core.specs.declared.limits.RowFault.TheVariants as rows
 use Rattle.mpslp_model_core.specs.declared.bounds.ColumnFault.TheVariants as columns
-use Rattle.mpslp_types.specs.declared.faults.FaultKind.TheVariants as kinds
 
 -- ---- what tables state of a number is what their draft states of the name
 
 -- a row or a column with a number is declared
 pub number_there : {V X : Type 0} (part : V → X) (es : List (List ℕ × V)) (i : ℕ) (name : List ℕ)
     → option_map (λ e. e.0) (slice_get es i) ≡ Some name → true ≡ has_name (sorted_of bytes_cmp (each_part part es)) name
-number_there part es i name is =
-    elim (has_name (sorted_of bytes_cmp (each_part part es)) name) as (λ b. has_name (sorted_of bytes_cmp (each_part part es)) name ≡ b
-    → true ≡ b) [
-      | true ↦ λ _. refl
-      | false ↦ λ absent. absurd (there_found part es i name is (absent-each_part part name es absent))
-    ] refl
+number_there part es i name is = grind (arith, there_found part es i name is, absent-each_part part name es)
 
 -- ---- the entry of a number
 
@@ -53,7 +47,7 @@ entry_at (e ∷ es) (suc i) name h = grind (arith, at, entry_at es i name h)
 
 -- it is one of the map's
 pub within : {V : Type 0} (es : List (List ℕ × V)) (i : ℕ) (name : List ℕ) → HasEntryAt es i name → i < length es
-within es i name s = slice_get_within es i (s.key, s.parts) s.at
+within es i name s = slice_get_within es i _ s.at
 
 -- the entry at the number
 pub own_parts : {V : Type 0} (es : List (List ℕ × V)) (i : ℕ) (name : List ℕ) (s : HasEntryAt es i name) (key : List ℕ) (parts : V)
@@ -75,11 +69,11 @@ module _ (sense : Option Sense) (constant : Option Number) (t : Tables) (once : 
   module _ (i : ℕ) (c : List ℕ) (s : HasEntryAt t.columns.entries i c) where
     -- a part of the column is what is found by its name
     pub given_at : {X : Type 0} (f : ColumnParts → Option X) → at_name (sorted_of bytes_cmp (given_parts f t.columns.entries)) c ≡ f s.parts
-    given_at f = find-sorted_of bytes_cmp bytes_total c (given_parts f t.columns.entries) ∙ ap (λ (name : List ℕ). find bytes_cmp name
-        (given_parts f t.columns.entries)) (sym s.named) ∙ find_given_own cells_of f t.columns.entries i s.key s.parts once.columns s.at
+    given_at f = find-sorted_of _ bytes_total c _ ∙ ap (λ name. find bytes_cmp name (given_parts f _)) (sym s.named) ∙ find_given_own _ f _
+        i _ _ once.columns s.at
 
     pub stated_at : (f : ColumnParts → Bool) → column_satisfies t i f ≡ f s.parts
-    stated_at f = ap (λ (o : Option (List ℕ × ColumnParts)). option_map_or (λ e. f e.1) o false) s.at
+    stated_at f = ap (λ o. option_map_or (λ e. f e.1) o false) s.at
 
     -- whether a part is declared
     pub part_at : {X : Type 0} (f : ColumnParts → Option X)
@@ -89,7 +83,7 @@ module _ (sense : Option Sense) (constant : Option Number) (t : Tables) (once : 
     -- whether the column passes a test
     pub flag_at : (f : ColumnParts → Bool)
         → has_name (sorted_of bytes_cmp (given_parts (λ parts. as_part (f parts)) t.columns.entries)) c ≡ column_satisfies t i f
-    flag_at f = ap is_some (given_at (λ parts. as_part (f parts))) ∙ part_there (f s.parts) ∙ sym (stated_at f)
+    flag_at f = ap is_some (given_at (λ parts. as_part (f parts))) ∙ part_there _ ∙ sym (stated_at f)
 
     pub integer_at : is_integer (draft sense constant t) c ≡ column_satisfies t i (λ parts. parts.marked || (parts.integer || parts.binary))
     integer_at = (λ j. (flag_at (λ parts. parts.marked) ∙ stated_at (λ parts. parts.marked)) j || ((flag_at (λ parts. parts.integer)
@@ -97,7 +91,7 @@ module _ (sense : Option Sense) (constant : Option Number) (t : Tables) (once : 
         ∙ sym (stated_at (λ parts. parts.marked || (parts.integer || parts.binary)))
 
     pub own_cells : cells_at t i ≡ cells_of s.parts
-    own_cells = ap (λ (o : Option (List ℕ × ColumnParts)). option_map_or (λ e. cells_of e.1) o []) s.at
+    own_cells = ap (λ o. option_map_or (λ e. cells_of e.1) o []) s.at
 
     -- whether a coefficient is declared
     pub cell_at : (n : ℕ) (r : List ℕ) → IsNumbered t → row_name t n ≡ Some r
@@ -111,33 +105,31 @@ module _ (sense : Option Sense) (constant : Option Number) (t : Tables) (once : 
   module _ (numbered : IsNumbered t) where
     module _ (i : ℕ) (r : List ℕ) (s : HasEntryAt t.rows.entries i r) where
       row_stated : (f : RowParts → Bool) → option_map_or (λ (e : List ℕ × RowParts). f e.1) (slice_get t.rows.entries i) false ≡ f s.parts
-      row_stated f = ap (λ (o : Option (List ℕ × RowParts)). option_map_or (λ e. f e.1) o false) s.at
+      row_stated f = ap (λ o. option_map_or (λ e. f e.1) o false) s.at
 
       form_at : at_name (draft sense constant t).rows r ≡ Some (definition_of s.parts)
-      form_at = find-sorted_of bytes_cmp bytes_total r (each_part definition_of t.rows.entries) ∙ ap (λ (name : List ℕ). find bytes_cmp name
-          (each_part definition_of t.rows.entries)) (sym s.named) ∙ find_own definition_of t.rows.entries i s.key s.parts once.rows s.at
+      form_at = find-sorted_of _ bytes_total r _ ∙ ap (λ name. find bytes_cmp name (each_part definition_of _)) (sym s.named) ∙ find_own _ _
+          i _ _ once.rows s.at
 
       pub range_at : at_name (draft sense constant t).ranges r ≡ range_of s.parts
-      range_at = find-sorted_of bytes_cmp bytes_total r (given_parts range_of t.rows.entries)
-          ∙ ap (λ (name : List ℕ). find bytes_cmp name (given_parts range_of t.rows.entries)) (sym s.named)
-          ∙ find_given_own definition_of range_of t.rows.entries i s.key s.parts once.rows s.at
+      range_at = find-sorted_of _ bytes_total r _ ∙ ap (λ name. find bytes_cmp name (given_parts range_of t.rows.entries)) (sym s.named) ∙
+          find_given_own _ _ _ i _ _ once.rows s.at
 
       pub rhs_at : at_name (draft sense constant t).rhs_values r ≡ rhs_of s.parts
-      rhs_at = find-sorted_of bytes_cmp bytes_total r (objective_rhs t.objective ++ given_parts rhs_of t.rows.entries)
-          ∙ ap (λ (name : List ℕ). find bytes_cmp name (objective_rhs t.objective ++ given_parts rhs_of t.rows.entries)) (sym s.named)
-          ∙ find-two bytes_cmp s.key (objective_rhs t.objective) (given_parts rhs_of t.rows.entries)
-          ∙ ap (λ (o : Option Number). or_else o (find bytes_cmp s.key (given_parts rhs_of t.rows.entries)))
-          (other_rhs sense constant t.objective t.rows.entries t.columns.entries i s.key s.parts s.parts s.at numbered)
-          ∙ find_given_own definition_of rhs_of t.rows.entries i s.key s.parts once.rows s.at
+      rhs_at = find-sorted_of _ bytes_total r _ ∙ ap (λ name. find bytes_cmp name (objective_rhs t.objective ++ given_parts rhs_of
+          t.rows.entries)) (sym s.named) ∙ find-two bytes_cmp s.key (objective_rhs t.objective) (given_parts rhs_of t.rows.entries) ∙ ap (λ
+          (o : Option Number). or_else o (find bytes_cmp s.key (given_parts rhs_of t.rows.entries))) (other_rhs sense constant t.objective
+          t.rows.entries t.columns.entries i s.key s.parts s.parts s.at numbered) ∙ find_given_own definition_of rhs_of t.rows.entries i
+          s.key s.parts once.rows s.at
 
       no_objective : is_objective (draft sense constant t) r ≡ false
       no_objective =
-          elim (name_of_objective t.objective) as (λ o. name_of_objective t.objective ≡ o → option_map_or (same_bytes r) o false ≡ false) [
+          elim (name_of_objective _) as (λ o. name_of_objective t.objective ≡ o → option_map_or (same_bytes r) o false ≡ false) [
             | None ↦ λ _. refl
             | Some name ↦ λ there.
-                elim (same_bytes r name) as (λ b. same_bytes r name ≡ b → b ≡ false) [
+                elim (same_bytes r _) as (λ b. same_bytes r name ≡ b → b ≡ false) [
                   | true ↦ λ tie.
-                      let same : r ≡ name = (bytes_decides r name).0 tie in
+                      let same = (bytes_decides r _).0 tie in
                       let here : row_name t (suc i) ≡ Some r = ap (option_map (λ (e : List ℕ × RowParts). e.0)) s.at ∙ ap Some s.named in
                       let no : zero ≡ suc i = numbered.apart zero (suc i) r (there ∙ ap Some (sym same)) here in
                       cc
@@ -148,41 +140,40 @@ module _ (sense : Option Sense) (constant : Option Number) (t : Tables) (once : 
     module _ (o : ObjectiveParts) (there : t.objective ≡ Some o) where
       no_such_row : {X : Type 0} (f : RowParts → X) → find bytes_cmp o.name (each_part f t.rows.entries) ≡ None
       no_such_row {X} f =
-          elim (is_some (find bytes_cmp o.name (each_part f t.rows.entries))) as (λ b. is_some
+          elim (is_some _) as (λ b. is_some
           (find bytes_cmp o.name (each_part f t.rows.entries)) ≡ b → find bytes_cmp o.name (each_part f t.rows.entries) ≡ None) [
             | true ↦ λ is.
-                let row = found_there f t.rows.entries o.name is in
-                let no : zero ≡ suc row.0 = numbered.apart zero (suc row.0) o.name (ap name_of_objective there) row.1 in
+                let row = found_there f _ _ is in
+                let no = numbered.apart _ _ _ (ap name_of_objective there) row.1 in
                 absurd (zero_apart row.0 no)
-            | false ↦ λ none. none_there (find bytes_cmp o.name (each_part f t.rows.entries)) none
+            | false ↦ λ none. none_there _ none
           ] refl
         where
           zero_apart : (n : ℕ) → zero ≡ suc n → ⊥
           zero_apart n h = cc
 
       no_form : at_name (draft sense constant t).rows o.name ≡ None
-      no_form = find-sorted_of bytes_cmp bytes_total o.name (each_part definition_of t.rows.entries) ∙ no_such_row definition_of
+      no_form = find-sorted_of _ bytes_total _ (each_part definition_of t.rows.entries) ∙ no_such_row definition_of
 
       no_range : at_name (draft sense constant t).ranges o.name ≡ None
-      no_range = find-sorted_of bytes_cmp bytes_total o.name (given_parts range_of t.rows.entries)
-          ∙ none_given definition_of range_of o.name t.rows.entries (no_such_row definition_of)
+      no_range = find-sorted_of _ bytes_total o.name (given_parts range_of t.rows.entries) ∙ none_given definition_of range_of o.name
+          t.rows.entries (no_such_row definition_of)
 
       own_rhs : (value : Option Number) → find bytes_cmp o.name (option_map_or (λ x. (o.name, x) ∷ []) value []) ≡ value
       own_rhs None = refl
-      own_rhs (Some x) = ap (λ (b : Bool). cond b (Some x) None) (own_tie o.name)
+      own_rhs (Some x) = ap (λ b. cond b (Some x) None) (own_tie o.name)
         where
           own_tie : (name : List ℕ) → eq_by_cmp bytes_cmp name name ≡ true
           own_tie name = sym (texts_ties name name) ∙ nat_list_eq_equiv.refl name
 
       objective_rhs_at : at_name (draft sense constant t).rhs_values o.name ≡ o.rhs
-      objective_rhs_at = find-sorted_of bytes_cmp bytes_total o.name (objective_rhs t.objective ++ given_parts rhs_of t.rows.entries)
-          ∙ ap (λ (parts : Option ObjectiveParts). find bytes_cmp o.name (objective_rhs parts ++ given_parts rhs_of t.rows.entries)) there
-          ∙ find-two bytes_cmp o.name (objective_rhs (Some o)) (given_parts rhs_of t.rows.entries) ∙ (λ j. or_else (own_rhs o.rhs j)
-          (none_given definition_of rhs_of o.name t.rows.entries (no_such_row definition_of) j)) ∙ found_first o.rhs
+      objective_rhs_at = find-sorted_of _ bytes_total _ (objective_rhs t.objective ++ given_parts rhs_of t.rows.entries) ∙ ap (λ (parts :
+          Option ObjectiveParts). find bytes_cmp o.name (objective_rhs parts ++ given_parts rhs_of t.rows.entries)) there ∙ find-two
+          bytes_cmp o.name (objective_rhs (Some o)) (given_parts rhs_of t.rows.entries) ∙ (λ j. or_else (own_rhs o.rhs j) (none_given
+          definition_of rhs_of o.name t.rows.entries (no_such_row definition_of) j)) ∙ found_first o.rhs
 
       own_name : is_objective (draft sense constant t) o.name ≡ true
-      own_name = ap (λ (parts : Option ObjectiveParts). option_map_or (same_bytes o.name) (name_of_objective parts) false) there
-          ∙ nat_list_eq_equiv.refl o.name
+      own_name = ap (λ parts. option_map_or (same_bytes o.name) (name_of_objective parts) false) there ∙ nat_list_eq_equiv.refl o.name
 
     -- the objective has a right-hand side
     pub has_objective_rhs_at : has_objective_rhs (draft sense constant t) ≡ option_map_or (λ o. is_some o.rhs) t.objective false
@@ -203,51 +194,47 @@ module _ (sense : Option Sense) (constant : Option Number) (t : Tables) (once : 
 
     -- the objective has parts, with the name
     objective_stated : (o : ObjectiveParts) → t.objective ≡ Some o → (f : ObjectiveParts → Bool) → option_map_or f t.objective false ≡ f o
-    objective_stated o there f = ap (λ (parts : Option ObjectiveParts). option_map_or f parts false) there
+    objective_stated o there f = ap (λ parts. option_map_or f parts false) there
 
     pub free_at : (p : RowRef) (r : List ℕ) → row_name t (row_key_of p) ≡ Some r
         → is_free_row (draft sense constant t) r ≡ row_satisfies t p (λ o. false) (λ row. is_free_definition row.definition)
-    free_at Objective r is = let o = objective_there t.objective r is in ap (λ (name : List ℕ). is_free_row (draft sense constant t) name)
-        (sym o.1.1) ∙ ap (λ (definition : Option RowDefinition). option_map_or is_free_definition definition false) (no_form o.0 o.1.0)
-        ∙ sym (objective_stated o.0 o.1.0 (λ o. false))
-    free_at (Row i) r is = let s = entry_at t.rows.entries i r is in ap (λ (definition : Option RowDefinition). option_map_or
-        is_free_definition definition false) (form_at i r s) ∙ sym (row_stated i r s (λ row. is_free_definition row.definition))
+    free_at Objective r is = let o = objective_there _ r is in ap (λ name. is_free_row (draft sense constant t) name) (sym o.1.1) ∙ ap (λ
+        definition. option_map_or is_free_definition definition false) (no_form o.0 o.1.0) ∙ sym (objective_stated o.0 o.1.0 (λ o. false))
+    free_at (Row i) r is = let s = entry_at _ i r is in ap (λ definition. option_map_or is_free_definition definition false) (form_at i r s)
+        ∙ sym (row_stated i r s (λ row. is_free_definition row.definition))
 
     pub objective_at : (p : RowRef) (r : List ℕ) → row_name t (row_key_of p) ≡ Some r → is_objective (draft sense constant t) r ≡ is_objective_ref p
-    objective_at Objective r is = let o = objective_there t.objective r is in
-        ap (λ (name : List ℕ). is_objective (draft sense constant t) name) (sym o.1.1) ∙ own_name o.0 o.1.0
+    objective_at Objective r is =
+        let o = objective_there _ r is in ap (λ name. is_objective (draft sense constant t) name) (sym o.1.1) ∙ own_name o.0 o.1.0
     objective_at (Row i) r is = no_objective i r (entry_at t.rows.entries i r is)
 
     pub has_range_at : (p : RowRef) (r : List ℕ) → row_name t (row_key_of p) ≡ Some r
         → (has_name (draft sense constant t).ranges r || is_row_by_limits (draft sense constant t) r)
         ≡ row_satisfies t p (λ o. false) (λ row. is_some row.range || is_definition_by_limits row.definition)
-    has_range_at Objective r is = let o = objective_there t.objective r is in
-        ap (λ (name : List ℕ). has_name (draft sense constant t).ranges name || is_row_by_limits (draft sense constant t) name) (sym o.1.1)
-        ∙ (λ j. is_some (no_range o.0 o.1.0 j) || option_map_or is_definition_by_limits (no_form o.0 o.1.0 j) false)
-        ∙ sym (objective_stated o.0 o.1.0 (λ o. false))
-    has_range_at (Row i) r is = let s = entry_at t.rows.entries i r is in
-        (λ j. is_some (range_at i r s j) || option_map_or is_definition_by_limits (form_at i r s j) false)
-        ∙ sym (row_stated i r s (λ row. is_some row.range || is_definition_by_limits row.definition))
+    has_range_at Objective r is = let o = objective_there _ r is in ap (λ name. has_name (draft sense constant t).ranges name ||
+        is_row_by_limits (draft sense constant t) name) (sym o.1.1) ∙ (λ j. is_some (no_range o.0 o.1.0 j) || option_map_or
+        is_definition_by_limits (no_form o.0 o.1.0 j) false) ∙ sym (objective_stated o.0 o.1.0 (λ o. false))
+    has_range_at (Row i) r is = let s = entry_at _ i r is in (λ j. is_some (range_at i r s j) || option_map_or is_definition_by_limits
+        (form_at i r s j) false) ∙ sym (row_stated i r s (λ row. is_some row.range || is_definition_by_limits row.definition))
 
     pub has_rhs_at : (b : Bool) (p : RowRef) (r : List ℕ) → row_name t (row_key_of p) ≡ Some r → (has_name (draft sense constant
         t).rhs_values r || (is_row_by_limits (draft sense constant t) r || (is_objective (draft sense constant t) r && b)))
         ≡ row_satisfies t p (λ o. is_some o.rhs || b) (λ row. is_some row.rhs || is_definition_by_limits row.definition)
-    has_rhs_at b Objective r is = let o = objective_there t.objective r is in ap (λ (name : List ℕ). has_name (draft sense constant
+    has_rhs_at b Objective r is = let o = objective_there _ r is in ap (λ name. has_name (draft sense constant
         t).rhs_values name || (is_row_by_limits (draft sense constant t) name || (is_objective (draft sense constant t) name && b)))
         (sym o.1.1) ∙ (λ j. is_some (objective_rhs_at o.0 o.1.0 j) || (option_map_or is_definition_by_limits (no_form o.0 o.1.0 j) false
         || (own_name o.0 o.1.0 j && b))) ∙ sym (objective_stated o.0 o.1.0 (λ o. is_some o.rhs || b))
-    has_rhs_at b (Row i) r is = let s = entry_at t.rows.entries i r is in
-        (λ j. is_some (rhs_at i r s j) || (option_map_or is_definition_by_limits (form_at i r s j) false || (no_objective i r s j && b)))
-        ∙ or_nothing (is_some (rhs_of s.parts)) (is_definition_by_limits (definition_of s.parts))
-        ∙ sym (row_stated i r s (λ row. is_some row.rhs || is_definition_by_limits row.definition))
+    has_rhs_at b (Row i) r is = let s = entry_at _ i r is in (λ j. is_some (rhs_at i r s j) || (option_map_or is_definition_by_limits
+        (form_at i r s j) false || (no_objective i r s j && b))) ∙ or_nothing _ _ ∙ sym (row_stated i r s (λ row. is_some row.rhs ||
+        is_definition_by_limits row.definition))
 
     -- ---- numbers
 
     -- the number of a row fits 32 bits
     pub number_fits : (p : RowRef) (r : List ℕ) → row_name t (row_key_of p) ≡ Some r → row_key_of p < 4294967296
     number_fits Objective r is = omega arith
-    number_fits (Row i) r is = let below : i < length t.rows.entries = within t.rows.entries i r (entry_at t.rows.entries i r is) in
-        let few : length t.rows.entries < 4294967295 = numbered.few in omega arith
+    number_fits (Row i) r is = let below = within _ i r (entry_at t.rows.entries i r is) in
+        let few = numbered.few in omega arith
 
 -- ---- what a draft says of a row or a column by its name is the part stored with that name
 
@@ -300,32 +287,15 @@ module _ {X : Type 0} (p : List ℕ × X → Bool) where
   first_put : (k : List ℕ) (v : X) (es : List (List ℕ × X)) → T (is_sorted bytes_cmp es) → find bytes_cmp k es ≡ None
       → first_of p (put bytes_cmp k v es) ≡ cond (p (k, v)) (Some (lesser k (first_of p es))) (first_of p es)
   first_put k v [] sorted none = grind arith
-  first_put k v (e ∷ es) sorted none =
-      elim (bytes_cmp k e.0) as (λ w. bytes_cmp k e.0 ≡ w → cond (is_eq w) (Some e.1) (find bytes_cmp k es) ≡ None
-      → first_of p (by_order w ((k, v) ∷ e ∷ es) ((e.0, v) ∷ es) (e ∷ put bytes_cmp k v es))
-      ≡ cond (p (k, v)) (Some (lesser k (first_of p (e ∷ es)))) (first_of p (e ∷ es))) [
-        | Less ↦ λ less _.
-            let all : below_all bytes_cmp k (e ∷ es) ≡ true = both_so (is_lt (bytes_cmp k e.0)) (below_all bytes_cmp k es) (ap is_lt less)
-            (below_through k e.0 es less (first_so (below_all bytes_cmp e.0 es) (is_sorted bytes_cmp es) (true_from _ sorted))) in
-            elim (p (k, v)) as (λ b. head_of (names_in (cond b ((k, v) ∷ filter p (e ∷ es)) (filter p (e ∷ es))))
-            ≡ cond b (Some (lesser k (first_of p (e ∷ es)))) (first_of p (e ∷ es))) [
-              | true ↦ ap Some (sym (below_first k (e ∷ es) all))
-              | false ↦ refl
-            ]
-        | Equal ↦ λ _ found. cc
-        | Greater ↦ λ greater later.
-            let rest = first_put k v es (T_from _ (second_so (below_all bytes_cmp e.0 es) (is_sorted bytes_cmp es) (true_from _ sorted)))
-            later in
-            elim (p e) as (λ b. head_of (names_in (cond b (e ∷ filter p (put bytes_cmp k v es)) (filter p (put bytes_cmp k v es))))
-            ≡ cond (p (k, v)) (Some (lesser k (head_of (names_in (cond b (e ∷ filter p es) (filter p es))))))
-            (head_of (names_in (cond b (e ∷ filter p es) (filter p es))))) [
-              | true ↦ elim (p (k, v)) as (λ d. Some e.0 ≡ cond d (Some (lesser k (Some e.0))) (Some e.0)) [
-                | true ↦ ap (λ (b : Bool). Some (cond b k e.0)) (sym (greater_no k e.0 greater))
-                | false ↦ refl
-              ]
-              | false ↦ rest
-            ]
-      ] refl none
+  first_put k v (e ∷ es) sorted none = grind (
+    arith,
+    both_so (is_lt (bytes_cmp k e.0)) (below_all bytes_cmp k es),
+    below_through k e.0 es,
+    true_from,
+    below_first k (e ∷ es),
+    first_put k v es,
+    greater_no k e.0,
+  )
 
 -- The least of entries with distinct names is the first of their map.
 module _ {V X : Type 0} (f : V → X) (p : List ℕ × X → Bool) (test : V → Bool) where
@@ -333,8 +303,8 @@ module _ {V X : Type 0} (f : V → X) (p : List ℕ × X → Bool) (test : V →
       → p (k, f v) ≡ test v) → head_of (names_in (filter p (sorted_of bytes_cmp (each_part f es)))) ≡ least_name test es
   least_is_first [] once own = refl
   least_is_first (e ∷ es) once own = let rest = each_part f es in let more = least_is_first es once.1 (λ i k v is. own (suc i) k v is) in
-      first_put p e.0 (f e.1) (sorted_of bytes_cmp rest) (is_sorted-sorted_of bytes_cmp bytes_total rest)
-      (find-sorted_of bytes_cmp bytes_total e.0 rest ∙ once.0) ∙ (λ i. cond (own zero e.0 e.1 refl i) (Some (lesser e.0 (more i))) (more i))
+      first_put p e.0 _ _ (is_sorted-sorted_of bytes_cmp bytes_total rest) (find-sorted_of bytes_cmp bytes_total e.0 rest ∙ once.0) ∙ (λ i.
+      cond (own zero e.0 e.1 refl i) (Some (lesser e.0 (more i))) (more i))
 
 -- ---- the loop
 
@@ -349,8 +319,7 @@ module _ {V : Type 0} (test : V → Bool) where
   pub none_least : (wrong : V → Bool) → ((v : V) → wrong v ≡ false → test v ≡ false) → (es : List (List ℕ × V))
       → list_any (λ e. wrong e.1) es ≡ false → least_name test es ≡ None
   none_least wrong harder [] h = refl
-  none_least wrong harder (e ∷ es) h = let both = nor (wrong e.1) (list_any (λ e. wrong e.1) es) h in
-      (λ i. cond (harder e.1 both.0 i) (Some (lesser e.0 (least_name test es))) (least_name test es)) ∙ none_least wrong harder es both.1
+  none_least wrong harder (e ∷ es) h = grind (arith, nor, none_least wrong harder es)
 
 -- ---- whether any entry passes, from the last one to the first
 
@@ -382,7 +351,7 @@ before n h = omega (arith, h)
 
 module _ {V : Type 0} (test : V → Bool) (es : List (List ℕ × V)) (i : ℕ) (k : List ℕ) (v : V) (is : slice_get es i ≡ Some (k, v)) (o : Option (List ℕ)) (so_far : o ≡ least_name test (drop (suc i) es)) where
   with_entry : least_name test (drop i es) ≡ cond (test v) (Some (lesser k o)) o
-  with_entry = ap (least_name test) (drop_at test es i (k, v) is) ∙ ap (λ (m : Option (List ℕ)). cond (test v) (Some (lesser k m)) m) (sym so_far)
+  with_entry = ap (least_name test) (drop_at test es i (k, v) is) ∙ ap (λ m. cond (test v) (Some (lesser k m)) m) (sym so_far)
 
   -- an entry that passes and is below is the least
   pub least_put : test v ≡ true → is_below k o ≡ true → entry_name es i ≡ least_name test (drop i es)
@@ -424,25 +393,21 @@ filter-map p f (x ∷ xs) = grind (arith, filter-map p f xs)
 of_column : (all : Draft) (fault : ColumnFault)
     → named_fault all (kind_of_column_fault fault) ≡ option_map (λ name. whole_fault (kind_of_column_fault fault) (Some name))
     (head_of (names_in (filter (λ column. bounds_test fault (declared_of all column.0)) all.columns)))
-of_column all columns.NegativeUpper = ap
-    (λ (names : List (List ℕ)). option_map (λ name. whole_fault (kind_of_column_fault columns.NegativeUpper) (Some name)) (head_of names))
-    (filter-map (λ name. bounds_test columns.NegativeUpper (declared_of all name)) (λ column. column.0) all.columns)
-of_column all columns.BoundsCrossed = ap
-    (λ (names : List (List ℕ)). option_map (λ name. whole_fault (kind_of_column_fault columns.BoundsCrossed) (Some name)) (head_of names))
-    (filter-map (λ name. bounds_test columns.BoundsCrossed (declared_of all name)) (λ column. column.0) all.columns)
-of_column all columns.BinaryBounds =
-    ap (λ (names : List (List ℕ)). option_map (λ name. whole_fault (kind_of_column_fault columns.BinaryBounds) (Some name)) (head_of names))
-    (filter-map (λ name. bounds_test columns.BinaryBounds (declared_of all name)) (λ column. column.0) all.columns)
-of_column all columns.SemiBounds =
-    ap (λ (names : List (List ℕ)). option_map (λ name. whole_fault (kind_of_column_fault columns.SemiBounds) (Some name)) (head_of names))
-    (filter-map (λ name. bounds_test columns.SemiBounds (declared_of all name)) (λ column. column.0) all.columns)
+of_column all columns.NegativeUpper = grind
+    (arith, filter-map (λ name. bounds_test columns.NegativeUpper (declared_of all name)) (λ column. column.0) all.columns)
+of_column all columns.BoundsCrossed = grind
+    (arith, filter-map (λ name. bounds_test columns.BoundsCrossed (declared_of all name)) (λ column. column.0) all.columns)
+of_column all columns.BinaryBounds = grind
+    (arith, filter-map (λ name. bounds_test columns.BinaryBounds (declared_of all name)) (λ column. column.0) all.columns)
+of_column all columns.SemiBounds = grind
+    (arith, filter-map (λ name. bounds_test columns.SemiBounds (declared_of all name)) (λ column. column.0) all.columns)
 
 pub column_named : (t : Tables) → IsOnceEach t → (fault : ColumnFault) → named_fault (draft None None t) (kind_of_column_fault fault)
     ≡ option_map (λ name. whole_fault (kind_of_column_fault fault) (Some name)) (least_name (column_fails fault) t.columns.entries)
-column_named t once fault = let all = draft None None t in of_column all fault
-    ∙ ap (option_map (λ (name : List ℕ). whole_fault (kind_of_column_fault fault) (Some name)))
-    (least_is_first no_part (λ column. bounds_test fault (declared_of all column.0)) (column_fails fault) t.columns.entries
-    (column_once t once) (λ i k column is. ap (bounds_test fault) (column_parts_at None None t once i k column is)))
+column_named t once fault = let all = draft None None t in of_column all _ ∙ ap (option_map (λ (name : List ℕ). whole_fault
+    (kind_of_column_fault fault) (Some name))) (least_is_first no_part (λ column. bounds_test fault (declared_of all column.0))
+    (column_fails fault) t.columns.entries (column_once t once) (λ i k column is. ap (bounds_test fault) (column_parts_at None None t once i
+    k column is)))
   where
     column_once : (t : Tables) → IsOnceEach t → IsOnce (each_part no_part t.columns.entries)
     column_once = grind (arith, once_too)
@@ -481,7 +446,7 @@ nonempty_put R k v (e ∷ es) = grind arith
 -- whether there are columns
 pub some_column : (es : List (List ℕ × ColumnParts)) → is_nonempty (sorted_of bytes_cmp (each_part no_part es)) ≡ is_nonempty es
 some_column [] = refl
-some_column (e ∷ es) = nonempty_put bytes_cmp e.0 tt (sorted_of bytes_cmp (each_part no_part es))
+some_column (e ∷ es) = nonempty_put bytes_cmp e.0 tt _
 
 pub nonempty_from : {X : Type 0} (es : List X) → (length es ≡ 0 → ⊥) → is_nonempty es ≡ true
 nonempty_from = grind arith
@@ -506,7 +471,7 @@ module _ (constant : Option Number) (t : Tables) (once : IsOnceEach t) where
   module _ (i : ℕ) (c : List ℕ) (is : column_name t i ≡ Some c) (there : true ≡ has_column (draft None constant t) c) where
     pub integer_stated : (b : Bool) → b ≡ column_satisfies t i (λ parts. parts.semi)
         → those_of (integer_tests (draft None constant t) c) ≡ those_of ((b, SemiContinuous) ∷ [])
-    integer_stated b stated = let s = entry_at t.columns.entries i c is in
+    integer_stated b stated = let s = entry_at _ i c is in
         let semi = flag_at None constant t once i c s (λ parts. parts.semi) ∙ sym stated in
         λ j. those_of ((not (sym there j), UnknownColumn) ∷ (semi j, SemiContinuous) ∷ [])
 
@@ -519,10 +484,10 @@ module _ (constant : Option Number) (t : Tables) (once : IsOnceEach t) where
         (λ parts. is_some parts.sides.lower)) || (is_some upper && column_satisfies t i (λ parts. is_some parts.sides.upper)))
         → infinite ≡ (option_map_or is_plus_infinite lower false || option_map_or is_minus_infinite upper false)
         → bounds_refusals (draft None constant t) c lower upper ≡ those_of ((b, DuplicateBound) ∷ (infinite, InfiniteValue) ∷ [])
-    sides_stated lower upper b infinite stated end = let s = entry_at t.columns.entries i c is in
-        let lowers = part_at None constant t once i c s lower_of in let uppers = part_at None constant t once i c s upper_of in
+    sides_stated lower upper b infinite stated end = let s = entry_at _ i c is in
+        let lowers = part_at None constant t once i c s _ in let uppers = part_at None constant t once i c s _ in
         (λ j. those_of ((not (sym there j), UnknownColumn) ∷ ((is_some lower && lowers j) || (is_some upper && uppers j), DuplicateBound) ∷ (sym end j, InfiniteValue) ∷ []))
-        ∙ ap (λ (duplicate : Bool). those_of ((duplicate, DuplicateBound) ∷ (infinite, InfiniteValue) ∷ [])) (sym stated)
+        ∙ ap (λ duplicate. those_of ((duplicate, DuplicateBound) ∷ (infinite, InfiniteValue) ∷ [])) (sym stated)
 
     pub cell_stated : (n : ℕ) (r : List ℕ) (b : Bool) → IsNumbered t → row_name t n ≡ Some r → true ≡ has_row (draft None constant t) r
         → b ≡ is_some (find nat_cmp n (cells_at t i))
@@ -536,8 +501,11 @@ module _ (constant : Option Number) (t : Tables) (once : IsOnceEach t) where
   module _ (numbered : IsNumbered t) (p : RowRef) (r : List ℕ) (is : row_name t (row_key_of p) ≡ Some r) (there : true ≡ has_row (draft None constant t) r) where
     pub rhs_stated : (b : Bool) → b ≡ row_satisfies t p (λ o. is_some o.rhs || is_some constant) (λ row. is_some row.rhs
         || is_definition_by_limits row.definition) → those_of (rhs_tests (draft None constant t) r) ≡ those_of ((b, DuplicateRhs) ∷ [])
-    rhs_stated b stated = let duplicate = has_rhs_at None constant t once numbered (is_some constant) p r is ∙ sym stated in
-        λ j. those_of ((not (sym there j), UnknownRow) ∷ (duplicate j, DuplicateRhs) ∷ [])
+    rhs_stated b stated = let duplicate = has_rhs_at None constant t once numbered _ p r is ∙ sym stated in λ j. those_of ((
+      not (sym there
+          j),
+      UnknownRow,
+    ) ∷ (duplicate j, DuplicateRhs) ∷ [])
 
     pub range_stated : (value : Number) (b free : Bool)
         → b ≡ row_satisfies t p (λ o. false) (λ row. is_some row.range || is_definition_by_limits row.definition) → (is_objective_ref p
@@ -587,9 +555,9 @@ line_free all true column entries free =
     let marked = with_declaration next (declare_marked _) in
     let more = flat_map (entry_declared column) (listed entries) in (
       first_none _ _ []
-          (rest_none _ UnknownColumn ((is_semi next column, SemiContinuous) ∷ [])
+          (rest_none _ _ ((is_semi next column, SemiContinuous) ∷ [])
           (left_none _ _ free)),
-      entries_free marked column entries.first _ (right_none _ _ free),
+      entries_free marked _ entries.first _ (right_none _ _ free),
     )
 
 -- ---- tables
@@ -616,12 +584,12 @@ module _ (sense : Option Sense) (constant : Option Number) (t : Tables) (is_mark
       where
         no_cell : (n : ℕ) (r : List ℕ) → row_name t n ≡ Some r → has_coefficient (draft sense constant t) (at r column) ≡ false
             → find nat_cmp n (cells_at t i) ≡ None
-        no_cell n r row none = none_there (find nat_cmp n (cells_at t i))
-            (sym (cell_at sense constant t once i column (entry_at t.columns.entries i column is) n r numbered row) ∙ none)
+        no_cell n r row none =
+            none_there _ (sym (cell_at sense constant t once i column (entry_at t.columns.entries i column is) n r numbered row) ∙ none)
 
         first_free : find nat_cmp rows.first (cells_at t i) ≡ None
         first_free = no_cell _ _ are.first line_parts.1.1
 
         by : (o : Option Entry) → entries.second ≡ o → find nat_cmp rows.second (cells_at t i) ≡ None
-        by None none = ap (λ (n : ℕ). find nat_cmp n (cells_at t i)) (single none) ∙ first_free
+        by None none = ap (λ n. find nat_cmp n (cells_at t i)) (single none) ∙ first_free
         by (Some entry) there = no_cell _ _ (are.second _ there) (line_parts.1.2 entry there).1

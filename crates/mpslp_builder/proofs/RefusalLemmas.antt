@@ -1,6 +1,6 @@
 -- Declarations, none of which is rejected after those before it, are consistent, and the converse; their draft is well-formed.
 use Rattle.mpslp_builder.proofs.Prelude
-use Prelude.{arith, rules, ◌≡◌, refl, sym, ap, ◌∙◌, ℕ, List, [], ◌∷◌, ◌++◌, Bool, true, false, not, ◌&&◌, ◌||◌, Option, Some, None, is_some}
+use Prelude.{arith, rules, ◌≡◌, refl, ap, ◌∙◌, ℕ, List, [], ◌∷◌, ◌++◌, Bool, true, false, not, ◌&&◌, ◌||◌, Option, Some, None, is_some}
 use Prelude.{option_map_or, list_all, first_so, second_so, put, Number, same_bytes, bytes_cmp, Declaration, declare_objective}
 use Prelude.{declare_constant, declare_row, declare_rhs, declare_range, declare_column, declare_coefficient, declare_lower, declare_upper}
 use Prelude.{declare_marked, declare_integer, declare_binary, declare_semi, Declarations, Draft, empty_draft, with_declaration}
@@ -36,31 +36,17 @@ more_named {X} test q k v es known was h = grind (arith, same_name, has-put)
 
 declared_names-with_declaration : (all : Draft) (d : Declaration) → HasDeclaredNames all → are_fresh all (slots_of d) ≡ true
     → is_known all d ≡ true → HasDeclaredNames (with_declaration all d)
-declared_names-with_declaration all (declare_objective name) w h k =
-    let none = not_so (has_row all _) (first_so (not _) true (second_so (not _) (not _ && true) h)) in
-    record {
-      apart = λ q same. ap (λ n. has_name all.rows n) (same_name q name same)
-          ∙ back (has_name _ name) (has_row all _) (or_right _ (has_name _ name)) none;
-      rhs_values = λ q there. none_there _ q _ _ (not _ && true) h (w.rhs_values q there);
-      ranges = λ q there. none_there _ q _ _ (not _ && true) h (w.ranges q there);
-      integers = w.integers;
-      semis = w.semis;
-    }
-declared_names-with_declaration all (declare_row name definition) w h k =
-    let after = with_declaration all (declare_row name definition) in
-    let grows = extends-with_declaration all (declare_row name definition) h in
-    let none = not_so (has_row all _) (first_so (not _) _ h) in
-    record {
-      apart = λ q is. has-put q _ _ all.rows ∙ elim (same_bytes q _) as (λ b. same_bytes q name ≡ b → (b || has_name all.rows q) ≡ false) [
-        | true ↦ λ same. absurd (let so : has_row all name ≡ true =
-            or_left _ _ (ap (is_objective all) (sym (same_name q name same)) ∙ is) in cc)
-        | false ↦ λ _. w.apart q is
-      ] refl;
-      rhs_values = λ q there. has_row-after all after q grows (w.rhs_values q there);
-      ranges = λ q there. has_row-after all after q grows (w.ranges q there);
-      integers = w.integers;
-      semis = w.semis;
-    }
+declared_names-with_declaration all (declare_objective name) w h k = search (rules, not_so, same_name, back, or_right, none_there)
+declared_names-with_declaration all (declare_row name definition) w h k = search (
+  rules,
+  extends-with_declaration all (declare_row name
+      definition) h,
+  not_so,
+  has-put,
+  or_left,
+  same_name,
+  has_row-after all (with_declaration all (declare_row name definition)),
+)
 declared_names-with_declaration all (declare_rhs row v) w h k =
     record { apart = w.apart; rhs_values = λ q there. more_named (has_row all) q row v _ k (w.rhs_values q) there; ranges = w.ranges; integers = w.integers; semis = w.semis }
 declared_names-with_declaration all (declare_range row v) w h k =
@@ -184,9 +170,9 @@ one-with_declaration all (declare_rhs row v) w one h = grind (arith, nor, first_
 one-with_declaration all _ w one h = one
 
 one-before : (before after : Draft) → Extends before after → has_one_constant after ≡ true → has_one_constant before ≡ true
-one-before before after e one = so_not (is_some _ && has_objective_rhs before)
-    (back (is_some _ && has_objective_rhs before) (is_some _ && has_objective_rhs after) (λ h. both_so (is_some _)
-    _ (e.constant (first_so (is_some _) _ h)) (side_after (second_so (is_some _) _ h))) (not_so (is_some _ && has_objective_rhs after) one))
+one-before before after e one = so_not _ (back (is_some _ && has_objective_rhs before) (is_some _ && has_objective_rhs after) (λ h. both_so
+    (is_some _) _ (e.constant (first_so (is_some _) _ h)) (side_after (second_so (is_some _) _ h))) (not_so (is_some _ && has_objective_rhs
+    after) one))
   where
     side_from : (o : Option (List ℕ)) → before.objective ≡ o → option_map_or (has_name before.rhs_values) o false ≡ true
         → has_objective_rhs after ≡ true
@@ -284,12 +270,12 @@ none-fine (d ∷ more) before w apart one h =
     let f = fine-from_none _ d w (left_none _ _ h) in
     let w' = declared_names-with_declaration _ d w f.fresh f.known in
     let apart' = kinds_apart-with_declaration _ d apart f.allowed in
-    let r = none-fine more (with_declaration _ d) w' apart' (one-with_declaration _ d w one (left_none _ _ h))
+    let r = none-fine more _ w' apart' (one-with_declaration _ d w one (left_none _ _ h))
     (right_none _ (refusals_in_turn _ more) h) in
     let fresh = both_so _ _ f.fresh r.fresh in
-    let after = with_declarations (with_declaration _ d) more in
+    let after = with_declarations _ more in
     let e = extends-in_turn (d ∷ more) _ fresh in
-    let stated = said-after (with_declaration _ d) after d (extends-in_turn more (with_declaration _ d) r.fresh) (said _ d) in
+    let stated = said-after _ after d (extends-in_turn more (with_declaration _ d) r.fresh) (said _ d) in
     record {
       fresh = fresh;
       known = both_so _ _ (known-after _ _ d e f.known) r.known;
@@ -313,22 +299,15 @@ all_fresh (slot ∷ slots) = grind (arith, both_so, is_filled, are_fresh, empty_
 -- Declarations that are not rejected in turn are consistent.
 pub consistent-from_none : (declarations : Declarations) → has_objective declarations ≡ true
     → refusals_in_turn empty_draft declarations ≡ [] → AreConsistent declarations
-consistent-from_none declarations objective h =
-    let f = none-fine declarations _ empty_declared_names empty_kinds_apart refl h in
-    record {
-      objective = objective;
-      once = second_so _ _ (sym (fresh_in_turn-is declarations _) ∙ f.fresh);
-      one_constant = f.one_constant;
-      known = f.known;
-      allowed = f.allowed;
-    }
+consistent-from_none declarations objective h = grind
+    (arith, none-fine declarations, empty_declared_names, empty_kinds_apart, fresh_in_turn-is declarations)
 
 pub none-from_fine_in_turn : (declarations : Declarations) (before : Draft) → are_fresh_in_turn before declarations ≡ true
     → are_known_in_turn before declarations ≡ true → list_all (is_allowed (with_declarations before declarations)) declarations ≡ true
     → has_one_constant (with_declarations before declarations) ≡ true → refusals_in_turn before declarations ≡ []
 none-from_fine_in_turn [] before fresh known allowed one = refl
 none-from_fine_in_turn (d ∷ more) before fresh known allowed one =
-    let after = with_declarations (with_declaration _ d) more in
+    let after = with_declarations _ more in
     let fresh_here = first_so _ _ fresh in
     let fresh_then = second_so _ _ fresh in
     let e = extends-in_turn (d ∷ more) _ fresh in
@@ -360,7 +339,7 @@ has_objective-drafted : (declarations : Declarations) (b : Draft) → has_object
     → is_some (with_declarations b declarations).objective ≡ true
 has_objective-drafted [] b h = cc
 has_objective-drafted (declare_objective name ∷ more) b h = grind (arith, has_objective-stays)
-has_objective-drafted (d ∷ more) b h = has_objective-drafted more (with_declaration b d) h
+has_objective-drafted (d ∷ more) b h = has_objective-drafted more _ h
 
 abbrev IsApart : Draft → Type 0
 IsApart all = (name : List ℕ) → is_objective all name ≡ true → has_name all.rows name ≡ false

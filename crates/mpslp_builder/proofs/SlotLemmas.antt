@@ -8,8 +8,8 @@ use Prelude.{declare_column, declare_coefficient, declare_lower, declare_upper, 
 use Prelude.{declare_semi, Declarations, Draft, with_declaration, at_name, has_name, has_row, has_coefficient, is_definition_by_limits}
 use Prelude.{is_row_by_limits, are_distinct, Slot, sense_slot, objective_slot, constant_slot, row_slot, rhs_slot, range_slot}
 use Prelude.{coefficient_slot, lower_slot, upper_slot, same_slot, slots_of, all_slots, or_end, all_true, mixed, mixed_more, IsTotalOrder}
-use Prelude.{Ordering, Less, Equal, is_sorted, same_entries, is_sorted-put, T, subst, IsPermutation, if◌then◌else◌, nat_list_eq_equiv}
-use Prelude.{LinearModel, empty_draft, with_declarations, draft_of, is_known, is_allowed, has_one_constant, AreConsistent, DraftMeans}
+use Prelude.{Ordering, Less, Equal, is_sorted, same_entries, is_sorted-put, T, IsPermutation, if◌then◌else◌, nat_list_eq_equiv}
+use Prelude.{LinearModel, empty_draft, with_declarations, draft_of, is_known, AreConsistent}
 use Prelude.{Means, along_permutation, flat_map, flat_map-append, Each, first_so, second_so, has_column, is_objective, is_integer, is_semi}
 use Prelude.{or_right, either_more, not_so}
 
@@ -28,7 +28,7 @@ pub has-put : {X : Type 0} (q k : List ℕ) (v : X) (es : List (List ℕ × X)) 
 has-put q k v es = ap is_some (at-put q k v es) ∙ is_some-cond _ v _
 
 pub key_ties : (a b : CoefficientKey) → (same_bytes a.row b.row && same_bytes a.column b.column) ≡ eq_by_cmp key_cmp a b
-key_ties a b = and_comm (same_bytes _ b.row) (same_bytes _ b.column) ∙ both_tied _ _ _ _ (texts_ties a.column _) (texts_ties a.row _)
+key_ties a b = and_comm _ (same_bytes _ b.column) ∙ both_tied _ _ _ _ (texts_ties a.column _) (texts_ties a.row _)
 
 pub has-put_key : {X : Type 0} (q k : CoefficientKey) (v : X) (es : List (CoefficientKey × X)) → is_some
     (find key_cmp q (put key_cmp k v es)) ≡ ((same_bytes q.row k.row && same_bytes q.column k.column) || is_some (find key_cmp q es))
@@ -104,8 +104,7 @@ filled-with_declaration all (declare_row name (by_type type)) _ h = refl
 filled-with_declaration all (declare_row name (by_limits l u)) _ h = refl
 filled-with_declaration all (declare_rhs row v) (rhs_slot n) h = grind (arith, has-put, after_or)
 filled-with_declaration all (declare_range row v) (range_slot n) h = grind (arith, has-put, after_or)
-filled-with_declaration all (declare_coefficient key v) (coefficient_slot p) h = has-put_key p key v all.coefficients
-    ∙ or_end _ (has_coefficient all p)
+filled-with_declaration all (declare_coefficient key v) (coefficient_slot p) h = grind (arith, has-put_key p key v all.coefficients, or_end)
 filled-with_declaration all (declare_lower name v) (lower_slot n) h = has-put n _ v _ ∙ or_end _ (has_name _ n)
 filled-with_declaration all (declare_upper name v) (upper_slot n) h = has-put n _ v _ ∙ or_end _ (has_name _ n)
 filled-with_declaration all (declare_sense x) sense_slot h = refl
@@ -151,22 +150,15 @@ are_fresh_in_turn before (d ∷ more) = are_fresh before (slots_of d) && are_fre
 pub fresh_in_turn-is : (declarations : Declarations) (before : Draft)
     → are_fresh_in_turn before declarations ≡ (are_fresh before (all_slots declarations) && are_distinct same_slot (all_slots declarations))
 fresh_in_turn-is [] before = refl
-fresh_in_turn-is (d ∷ more) before =
-    let mine = slots_of d in
-    let rest = all_slots more in
-    elim (are_fresh before mine) as (λ b. are_fresh before mine ≡ b → (b && are_fresh_in_turn (with_declaration before d) more)
-    ≡ ((b && are_fresh before rest) && are_distinct same_slot (mine ++ rest))) [
-      | false ↦ λ h. refl
-      | true ↦ λ h. fresh_in_turn-is more (with_declaration before d)
-          ∙ ap (λ (b : Bool). b && are_distinct same_slot rest) (fresh-with_declaration before d rest h)
-          ∙ swapped (are_apart mine rest) (are_fresh before rest) (are_distinct same_slot rest)
-          ∙ ap (λ (b : Bool). are_fresh before rest && (b && (are_apart mine rest && are_distinct same_slot rest))) (sym (distinct_own d))
-          ∙ ap (λ (b : Bool). are_fresh before rest && b) (sym (are_distinct-append mine rest))
-    ] refl
-    ∙ ap (λ (b : Bool). b && are_distinct same_slot (mine ++ rest)) (sym (list_all-append _ mine rest))
-  where
-    swapped : (a b c : Bool) → ((a && b) && c) ≡ (b && (a && c))
-    swapped = grind arith
+fresh_in_turn-is (d ∷ more) before = search (
+  rules,
+  fresh_in_turn-is more (with_declaration before d),
+  fresh-with_declaration before d
+      (all_slots more),
+  distinct_own d,
+  are_distinct-append (slots_of d) (all_slots more),
+  list_all-append,
+)
 
 -- ---- entries with different keys can be put in either order, and putting an entry that is already there has no effect
 
@@ -183,8 +175,8 @@ module _ {K X : Type 0} (R : K → K → Ordering) (o : IsTotalOrder R) where
   -- an entry that is in sorted entries
   pub put-again : (k : K) (v : X) (es : List (K × X)) → ((x y : K) → R x y ≡ Equal → x ≡ y) → T (is_sorted R es) → find R k es ≡ Some v
       → put R k v es ≡ es
-  put-again k v es same sorted there = same_entries R o same (put R k v es) es (is_sorted-put R o k v es sorted) sorted
-      (λ q. find-put R o q k v es ∙ by q (eq_by_cmp R q k) refl)
+  put-again k v es same sorted there =
+      same_entries R o same _ es (is_sorted-put R o k v es sorted) sorted (λ q. find-put R o q k v es ∙ by q _ refl)
     where
       by : (q : K) (b : Bool) → eq_by_cmp R q k ≡ b → cond b (Some v) (find R q es) ≡ find R q es
       by = grind arith
@@ -300,23 +292,12 @@ draft-permutation xs ys moved c = (reorders xs ys moved).draft c.once empty_draf
 
 -- whether they are consistent
 pub consistent-permutation : (xs ys : Declarations) → IsPermutation xs ys → AreConsistent xs → AreConsistent ys
-consistent-permutation xs ys moved c =
-    let r = reorders xs ys moved in
-    let same = draft-permutation xs ys moved c in
-    record {
-      objective = sym (r.any _) ∙ c.objective;
-      once = sym r.distinct ∙ c.once;
-      one_constant = ap has_one_constant (sym same) ∙ c.one_constant;
-      known = ap (λ all. list_all (is_known all) ys) (sym same) ∙ sym (r.all _) ∙ c.known;
-      allowed = ap (λ all. list_all (is_allowed all) ys) (sym same) ∙ sym (r.all _) ∙ c.allowed;
-    }
+consistent-permutation xs ys moved c = grind (arith, reorders xs ys moved, draft-permutation xs ys moved c)
 
 -- In any order the declarations mean the same model.
 pub means-permutation : (xs ys : Declarations) (m : LinearModel) → IsPermutation xs ys → Means xs m → Means ys m
-means-permutation xs ys m moved means = record {
-  consistent = consistent-permutation xs ys moved means.consistent;
-  meant = subst (λ (all : Draft). DraftMeans all m) (draft-permutation xs ys moved means.consistent) means.meant;
-}
+means-permutation xs ys m moved means = grind
+    (arith, consistent-permutation xs ys moved means.consistent, draft-permutation xs ys moved means.consistent)
 
 -- ---- declared zero coefficients do not change the others; and lists that are made in parts
 
@@ -354,13 +335,13 @@ Stays part value d = (all : Draft) → part all ≡ value → part (with_declara
 pub stays-all : {X : Type 0} (part : Draft → X) (value : X) (ds : Declarations) → Each (Stays part value) ds → (all : Draft)
     → part all ≡ value → part (with_declarations all ds) ≡ value
 stays-all part value [] h all is = is
-stays-all part value (d ∷ ds) h all is = stays-all part value ds h.1 (with_declaration all d) (h.0 all is)
+stays-all part value (d ∷ ds) h all is = stays-all _ _ ds h.1 _ (h.0 all is)
 
 -- a part that no declaration changes
 pub kept-all : {X : Type 0} (part : Draft → X) (ds : Declarations) → Each (λ d. (all : Draft) → part (with_declaration all d) ≡ part all) ds
     → (all : Draft) → part (with_declarations all ds) ≡ part all
 kept-all part [] h all = refl
-kept-all part (d ∷ ds) h all = kept-all part ds h.1 (with_declaration all d) ∙ h.0 all
+kept-all part (d ∷ ds) h all = kept-all part ds h.1 _ ∙ h.0 all
 
 -- ---- what a later draft keeps of an earlier one: if no slot is filled twice, what was declared stays declared
 
@@ -404,15 +385,12 @@ is_new_row all name q definition rest h same found = search (rules, same_name, n
 
 pub extends-with_declaration : (all : Draft) (d : Declaration) → are_fresh all (slots_of d) ≡ true → Extends all (with_declaration all d)
 extends-with_declaration all (declare_row name definition) h = grind (arith, at-put, kept_row, is_new_row)
-extends-with_declaration all (declare_rhs row v) h =
-    record { objective = λ _ h. h; constant = λ h. h; right_side = λ q e. more_entries q row v all.rhs_values e; row = λ _ _ h. h; column = λ _ h. h; integer = λ _ h. h; semi = λ _ h. h }
-extends-with_declaration all (declare_column name) h =
-    record { objective = λ _ h. h; constant = λ h. h; right_side = λ _ h. h; row = λ _ _ h. h; column = λ q e. more_entries q name tt all.columns e; integer = λ _ h. h; semi = λ _ h. h }
+extends-with_declaration all (declare_rhs row v) h = grind (arith, more_entries)
+extends-with_declaration all (declare_column name) h = grind (arith, more_entries)
 extends-with_declaration all (declare_marked c) h = grind (arith, either_more, more_entries)
 extends-with_declaration all (declare_integer c) h = grind (arith, either_more, more_entries)
 extends-with_declaration all (declare_binary c) h = grind (arith, either_more, more_entries)
-extends-with_declaration all (declare_semi c) h =
-    record { objective = λ _ h. h; constant = λ h. h; right_side = λ _ h. h; row = λ _ _ h. h; column = λ _ h. h; integer = λ _ h. h; semi = λ q e. more_entries q c tt all.semis e }
+extends-with_declaration all (declare_semi c) h = grind (arith, more_entries)
 extends-with_declaration all _ h = grind arith
 
 pub extends-in_turn : (declarations : Declarations) (before : Draft) → are_fresh_in_turn before declarations ≡ true
@@ -440,7 +418,7 @@ has_row-after = grind arith
 
 pub known-after : (before after : Draft) (d : Declaration) → Extends before after → is_known before d ≡ true → is_known after d ≡ true
 known-after before after (declare_rhs row v) e h = has_row-after _ _ row e h
-known-after before after (declare_range row v) e h = has_row-after _ after row e h
+known-after before after (declare_range row v) e h = has_row-after _ _ row e h
 known-after before after (declare_coefficient key v) e h = grind arith
 known-after before after (declare_lower c l) e h = e.column c h
 known-after before after (declare_upper c l) e h = e.column c h

@@ -7,7 +7,7 @@ use Prelude.{bytes_cmp, each_part, given_parts, IsOnce, name_tied, name_same, se
 use Prelude.{lookup, Number, CoefficientKey, key_cmp, sorted_of, column_cells, all_cells, IsInjective, equal_from, bytes_total, tied_names}
 use Prelude.{find-sorted_of, at, or_else, find-two, at_name, has_name, ◌<◌, length-append, list_all, second_so, nat_list_eq_equiv, Sense}
 use Prelude.{both_so, RowDefinition, all_named, sorted_of-put, sorted_of-append, Draft, with_declaration, declare_objective, declare_row}
-use Prelude.{declare_rhs, declare_range, is_objective, has_row, definition_of, rhs_of, range_of, name_of_objective, objective_rhs}
+use Prelude.{declare_rhs, declare_range, is_objective, has_row, definition_of, rhs_of, range_of, objective_rhs}
 use Prelude.{name_of_row_key, cells_by_name, draft_from, AreNumbered, ObjectiveParts, RowParts, ColumnParts, option_and_then, first_so}
 use Prelude.{nat_cmp-IsAntisymmetric, Limit, same_key, find-all_cells, with_declarations, declare_column, declare_coefficient}
 use Prelude.{declare_marked, declare_integer, declare_binary, declare_semi, bounds_declared, has_column, has_coefficient, no_part, cells_of}
@@ -22,7 +22,7 @@ module _ {V X : Type 0} (f : V → X) where
   none_of : (q : List ℕ) (es : List (List ℕ × V)) → AllByRecursion (λ y. same_bytes q y ≡ false) (keys_of es)
       → find bytes_cmp q (each_part f es) ≡ None
   none_of q [] h = refl
-  none_of q (e ∷ es) h = ap (λ (b : Bool). cond b (Some (f e.1)) (find bytes_cmp q (each_part f es))) (sym (texts_ties q e.0) ∙ h.0) ∙ none_of q es h.1
+  none_of q (e ∷ es) h = ap (λ b. cond b (Some (f e.1)) (find bytes_cmp q (each_part f es))) (sym (texts_ties q e.0) ∙ h.0) ∙ none_of q es h.1
 
   -- distinct keys give distinct names
   pub once-from_distinct : (es : List (List ℕ × V)) → IsDistinct (λ x y. same_bytes x y) (keys_of es) → IsOnce (each_part f es)
@@ -35,11 +35,7 @@ module _ {V X : Type 0} (f : V → X) where
       → find bytes_cmp q (each_part f es) ≡ None → ⊥
   there_found [] i q h none = cc
   there_found (e ∷ es) zero q h none = grind (arith, name_tied)
-  there_found (e ∷ es) (suc i) q h none =
-      elim (eq_by_cmp bytes_cmp q e.0) as (λ b. cond b (Some (f e.1)) (find bytes_cmp q (each_part f es)) ≡ None → ⊥) [
-        | true ↦ λ is. cc
-        | false ↦ λ is. there_found es i q h is
-      ] none
+  there_found (e ∷ es) (suc i) q h none = grind (arith, there_found es i q h)
 
   -- what is found is among the entries
   pub found_there : (es : List (List ℕ × V)) (q : List ℕ) → is_some (find bytes_cmp q (each_part f es)) ≡ true
@@ -58,27 +54,13 @@ module _ {V X : Type 0} (f : V → X) where
       → find bytes_cmp k (each_part f es) ≡ Some (f v)
   find_own [] i k v once is = cc
   find_own (e ∷ es) zero k v once is = grind (arith, name_tied)
-  find_own (e ∷ es) (suc i) k v once is =
-      let rest = find_own es i k v once.1 is in
-      elim (eq_by_cmp bytes_cmp k e.0) as (λ b. eq_by_cmp bytes_cmp k e.0 ≡ b
-      → cond b (Some (f e.1)) (find bytes_cmp k (each_part f es)) ≡ Some (f v)) [
-        | true ↦ λ tie.
-            let none : find bytes_cmp k (each_part f es)
-            ≡ None = ap (λ (q : List ℕ). find bytes_cmp q (each_part f es)) (name_same k e.0 tie) ∙ once.0 in
-            cc
-        | false ↦ λ _. rest
-      ] refl
+  find_own (e ∷ es) (suc i) k v once is = grind (arith, find_own es i k v once.1 is, name_same k e.0)
 
 module _ {V X Y : Type 0} (f : V → X) (g : V → Y) where
   -- a missing name is missing in each part
   pub none_too : (q : List ℕ) (es : List (List ℕ × V)) → find bytes_cmp q (each_part f es) ≡ None → find bytes_cmp q (each_part g es) ≡ None
   none_too q [] h = refl
-  none_too q (e ∷ es) h =
-      elim (eq_by_cmp bytes_cmp q e.0) as (λ b. cond b (Some (f e.1)) (find bytes_cmp q (each_part f es)) ≡ None
-      → cond b (Some (g e.1)) (find bytes_cmp q (each_part g es)) ≡ None) [
-        | true ↦ λ is. cc
-        | false ↦ λ is. none_too q es is
-      ] h
+  none_too q (e ∷ es) h = grind (arith, none_too q es)
 
   pub once_too : (es : List (List ℕ × V)) → IsOnce (each_part f es) → IsOnce (each_part g es)
   once_too [] h = tt
@@ -88,33 +70,14 @@ module _ {V X Y : Type 0} (f : V → X) (g : V → Option Y) where
   -- a missing part is not given
   pub none_given : (q : List ℕ) (es : List (List ℕ × V)) → find bytes_cmp q (each_part f es) ≡ None → find bytes_cmp q (given_parts g es) ≡ None
   none_given q [] none = refl
-  none_given q (e ∷ es) none =
-      elim (eq_by_cmp bytes_cmp q e.0) as (λ b. eq_by_cmp bytes_cmp q e.0 ≡ b
-      → cond b (Some (f e.1)) (find bytes_cmp q (each_part f es)) ≡ None → find bytes_cmp q (given_parts g (e ∷ es)) ≡ None) [
-        | true ↦ λ _ h. cc
-        | false ↦ λ differ h.
-            elim (g e.1) as (λ o. find bytes_cmp q (option_map_or (λ y. (e.0, y) ∷ given_parts g es) o (given_parts g es)) ≡ None) [
-              | None ↦ none_given q es h
-              | Some y ↦ ap (λ (b : Bool). cond b (Some y) (find bytes_cmp q (given_parts g es))) differ ∙ none_given q es h
-            ]
-      ] refl none
+  none_given q (e ∷ es) none = grind (arith, none_given q es)
 
   -- what is given by the name of an entry is the part of that entry
   pub find_given_own : (es : List (List ℕ × V)) (i : ℕ) (k : List ℕ) (v : V) → IsOnce (each_part f es) → slice_get es i ≡ Some (k, v)
       → find bytes_cmp k (given_parts g es) ≡ g v
   find_given_own [] i k v once is = cc
   find_given_own (e ∷ es) zero k v once is = grind (arith, none_given, name_tied)
-  find_given_own (e ∷ es) (suc i) k v once is =
-      let rest = find_given_own es i k v once.1 is in
-      elim (g e.1) as (λ o. find bytes_cmp k (option_map_or (λ y. (e.0, y) ∷ given_parts g es) o (given_parts g es)) ≡ g v) [
-        | None ↦ rest
-        | Some y ↦ elim (eq_by_cmp bytes_cmp k e.0) as (λ b. eq_by_cmp bytes_cmp k e.0 ≡ b
-            → cond b (Some y) (find bytes_cmp k (given_parts g es)) ≡ g v) [
-              | true ↦ λ tie. absurd (there_found f es i e.0
-                  (ap (option_map (λ (x : List ℕ × V). x.0)) is ∙ ap Some (name_same k e.0 tie)) once.0)
-              | false ↦ λ _. rest
-            ] refl
-      ]
+  find_given_own (e ∷ es) (suc i) k v once is = grind (arith, find_given_own es i k v once.1 is, there_found f es i e.0, name_same k e.0)
 
 -- ---- one more entry, or another value
 
@@ -146,12 +109,7 @@ module _ {V X : Type 0} (f : V → X) where
   pub find-each_part : (q : List ℕ) (es : List (List ℕ × V)) → find bytes_cmp q (each_part f es) ≡ option_map f (lookup (λ k. same_bytes q k) es)
   find-each_part q [] = refl
   find-each_part q (e ∷ es) =
-      ap (λ (b : Bool). cond b (Some (f e.1)) (find bytes_cmp q (each_part f es))) (sym (texts_ties q e.0))
-      ∙ elim (same_bytes q e.0) as (λ b. cond b (Some (f e.1)) (find bytes_cmp q (each_part f es))
-      ≡ option_map f (cond b (Some e.1) (lookup (λ k. same_bytes q k) es))) [
-        | true ↦ refl
-        | false ↦ find-each_part q es
-      ]
+      ap (λ b. cond b (Some (f e.1)) (find bytes_cmp q (each_part f es))) (sym (texts_ties q e.0)) ∙ (grind (arith, find-each_part q es))
 
   -- what is found at a key is the part at its name
   pub at_name-each_part : (q : List ℕ) (es : List (List ℕ × V)) (o : Option V) → o ≡ lookup (λ k. same_bytes q k) es
@@ -187,23 +145,20 @@ module _ {V : Type 0} (f : V → List (ℕ × Number)) (name : ℕ → Option (L
       → find key_cmp (at r k) (all_cells name (each_part f es)) ≡ None → find key_cmp q (all_cells name (each_part f (set_value_at es i w)))
       ≡ cond (eq_by_cmp key_cmp q (at r k)) (Some x) (find key_cmp q (all_cells name (each_part f es)))
   find-put_in_column q n x r [] i k v w p is put_there absent = cc
-  find-put_in_column q n x r (e ∷ es) zero k v w p is put_there absent =
-      let here : ◌≡◌ {A = List ℕ × V} e (k, v) = cc in
-      let rest = all_cells name (each_part f es) in
-      let own = find-put_cell name apart q n x r k (f v) p in
-      find-two key_cmp q (column_cells name e.0 (f w)) rest
-      ∙ ap (λ (o : Option Number). or_else o (find key_cmp q rest))
-      (ap (λ (y : List ℕ × V). find key_cmp q (column_cells name y.0 (f w))) here
-      ∙ ap (λ (l : List (ℕ × Number)). find key_cmp q (column_cells name k l)) put_there ∙ own)
-      ∙ elim (eq_by_cmp key_cmp q (at r k)) as (λ b. or_else (cond b (Some x) (find key_cmp q (column_cells name k (f v))))
-      (find key_cmp q rest) ≡ cond b (Some x) (or_else (find key_cmp q (column_cells name k (f v))) (find key_cmp q rest))) [
-        | true ↦ refl
-        | false ↦ refl
-      ]
-      ∙ ap (cond (eq_by_cmp key_cmp q (at r k)) (Some x)) (sym (find-two key_cmp q (column_cells name k (f v)) rest)
-      ∙ ap (λ (y : List ℕ × V). find key_cmp q (column_cells name y.0 (f y.1) ++ rest)) (sym here))
+  find-put_in_column q n x r (e ∷ es) zero k v w p is put_there absent = grind (
+    arith,
+    find-put_cell name apart q n x r k (f v) p,
+    find-two
+        key_cmp q (column_cells name e.0 (f w)) (all_cells name (each_part f es)),
+    or_else,
+    at r k,
+    or_else (find key_cmp q (column_cells name
+        k (f v))) (find key_cmp q (all_cells name (each_part f es))),
+    find-two key_cmp q (column_cells name k (f v)) (all_cells name
+        (each_part f es)),
+  )
   find-put_in_column q n x r (e ∷ es) (suc i) k v w p is put_there absent =
-      let front = column_cells name e.0 (f e.1) in
+      let front = column_cells _ e.0 (f e.1) in
       let rest = all_cells name (each_part f es) in
       let split = sym (find-two key_cmp (at r k) front rest) ∙ absent in
       let more = find-put_in_column q n x r es i k v w p is put_there
@@ -243,7 +198,7 @@ module _ {V X : Type 0} (f : V → Option X) where
         | false ↦ λ differ h.
             elim (f e.1) as (λ o. find bytes_cmp q (option_map_or (λ x. (e.0, x) ∷ given_parts f es) o (given_parts f es)) ≡ None) [
               | None ↦ none_given_part q es h
-              | Some x ↦ ap (λ (b : Bool). cond b (Some x) (find bytes_cmp q (given_parts f es))) (sym (texts_ties q e.0) ∙ differ)
+              | Some x ↦ ap (λ b. cond b (Some x) (find bytes_cmp q (given_parts f es))) (sym (texts_ties q e.0) ∙ differ)
                   ∙ none_given_part q es h
             ]
       ] refl none
@@ -252,11 +207,7 @@ module _ {V X : Type 0} (f : V → Option X) where
 
 key_found : {K X : Type 0} (t : K → Bool) (es : List (K × X)) (k : K) → Some k ≡ lookup_key t es → t k ≡ true
 key_found t [] k h = cc
-key_found {K} t (e ∷ es) k h =
-    elim (t e.0) as (λ b. t e.0 ≡ b → Some k ≡ cond b (Some e.0) (lookup_key t es) → t k ≡ true) [
-      | true ↦ λ passes is. let same : ◌≡◌ {A = K} k e.0 = cc in ap t same ∙ passes
-      | false ↦ λ _ is. key_found t es k is
-    ] refl h
+key_found {K} t (e ∷ es) k h = grind (arith, key_found t es k)
 
 -- the entry that is found has the name that was looked for
 pub found_name : {X : Type 0} (q : List ℕ) (es : List (List ℕ × X)) (i : ℕ) (k : List ℕ) (x : X) → slice_get es i ≡ Some (k, x)
@@ -281,7 +232,7 @@ or_right = grind arith
 -- a name that is not in the map is no key
 pub absent_key : {V X : Type 0} (f : V → X) (q : List ℕ) (es : List (List ℕ × V))
     → has_name (sorted_of bytes_cmp (each_part f es)) q ≡ false → lookup (λ k. same_bytes q k) es ≡ None
-absent_key f q es h = none_there (lookup (λ k. same_bytes q k) es) (has_name-each_part f q es ∙ h)
+absent_key f q es h = none_there _ (has_name-each_part f q es ∙ h)
 
 -- ---- a part that is put, whether it was declared or not
 
@@ -300,9 +251,9 @@ module _ {V X : Type 0} (f : V → Option X) where
         | None ↦ more
         | Some y ↦
             ap (cond (eq_by_cmp bytes_cmp q e.0) (Some y)) more
-            ∙ swapped (eq_by_cmp bytes_cmp q e.0) (eq_by_cmp bytes_cmp q k) (Some y) (Some x) (find bytes_cmp q rest)
+            ∙ swapped _ _ _ _ _
             (λ a b.
-            let same : e.0 ≡ k = sym (tied_names q e.0 (equal_from (bytes_cmp q e.0) a)) ∙ tied_names q k (equal_from (bytes_cmp q k) b) in
+            let same = sym (tied_names q e.0 (equal_from (bytes_cmp q e.0) a)) ∙ tied_names q k (equal_from (bytes_cmp q k) b) in
             not_later es i k v is (ap (λ (n : List ℕ). find bytes_cmp n (each_part (λ (y : V). y) es)) (sym same) ∙ once.0))
       ]
     where
@@ -310,11 +261,7 @@ module _ {V X : Type 0} (f : V → Option X) where
           → find bytes_cmp k (each_part (λ (y : V). y) es) ≡ None → ⊥
       not_later [] i k v is none = cc
       not_later (e ∷ es) zero k v is none = grind (arith, bytes_total)
-      not_later (e ∷ es) (suc i) k v is none =
-          elim (eq_by_cmp bytes_cmp k e.0) as (λ b. cond b (Some e.1) (find bytes_cmp k (each_part (λ (y : V). y) es)) ≡ None → ⊥) [
-            | true ↦ λ h. cc
-            | false ↦ λ h. not_later es i k v is h
-          ] none
+      not_later (e ∷ es) (suc i) k v is none = grind (arith, not_later es i k v is)
 
 -- ---- how the draft of tables changes with the objective, and with a row that is added or written
 
@@ -373,34 +320,29 @@ module _ (sense : Option Sense) (constant : Option Number) (objective : Option O
 
     kept_name : (n : ℕ) (r : List ℕ) → name_of_row_key objective rows n ≡ Some r → name_of_row_key objective added n ≡ Some r
     kept_name zero r h = h
-    kept_name (suc i) r h = names-more rows ((k, record { definition = definition; rhs = None; range = None }) ∷ []) i r h
+    kept_name (suc i) r h = names-more _ _ i r h
 
     missing : has_row (draft_from sense constant objective rows columns) k ≡ false → find bytes_cmp k (each_part definition_of rows) ≡ None
-    missing absent = let all : Draft = draft_from sense constant objective rows columns in
-        absent-each_part definition_of k rows (right_false (is_objective all k) (has_name all.rows k) absent)
+    missing absent = let all = draft_from sense constant _ rows columns in absent-each_part _ k _ (right_false (is_objective all k)
+        (has_name all.rows k) absent)
 
     pub row_draft : AreNumbered objective rows columns → has_row (draft_from sense constant objective rows columns) k ≡ false → draft_from
         sense constant objective added columns ≡ with_declaration (draft_from sense constant objective rows columns) (declare_row k definition)
     row_draft numbered absent = let parts : RowParts = record { definition = definition; rhs = None; range = None } in
-        let forms : sorted_of bytes_cmp (each_part definition_of added) ≡ put bytes_cmp k definition
-        (sorted_of bytes_cmp (each_part definition_of rows)) = ap (sorted_of bytes_cmp) (each_part-append definition_of rows k parts)
-        ∙ sorted_of-append bytes_cmp bytes_total tied_names k definition (each_part definition_of rows) (missing absent) in
-        let cells = all_cells-more (name_of_row_key objective rows) (name_of_row_key objective added) kept_name (cells_by_name columns) numbered.named in
-        let rhs_values = given_parts-without rhs_of rows k parts refl in let ranges = given_parts-without range_of rows k parts refl in
+        let forms = ap (sorted_of bytes_cmp) (each_part-append definition_of rows k parts)
+        ∙ sorted_of-append _ bytes_total tied_names k _ _ (missing absent) in
+        let cells = all_cells-more _ _ kept_name (cells_by_name columns) numbered.named in
+        let rhs_values = given_parts-without _ rows k _ refl in let ranges = given_parts-without _ rows k _ refl in
         λ i. record (draft_from sense constant objective rows columns)
         { rows = forms i; rhs_values = sorted_of bytes_cmp (objective_rhs objective ++ rhs_values i); ranges = sorted_of bytes_cmp (ranges i); coefficients = sorted_of key_cmp (cells i) }
 
     old_or_new : (n : ℕ) (r : List ℕ) → name_of_row_key objective added n ≡ Some r
         → (name_of_row_key objective rows n ≡ Some r) ⊎ ((n ≡ suc (length rows)) × (k ≡ r))
     old_or_new zero r h = inl h
-    old_or_new (suc i) r h =
-        elim (old_or_last rows k (record { definition = definition; rhs = None; range = None }) i r h) [
-          | inl old ↦ inl old
-          | inr last ↦ inr (ap suc last.0, last.1)
-        ]
+    old_or_new (suc i) r h = grind (arith, old_or_last)
 
     not_new : has_row (draft_from sense constant objective rows columns) k ≡ false → (n : ℕ) → name_of_row_key objective rows n ≡ Some k → ⊥
-    not_new absent zero h = let all : Draft = draft_from sense constant objective rows columns in
+    not_new absent zero h = let all = draft_from sense constant _ rows columns in
         let none = left_false (is_objective all k) (has_name all.rows k) absent in
         let own : same_bytes k k ≡ false = sym (ap (λ (o : Option (List ℕ)). option_map_or (same_bytes k) o false) h) ∙ none in
         let so : same_bytes k k ≡ true = nat_list_eq_equiv.refl k in cc
@@ -411,17 +353,8 @@ module _ (sense : Option Sense) (constant : Option Number) (objective : Option O
     row_numbered numbered few absent = record {
       few = simp length-append (omega arith);
       apart = λ n m r p q.
-          elim (old_or_new n r p) [
-            | inl a ↦ elim (old_or_new m r q) [
-              | inl b ↦ numbered.apart n m r a b
-              | inr b ↦ absurd (not_new absent n (a ∙ ap Some (sym b.1)))
-            ]
-            | inr a ↦ elim (old_or_new m r q) [
-              | inl b ↦ absurd (not_new absent m (b ∙ ap Some (sym a.1)))
-              | inr b ↦ a.0 ∙ sym b.0
-            ]
-          ];
-      named = all_named-more (name_of_row_key objective rows) (name_of_row_key objective added) kept_name (cells_by_name columns)
+          (grind (arith, old_or_new, not_new));
+      named = all_named-more _ _ kept_name (cells_by_name columns)
           numbered.named;
     }
 
@@ -430,7 +363,7 @@ module _ (sense : Option Sense) (constant : Option Number) (objective : Option O
   module _ (i : ℕ) (k : List ℕ) (v w : RowParts) (row : slice_get rows i ≡ Some (k, v)) where
     same_name_at : (n : ℕ) → name_of_row_key objective (set_value_at rows i w) n ≡ name_of_row_key objective rows n
     same_name_at zero = refl
-    same_name_at (suc j) = name_kept rows i j w
+    same_name_at (suc j) = name_kept _ i j w
 
     same_length : (rows : List (List ℕ × RowParts)) (i : ℕ) → length (set_value_at rows i w) ≡ length rows
     same_length [] i = refl
@@ -442,9 +375,9 @@ module _ (sense : Option Sense) (constant : Option Number) (objective : Option O
 
     pub written_numbered : AreNumbered objective rows columns → AreNumbered objective (set_value_at rows i w) columns
     written_numbered numbered = record {
-      few = rw (same_length rows i) numbered.few;
+      few = rw (same_length _ i) numbered.few;
       apart = λ n m r p q. numbered.apart n m r (sym (same_name_at n) ∙ p) (sym (same_name_at m) ∙ q);
-      named = all_named-more (name_of_row_key objective rows) (name_of_row_key objective (set_value_at rows i w)) still
+      named = all_named-more _ _ still
           (cells_by_name columns) numbered.named;
     }
 
@@ -460,39 +393,20 @@ module _ (sense : Option Sense) (constant : Option Number) (objective : Option O
     pub range_draft : (x : Number) → AreNumbered objective rows columns → IsOnce (each_part definition_of rows)
         → w ≡ record v { range = Some x } → draft_from sense constant objective (set_value_at rows i w) columns
         ≡ with_declaration (draft_from sense constant objective rows columns) (declare_range k x)
-    range_draft x numbered once is = let rhs_values = given_parts-kept rhs_of rows i k v w row (ap rhs_of is) in let ranges : sorted_of
-        bytes_cmp (given_parts range_of (set_value_at rows i w)) ≡ put bytes_cmp k x (sorted_of bytes_cmp (given_parts range_of rows))
-        = sorted_of-put bytes_cmp bytes_total tied_names k x (given_parts range_of (set_value_at rows i w)) (given_parts range_of rows)
+    range_draft x numbered once is = let rhs_values = given_parts-kept _ _ i k v w row (ap rhs_of is) in let ranges = sorted_of-put _ bytes_total tied_names k x (given_parts range_of (set_value_at rows i w)) (given_parts range_of rows)
         (λ q. find-given_any range_of q x rows i k v w row (ap range_of is) (once_too definition_of (λ (y : RowParts). y) rows once)) in
         λ j. record (draft_from sense constant objective rows columns)
         { rows = same_forms (ap definition_of is) j; rhs_values = sorted_of bytes_cmp (objective_rhs objective ++ rhs_values j); ranges = ranges j; coefficients = same_cells numbered j }
 
     -- the objective has another name than its rows
     pub other_rhs : AreNumbered objective rows columns → find bytes_cmp k (objective_rhs objective) ≡ None
-    other_rhs numbered =
-        elim objective as (λ o. objective ≡ o → find bytes_cmp k (objective_rhs o) ≡ None) [
-          | None ↦ λ _. refl
-          | Some parts ↦ λ there.
-              elim parts.rhs as (λ value. find bytes_cmp k (option_map_or (λ x. (parts.name, x) ∷ []) value []) ≡ None) [
-                | None ↦ refl
-                | Some x
-                    ↦ elim (eq_by_cmp bytes_cmp k parts.name) as (λ b. eq_by_cmp bytes_cmp k parts.name ≡ b → cond b (Some x) None ≡ None) [
-                      | true ↦ λ tie.
-                          let same : k ≡ parts.name = tied_names k parts.name (equal_from (bytes_cmp k parts.name) tie) in
-                          let no : zero ≡ suc i = numbered.apart zero (suc i) k (ap name_of_objective there ∙ ap Some (sym same))
-                          (ap (option_map (λ (e : List ℕ × RowParts). e.0)) row) in
-                          cc
-                      | false ↦ λ _. refl
-                    ] refl
-              ]
-        ] refl
+    other_rhs numbered = grind (arith, tied_names k, equal_from, numbered.apart zero (suc i) k)
 
     pub rhs_draft : (x : Number) → AreNumbered objective rows columns → IsOnce (each_part definition_of rows)
         → w ≡ record v { rhs = Some x } → draft_from sense constant objective (set_value_at rows i w) columns
         ≡ with_declaration (draft_from sense constant objective rows columns) (declare_rhs k x)
-    rhs_draft x numbered once is = let ranges = given_parts-kept range_of rows i k v w row (ap range_of is) in
-        let front = objective_rhs objective in let rhs_values : sorted_of bytes_cmp (front ++ given_parts rhs_of (set_value_at rows i w))
-        ≡ put bytes_cmp k x (sorted_of bytes_cmp (front ++ given_parts rhs_of rows)) = sorted_of-put bytes_cmp bytes_total tied_names k x
+    rhs_draft x numbered once is = let ranges = given_parts-kept _ _ i k v w row (ap range_of is) in
+        let front = objective_rhs _ in let rhs_values = sorted_of-put _ bytes_total tied_names k x
         (front ++ given_parts rhs_of (set_value_at rows i w)) (front ++ given_parts rhs_of rows)
         (λ q. find-after q k x front (given_parts rhs_of rows) (given_parts rhs_of (set_value_at rows i w)) (other_rhs numbered)
         (find-given_any rhs_of q x rows i k v w row (ap rhs_of is) (once_too definition_of (λ (y : RowParts). y) rows once))) in
@@ -512,26 +426,26 @@ module _ (sense : Option Sense) (constant : Option Number) (name : List ℕ) (ro
 
     pub objective_draft : draft_from sense constant named rows columns
         ≡ with_declaration (draft_from sense constant None rows columns) (declare_objective name)
-    objective_draft = let cells = all_cells-more (name_of_row_key None rows) (name_of_row_key named rows) still_named (cells_by_name columns) numbered.named in
-        λ i. record (draft_from sense constant None rows columns) { objective = Some name; coefficients = sorted_of key_cmp (cells i) }
+    objective_draft = let cells = all_cells-more _ _ still_named (cells_by_name columns) numbered.named in λ i. record (draft_from sense
+        constant None rows columns) { objective = Some name; coefficients = sorted_of key_cmp (cells i) }
 
     no_row : has_row (draft_from sense constant None rows columns) name ≡ false → (i : ℕ) (r : List ℕ)
         → option_map (λ e. e.0) (slice_get rows i) ≡ Some r → Some name ≡ Some r → ⊥
-    no_row absent i r h is = let same : ◌≡◌ {A = List ℕ} r name = cc in
-        there_found definition_of rows i name (h ∙ ap Some same) (absent-each_part definition_of name rows absent)
+    no_row absent i r h is =
+        let same : ◌≡◌ {A = List ℕ} r name = cc in there_found _ _ i _ (h ∙ ap Some same) (absent-each_part definition_of name rows absent)
 
     pub objective_numbered : has_row (draft_from sense constant None rows columns) name ≡ false → AreNumbered named rows columns
     objective_numbered absent = record {
       few = numbered.few;
       apart = apart;
-      named = all_named-more (name_of_row_key None rows) (name_of_row_key named rows) still_named (cells_by_name columns) numbered.named;
+      named = all_named-more _ _ still_named (cells_by_name columns) numbered.named;
     }
       where
         apart : (n m : ℕ) (r : List ℕ) → name_of_row_key named rows n ≡ Some r → name_of_row_key named rows m ≡ Some r → n ≡ m
         apart zero zero r p q = refl
         apart zero (suc j) r p q = absurd (no_row absent j r q p)
         apart (suc i) zero r p q = absurd (no_row absent i r p q)
-        apart (suc i) (suc j) r p q = numbered.apart (suc i) (suc j) r p q
+        apart (suc i) (suc j) r p q = numbered.apart _ _ r p q
 
 -- the right-hand side of the objective
 module _ (sense : Option Sense) (constant : Option Number) (o : ObjectiveParts) (x : Number) (rows : List (List ℕ × RowParts)) (columns : List (List ℕ × ColumnParts)) where
@@ -552,9 +466,8 @@ cells-empty name c (col ∷ cols) = grind (arith, cells-empty name c cols)
 named-empty : (name : ℕ → Option (List ℕ)) (c : List ℕ) (cols : List (List ℕ × List (ℕ × Number))) → all_named name cols ≡ true
     → all_named name (cols ++ (c, []) ∷ []) ≡ true
 named-empty name c [] h = refl
-named-empty name c (col ∷ cols) h = let test : ℕ × Number → Bool = λ e. is_some (name e.0) in
-    both_so (list_all test col.1) (all_named name (cols ++ (c, []) ∷ [])) (first_so (list_all test col.1) (all_named name cols) h)
-    (named-empty name c cols (second_so (list_all test col.1) (all_named name cols) h))
+named-empty name c (col ∷ cols) h = let test : ℕ × Number → Bool = λ e. is_some _ in both_so _ _ (first_so (list_all test col.1) (all_named
+    name cols) h) (named-empty name c cols (second_so (list_all test col.1) (all_named name cols) h))
 
 module _ (sense : Option Sense) (constant : Option Number) (objective : Option ObjectiveParts) (rows : List (List ℕ × RowParts)) (columns : List (List ℕ × ColumnParts)) where
   abbrev before : Draft
@@ -570,12 +483,11 @@ module _ (sense : Option Sense) (constant : Option Number) (objective : Option O
 
     pub column_draft : has_column before k ≡ false
         → draft_from sense constant objective rows (columns ++ (k, new_column) ∷ []) ≡ with_declaration before (declare_column k)
-    column_draft absent = let names : sorted_of bytes_cmp (each_part no_part (columns ++ (k, new_column) ∷ [])) ≡ put bytes_cmp k tt
-        (sorted_of bytes_cmp (each_part no_part columns)) = ap (sorted_of bytes_cmp) (each_part-append no_part columns k new_column)
-        ∙ sorted_of-append bytes_cmp bytes_total tied_names k tt (each_part no_part columns) (absent-each_part no_part k columns absent) in
-        let name = name_of_row_key objective rows in
-        let cells : all_cells name (cells_by_name (columns ++ (k, new_column) ∷ [])) ≡ all_cells name (cells_by_name columns) = ap
-        (all_cells name) (each_part-append cells_of columns k new_column) ∙ cells-empty name k (cells_by_name columns) in λ i. record before
+    column_draft absent = let names = ap (sorted_of bytes_cmp) (each_part-append no_part columns k new_column)
+        ∙ sorted_of-append _ bytes_total tied_names k tt _ (absent-each_part no_part k columns absent) in
+        let name = name_of_row_key _ _ in
+        let cells = ap
+        (all_cells name) (each_part-append cells_of columns k new_column) ∙ cells-empty _ k (cells_by_name columns) in λ i. record before
         { columns = names i; coefficients = sorted_of key_cmp (cells i); lowers = none_more lower_of refl i; uppers = none_more upper_of refl i; marked = none_more mark_of refl i; integers = none_more integer_of refl i; binaries = none_more binary_of refl i; semis = none_more semi_of refl i }
 
     pub column_numbered : AreNumbered objective rows columns → AreNumbered objective rows (columns ++ (k, new_column) ∷ [])
@@ -583,7 +495,7 @@ module _ (sense : Option Sense) (constant : Option Number) (objective : Option O
       few = numbered.few;
       apart = numbered.apart;
       named = ap (all_named (name_of_row_key objective rows)) (each_part-append cells_of columns k new_column)
-          ∙ named-empty (name_of_row_key objective rows) k (cells_by_name columns) numbered.named;
+          ∙ named-empty _ k (cells_by_name columns) numbered.named;
     }
 
   -- ---- a column that is written
@@ -600,11 +512,10 @@ module _ (sense : Option Sense) (constant : Option Number) (objective : Option O
     part : {X : Type 0} (f : ColumnParts → Option X) (w : ColumnParts) (more : Option X) → IsOnce (cells_by_name columns) → f w ≡ or_else more (f v)
         → sorted_of bytes_cmp (given_parts f (set_value_at columns i w)) ≡ with_part more (sorted_of bytes_cmp (given_parts f columns))
     part f w None once is = ap (sorted_of bytes_cmp) (given_parts-kept f columns i k v w column is)
-    part f w (Some x) once is = sorted_of-put bytes_cmp bytes_total tied_names k x (given_parts f (set_value_at columns i w)) (given_parts f
-        columns) (λ q. find-given_any f q x columns i k v w column is (once_too cells_of (λ (y : ColumnParts). y) columns once))
+    part f w (Some x) once is = sorted_of-put _ bytes_total tied_names k x _ _ (λ q. find-given_any f q x _ i k v w column is (once_too cells_of (λ (y : ColumnParts). y) columns once))
 
     same_cells_column : (w : ColumnParts) → cells_of w ≡ cells_of v → cells_by_name (set_value_at columns i w) ≡ cells_by_name columns
-    same_cells_column w cells = each_part-kept cells_of columns i k v w column cells
+    same_cells_column w cells = each_part-kept _ _ i k v w column cells
 
     pub kept_numbered : (w : ColumnParts) → cells_of w ≡ cells_of v → AreNumbered objective rows columns
         → AreNumbered objective rows (set_value_at columns i w)
@@ -621,28 +532,23 @@ module _ (sense : Option Sense) (constant : Option Number) (objective : Option O
         → integer_of w ≡ or_else integer (integer_of v) → binary_of w ≡ or_else binary (binary_of v) → semi_of w ≡ or_else semi (semi_of v)
         → written w ≡ record before { coefficients = coefficients; lowers = with_part lower before.lowers; uppers = with_part upper before.uppers; marked = with_part marked before.marked; integers = with_part integer before.integers; binaries = with_part binary before.binaries; semis = with_part semi before.semis }
     with_parts w lower upper marked integer binary semi coefficients once c l u m n b s = λ j. record before
-        { columns = ap (sorted_of bytes_cmp) (each_part-kept no_part columns i k v w column refl) j; coefficients = c j; lowers = part lower_of w lower once l j; uppers = part upper_of w upper once u j; marked = part mark_of w marked once m j; integers = part integer_of w integer once n j; binaries = part binary_of w binary once b j; semis = part semi_of w semi once s j }
+        { columns = ap (sorted_of bytes_cmp) (each_part-kept no_part columns i k v w column refl) j; coefficients = c j; lowers = part lower_of w _ once l j; uppers = part upper_of w _ once u j; marked = part mark_of w _ once m j; integers = part integer_of w _ once n j; binaries = part binary_of w _ once b j; semis = part semi_of w _ once s j }
 
     -- the coefficients are unchanged
     same_coefficients : (w : ColumnParts) → cells_of w ≡ cells_of v → (written w).coefficients ≡ before.coefficients
-    same_coefficients w cells = ap (λ (cols : List (List ℕ × List (ℕ × Number))). sorted_of key_cmp
-        (all_cells (name_of_row_key objective rows) cols)) (same_cells_column w cells)
+    same_coefficients w cells = ap (λ cols. sorted_of key_cmp (all_cells (name_of_row_key objective rows) cols)) (same_cells_column w cells)
 
     pub mark_draft : IsOnce (cells_by_name columns) → written (record v { marked = true }) ≡ with_declaration before (declare_marked k)
-    mark_draft once = with_parts (record v { marked = true }) None None (Some tt) None None None before.coefficients once
-        (same_coefficients _ refl) refl refl refl refl refl refl
+    mark_draft once = with_parts _ None None (Some tt) None None None _ once (same_coefficients _ refl) refl refl refl refl refl refl
 
     pub integer_draft : IsOnce (cells_by_name columns) → written (record v { integer = true }) ≡ with_declaration before (declare_integer k)
-    integer_draft once = with_parts (record v { integer = true }) None None None (Some tt) None None before.coefficients once
-        (same_coefficients _ refl) refl refl refl refl refl refl
+    integer_draft once = with_parts _ None None None (Some tt) None None _ once (same_coefficients _ refl) refl refl refl refl refl refl
 
     pub binary_draft : IsOnce (cells_by_name columns) → written (record v { binary = true }) ≡ with_declaration before (declare_binary k)
-    binary_draft once = with_parts (record v { binary = true }) None None None None (Some tt) None before.coefficients once
-        (same_coefficients _ refl) refl refl refl refl refl refl
+    binary_draft once = with_parts _ None None None None (Some tt) None _ once (same_coefficients _ refl) refl refl refl refl refl refl
 
     pub semi_draft : IsOnce (cells_by_name columns) → written (record v { semi = true }) ≡ with_declaration before (declare_semi k)
-    semi_draft once = with_parts (record v { semi = true }) None None None None None (Some tt) before.coefficients once
-        (same_coefficients _ refl) refl refl refl refl refl refl
+    semi_draft once = with_parts _ None None None None None (Some tt) _ once (same_coefficients _ refl) refl refl refl refl refl refl
 
     sides-with_declaration : (before : Draft) (lower upper : Option Limit) → with_declarations before (bounds_declared k lower upper)
         ≡ record before { lowers = with_part lower before.lowers; uppers = with_part upper before.uppers }
@@ -650,8 +556,8 @@ module _ (sense : Option Sense) (constant : Option Number) (objective : Option O
 
     pub sides_draft : (lower upper : Option Limit) → IsOnce (cells_by_name columns)
         → written (with_bounds lower upper v) ≡ with_declarations before (bounds_declared k lower upper)
-    sides_draft lower upper once = with_parts (with_bounds lower upper v) lower upper None None None None before.coefficients once
-        (same_coefficients _ refl) refl refl refl refl refl refl ∙ sym (sides-with_declaration before lower upper)
+    sides_draft lower upper once = with_parts _ _ _ None None None None _ once (same_coefficients _ refl) refl refl refl refl refl refl ∙
+        sym (sides-with_declaration before lower upper)
 
     -- ---- a coefficient
 
@@ -665,18 +571,18 @@ module _ (sense : Option Sense) (constant : Option Number) (objective : Option O
       pub cell_draft : (x : Number) → IsOnce (cells_by_name columns) → has_coefficient before (at r k) ≡ false
           → written (with_cell n x v) ≡ with_declaration before (declare_coefficient (at r k) x)
       cell_draft x once absent =
-          let w : ColumnParts = with_cell n x v in
-          let name = name_of_row_key objective rows in
-          let every = all_cells name (cells_by_name columns) in
-          let missing : find key_cmp (at r k) every ≡ None =
-          sym (find-sorted_of key_cmp key_total (at r k) every) ∙ none_there (find key_cmp (at r k) (sorted_of key_cmp every)) absent in
-          with_parts w None None None None None None (put key_cmp (at r k) x before.coefficients) once (
+          let w = with_cell n x v in
+          let name = name_of_row_key _ _ in
+          let every = all_cells _ (cells_by_name columns) in
+          let missing =
+          sym (find-sorted_of key_cmp key_total (at r k) every) ∙ none_there _ absent in
+          with_parts w None None None None None None _ once (
           sorted_of-put key_cmp key_total same_key (at r k) x (all_cells name (cells_by_name (set_value_at columns i w))) every
           (λ q. find-put_in_column cells_of name numbered.apart q n x r columns i k v w row column refl missing)) refl refl refl refl refl
           refl
 
       pub cell_numbered : (x : Number) → AreNumbered objective rows (set_value_at columns i (with_cell n x v))
-      cell_numbered x = record { few = numbered.few; apart = numbered.apart; named = named-set columns i column numbered.named }
+      cell_numbered x = record { few = numbered.few; apart = numbered.apart; named = named-set _ i column numbered.named }
         where
           test : ℕ × Number → Bool
           test e = is_some (name_of_row_key objective rows e.0)
@@ -686,13 +592,12 @@ module _ (sense : Option Sense) (constant : Option Number) (objective : Option O
               → all_named (name_of_row_key objective rows) (cells_by_name (set_value_at cols i (with_cell n x v))) ≡ true
           named-set [] i is h = cc
           named-set (c ∷ cols) zero is h = let here : ◌≡◌ {A = List ℕ × ColumnParts} c (k, v) = cc in
-              let own : list_all test (cells_of v) ≡ true = ap (λ (y : List ℕ × ColumnParts). list_all test (cells_of y.1)) (sym here)
-              ∙ first_so (list_all test (cells_of c.1)) (all_named (name_of_row_key objective rows) (cells_by_name cols)) h in
-              both_so (list_all test (put nat_cmp n x (cells_of v))) (all_named (name_of_row_key objective rows) (cells_by_name cols))
+              let own = ap (λ y. list_all test (cells_of y.1)) (sym here)
+              ∙ first_so _ _ h in
+              both_so _ _
               (put_all nat_cmp test n x (cells_of v) (λ j tie. ap (λ (m : ℕ). is_some (name_of_row_key objective rows m))
               (sym (nat_cmp-IsAntisymmetric n j tie)) ∙ ap is_some row) (ap is_some row) own)
               (second_so (list_all test (cells_of c.1)) (all_named (name_of_row_key objective rows) (cells_by_name cols)) h)
-          named-set (c ∷ cols) (suc i) is h = both_so (list_all test (cells_of c.1))
-              (all_named (name_of_row_key objective rows) (cells_by_name (set_value_at cols i (with_cell n x v))))
-              (first_so (list_all test (cells_of c.1)) (all_named (name_of_row_key objective rows) (cells_by_name cols)) h) (named-set cols
-              i is (second_so (list_all test (cells_of c.1)) (all_named (name_of_row_key objective rows) (cells_by_name cols)) h))
+          named-set (c ∷ cols) (suc i) is h = both_so _ _ (first_so (list_all test (cells_of c.1)) (all_named (name_of_row_key objective
+              rows) (cells_by_name cols)) h) (named-set cols i is (second_so (list_all test (cells_of c.1)) (all_named (name_of_row_key
+              objective rows) (cells_by_name cols)) h))

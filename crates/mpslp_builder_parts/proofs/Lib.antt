@@ -1,6 +1,5 @@
-pub mod FrontLemmas
+pub mod FirstBytes
 pub mod OrderLemmas
 pub mod RankLemmas
 pub mod PassLemmas
 pub mod TakenLemmas
-pub mod PlaceLemmas

@@ -1,21 +1,81 @@
 -- Entries in the order of their names.
-use Rattle.std.proofs.Common.{◌≡◌, refl, sym, ap, subst, ◌∙◌, ℕ, zero, suc, ◌+◌, ◌<◌, List, [], ◌∷◌, length, map, get_or, arith, true}
-use Rattle.std.proofs.Common.{false, nat_lt, IsPermutation}
-use Rattle.std.proofs.lemmas.{Bool.Decides.nat_tests, List.{get_or-map, length-map, Sorted.{IsPermutation-map, All-permutation}}}
-use Rattle.std.specs.{Prelude.{Result, Ok, Err, IfOk, slice_index}, Ordering.{is_lt, nat_cmp, ordering_then}}
-use Rattle.std.specs.{Cmp.{IsTotalOrder, nat_cmp_total, then_total, on_total}, List.{All, Sorted.IsSortedBy}}
-use Rattle.mpslp_types.{specs.Name.bytes_cmp, proofs.EachLemmas.Each}
-use Rattle.mpslp_model_core.proofs.{CellLemmas.bytes_total, RenumberLemmas.all-from_each}
-use Rattle.mpslp_builder_parts.specs.{Ordered.{name_at, front_value, front_at, front_cmp}, declared.order.Front.Front}
-use Rattle.mpslp_builder_parts.proofs.FrontLemmas.{AreBytes, front-then}
+use Rattle.std.proofs.Common.{IsPermutation, List, [], ap, arith, get_or, length, map, refl, set, subst, suc, sym, take, zero, ℕ, ◌*◌, ◌+◌}
+use Rattle.std.proofs.{Common.{◌<◌, ◌∙◌, ◌∷◌, ◌≡◌, ◌≤◌}, lemmas.List.{get_or-map, get_or-set_other, get_or-set_same, get_or-take}}
+use Rattle.std.proofs.lemmas.List.{length-map, length-set, length-take-le, FromFn.{get_or-range_with_len, length-range_with_len}}
+use Rattle.std.{proofs.lemmas.{List.Sorted.{All-permutation, IsPermutation-map}, Option.slice_get-get_or}, specs.Cmp.IsTotalOrder}
+use Rattle.std.specs.{Cmp.{nat_cmp_total, on_total, ranked, then_total}, FinMap.nat_cmp-IsAntisymmetric, List.{All, SwappedAt, cons_option}}
+use Rattle.std.specs.{List.{range_with_len, Sorted.IsSortedBy}, Ordering.{is_lt, nat_cmp, ordering_then}, Prelude.{IfOk, Result, Some}}
+use Rattle.std.specs.{Prelude.{slice_index, ◌≢◌}, declared.cmp.Ordering.TheVariants.{Equal, Greater, Less}}
+use Rattle.mpslp_model_core.proofs.{CellLemmas.{bytes_total, tied_names}, RenumberLemmas.all-from_each}
+use Rattle.mpslp_types.{proofs.EachLemmas.Each, specs.Name.bytes_cmp}
+use Rattle.mpslp_builder_parts.specs.{Ordered.{entries_at, front_at, front_cmp, front_value, name_at}, declared.order.Front.Front}
 
-pub name_at-entry : {V : Type 0} (entries : List (List ℕ × V)) (n : ℕ) (e : List ℕ × V) → n < length entries → e ≡ get_or entries n e → (get_or entries n e).0 ≡ name_at entries n
-name_at-entry [] n e h is = absurd (omega arith)
-name_at-entry (x ∷ entries) zero e h is = refl
+-- the weight of a byte that is followed by so many others
+abbrev pub worth : ℕ → ℕ
+worth zero = 1
+worth (suc n) = worth n * 256
+
+abbrev pub AreBytes : List ℕ → Type 0
+AreBytes name = (i : ℕ) → get_or name i 0 < 256
+
+pub front-below : (n : ℕ) (name : List ℕ) → AreBytes name → front_value n name < worth n
+front-below zero name bytes = omega arith
+front-below (suc n) name bytes = omega (arith, front-below n name bytes, bytes n)
+
+-- ---- the key, from the first byte on
+
+front-none : (n : ℕ) → front_value n [] ≡ 0
+front-none zero = refl
+front-none (suc n) = omega (arith, front-none n)
+
+front-first : (n : ℕ) (x : ℕ) (xs : List ℕ) → front_value (suc n) (x ∷ xs) ≡ x * worth n + front_value n xs
+front-first zero x xs = omega arith
+front-first (suc n) x xs = grind (arith, front-first n x xs)
+
+less_is : (x y : ℕ) → nat_cmp x y ≡ Less → x < y
+less_is x y is = ranked x y Less (sym is)
+
+below : (a b w f g : ℕ) → a < b → f < w → a * w + f ≤ b * w + g
+below a b w f g h i = grind (arith, h, i)
+
+tail_bytes : (x : ℕ) (xs : List ℕ) → AreBytes (x ∷ xs) → AreBytes xs
+tail_bytes x xs h i = h (suc i)
+
+-- the key of the lesser name is not greater
+front-rises : (n : ℕ) (a b : List ℕ) → AreBytes a → AreBytes b → bytes_cmp a b ≡ Less → front_value n a ≤ front_value n b
+front-rises (suc n) (x ∷ xs) (y ∷ ys) h k less =
+    let first = front-first n x xs in
+    let second = front-first n y ys in
+    elim (nat_cmp x y) as (λ r. nat_cmp x y ≡ r → ordering_then r (bytes_cmp xs ys) ≡ Less
+    → front_value (suc n) (x ∷ xs) ≤ front_value (suc n) (y ∷ ys)) [
+      | Less ↦ λ is _. omega (
+        arith,
+        first,
+        second,
+        below x y (worth n) (front_value n xs) (front_value n ys) (less_is x y is)
+            (front-below n xs (tail_bytes x xs h)),
+      )
+      | Equal ↦ λ is rest.
+          let same = ap (λ b. b * worth n) (nat_cmp-IsAntisymmetric x y is) in
+          omega (arith, first, second, same, front-rises n xs ys (tail_bytes x xs h) (tail_bytes y ys k) rest)
+      | Greater ↦ λ _ never. cc
+    ] refl less
+front-rises _ _ _ h k less = grind (arith, front-none)
+
+-- comparison by key and then by name is comparison by bytes
+pub front-then : (n : ℕ) (a b : List ℕ) → AreBytes a → AreBytes b
+    → ordering_then (nat_cmp (front_value n a) (front_value n b)) (bytes_cmp a b) ≡ bytes_cmp a b
+front-then = grind (arith, front-rises, tied_names, bytes_total, less_is)
+
+-- ---- Entries in the order of their names.
+
+pub name_at-entry : {V : Type 0} (entries : List (List ℕ × V)) (n : ℕ) (e : List ℕ × V) → n < length entries → e ≡ get_or entries n e
+    → (get_or entries n e).0 ≡ name_at entries n
 name_at-entry (x ∷ entries) (suc n) e h is = name_at-entry entries n e (omega arith) is
+name_at-entry _ _ e h is = grind arith
 
 pub front_total : {V : Type 0} (entries : List (List ℕ × V)) → IsTotalOrder (front_cmp entries)
-front_total entries = then_total (on_total (λ (f : Front). f.bytes) nat_cmp_total) (on_total (λ (f : Front). name_at entries f.number) bytes_total)
+front_total entries = then_total (on_total (λ f. f.bytes) nat_cmp_total) (on_total (λ f. name_at entries f.number) bytes_total)
 
 -- ---- sorted keys, and their numbers
 
@@ -30,41 +90,39 @@ as_names : {V : Type 0} (entries : List (List ℕ × V)) → HaveBytes entries �
     → front_cmp entries a b ≡ bytes_cmp (name_at entries a.number) (name_at entries b.number)
 as_names entries bytes a b p q =
     (λ i. ordering_then (nat_cmp (p i) (q i)) (bytes_cmp (name_at entries a.number) (name_at entries b.number)))
-    ∙ front-then 16 (name_at entries a.number) (name_at entries b.number) (bytes a.number) (bytes b.number)
+    ∙ front-then 16 _ _ (bytes a.number) (bytes b.number)
 
-pub sorted_numbers : {V : Type 0} (entries : List (List ℕ × V)) → HaveBytes entries → (fronts : List Front) → All (IsFrontOf entries) fronts → IsSortedBy (λ a b. is_lt (front_cmp entries a b)) fronts
+pub sorted_numbers : {V : Type 0} (entries : List (List ℕ × V)) → HaveBytes entries → (fronts : List Front) → All (IsFrontOf entries) fronts
+    → IsSortedBy (λ a b. is_lt (front_cmp entries a b)) fronts
     → IsSortedBy (λ n m. is_lt (bytes_cmp (name_at entries n) (name_at entries m))) (map (λ f. f.number) fronts)
-sorted_numbers entries bytes [] own sorted k d l h = absurd (omega (arith, h))
+sorted_numbers entries bytes [] own sorted k d l h = grind arith
 sorted_numbers entries bytes (f ∷ fronts) own sorted k d l h =
     let all = f ∷ fronts in
-    let there : k + 1 < length all = omega (arith, h, length-map all (λ (f : Front). f.number)) in
+    let there : k + 1 < length all = omega (arith, h, length-map all (λ f. f.number)) in
     let here : k < length all = omega (arith, there) in
-    (λ i. is_lt (bytes_cmp (name_at entries (get_or-map (λ (f : Front). f.number) all (k + 1) f d there i)) (name_at entries (get_or-map (λ (f : Front). f.number) all k f d here i))))
-    ∙ ap is_lt (sym (as_names entries bytes (get_or all (k + 1) f) (get_or all k f) (own (k + 1) f there) (own k f here)))
+    (λ i. is_lt (bytes_cmp (name_at entries (get_or-map (λ f. f.number) all (k + 1) f d there i))
+    (name_at entries (get_or-map (λ f. f.number) all k f d here i))))
+    ∙ ap is_lt (sym (as_names entries bytes _ _ (own (k + 1) f there) (own k f here)))
     ∙ sorted k f l there
 
 -- a property below a number and at it
 pub at_next : (P : ℕ → Type 0) (number n : ℕ) → n < number + 1 → (n < number → P n) → P number → P n
-at_next P number n h under here =
-    elim (nat_lt n number) as (λ b. nat_lt n number ≡ b → P n) [
-      | true ↦ λ e. under (grind (arith, nat_tests, e))
-      | false ↦ λ e. let is : number ≡ n = grind (arith, nat_tests, e, h) in subst P is here
-    ] refl
+at_next = grind arith
 
 -- ---- the numbers in that order
 
 -- an implication for a result, if there is one
 pub if_ok : {A B : Type 0} {P Q : A → Type 0} (r : Result A B) → ((a : A) → P a → Q a) → IfOk r P → IfOk r Q
-if_ok (Ok a) f h = f a h
-if_ok (Err e) f h = tt
+if_ok _ f h = grind arith
 
 -- a missing entry has no bytes in its name
-name_bytes : {V : Type 0} (entries : List (List ℕ × V)) (n i : ℕ) → (n < length entries → get_or (name_at entries n) i 0 < 256) → get_or (name_at entries n) i 0 < 256
-name_bytes [] n i h = omega arith
-name_bytes (x ∷ entries) zero i h = h (omega arith)
+name_bytes : {V : Type 0} (entries : List (List ℕ × V)) (n i : ℕ) → (n < length entries → get_or (name_at entries n) i 0 < 256)
+    → get_or (name_at entries n) i 0 < 256
 name_bytes (x ∷ entries) (suc n) i h = name_bytes entries n i (λ l. h (omega (arith, l)))
+name_bytes _ _ i h = grind arith
 
-pub have_bytes : {V : Type 0} (entries : List (List ℕ × V)) → ((n i : ℕ) → n < length entries → slice_index (name_at entries n) i < 256) → HaveBytes entries
+pub have_bytes : {V : Type 0} (entries : List (List ℕ × V)) → ((n i : ℕ) → n < length entries → slice_index (name_at entries n) i < 256)
+    → HaveBytes entries
 have_bytes entries h n i = name_bytes entries n i (h n i)
 
 own_fronts : {V : Type 0} (entries : List (List ℕ × V)) (ns : List ℕ) → Each (IsFrontOf entries) (map (front_at entries) ns)
@@ -73,13 +131,91 @@ own_fronts entries (n ∷ ns) = (refl, own_fronts entries ns)
 
 numbers-fronts : {V : Type 0} (entries : List (List ℕ × V)) (ns : List ℕ) → map (λ f. f.number) (map (front_at entries) ns) ≡ ns
 numbers-fronts entries [] = refl
-numbers-fronts entries (n ∷ ns) = ap (λ (ns : List ℕ). n ∷ ns) (numbers-fronts entries ns)
+numbers-fronts entries (n ∷ ns) = ap (λ ns. n ∷ ns) (numbers-fronts entries ns)
 
-pub numbers-permutation : {V : Type 0} (entries : List (List ℕ × V)) (ns : List ℕ) (fronts sorted : List Front) → fronts ≡ map (front_at entries) ns → IsPermutation fronts sorted → IsPermutation ns (map (λ f. f.number) sorted)
+pub numbers-permutation : {V : Type 0} (entries : List (List ℕ × V)) (ns : List ℕ) (fronts sorted : List Front)
+    → fronts ≡ map (front_at entries) ns → IsPermutation fronts sorted → IsPermutation ns (map (λ f. f.number) sorted)
 numbers-permutation entries ns fronts sorted is p =
-    subst (λ (ns : List ℕ). IsPermutation ns (map (λ f. f.number) sorted)) (ap (λ (fs : List Front). map (λ f. f.number) fs) is ∙ numbers-fronts entries ns)
-    (IsPermutation-map (λ (f : Front). f.number) fronts sorted p)
+    subst (λ ns. IsPermutation ns (map (λ f. f.number) sorted)) (ap (λ fs. map (λ f. f.number) fs) is ∙ numbers-fronts entries ns)
+    (IsPermutation-map (λ f. f.number) fronts sorted p)
 
-pub own-fronts : {V : Type 0} (entries : List (List ℕ × V)) (ns : List ℕ) (fronts sorted : List Front) → fronts ≡ map (front_at entries) ns → IsPermutation fronts sorted → All (IsFrontOf entries) sorted
+pub own-fronts : {V : Type 0} (entries : List (List ℕ × V)) (ns : List ℕ) (fronts sorted : List Front) → fronts ≡ map (front_at entries) ns
+    → IsPermutation fronts sorted → All (IsFrontOf entries) sorted
 own-fronts entries ns fronts sorted is p =
-    All-permutation (IsFrontOf entries) fronts sorted p (subst (All (IsFrontOf entries)) (sym is) (all-from_each (IsFrontOf entries) (map (front_at entries) ns) (own_fronts entries ns)))
+    All-permutation (IsFrontOf entries) fronts sorted p
+    (subst (All (IsFrontOf entries)) (sym is) (all-from_each _ _ (own_fronts entries ns)))
+
+-- ---- Items that are moved to their places one after another, each by a swap.
+
+-- ---- what holds after some of the moves
+
+-- the number of the item at a place
+pub record IsNumbered {X : Type 0} (all items : List X) (numbers places : List ℕ) (place : ℕ) : Type 0 where
+  pub below : get_or numbers place 0 < length all
+  pub back : get_or places (get_or numbers place 0) 0 ≡ place
+  pub item : (d : X) → get_or items place d ≡ get_or all (get_or numbers place 0) d
+
+-- the place of the item of a number, among those that are not done
+pub record IsPlaced (done len : ℕ) (numbers places : List ℕ) (number : ℕ) : Type 0 where
+  pub later : done ≤ get_or places number 0
+  pub below : get_or places number 0 < len
+  pub back : get_or numbers (get_or places number 0) 0 ≡ number
+
+pub record AreMoved {X : Type 0} (all : List X) (order : List ℕ) (done : ℕ) (items : List X) (numbers places : List ℕ) : Type 0 where
+  pub within : done ≤ length all
+  pub len : length items ≡ length all
+  pub numbers_len : length numbers ≡ length all
+  pub places_len : length places ≡ length all
+  pub moved : (r : ℕ) (d : X) → r < done → get_or items r d ≡ get_or all (get_or order r 0) d
+  pub numbered : (q : ℕ) → done ≤ q → q < length all → IsNumbered all items numbers places q
+  pub placed : (i : ℕ) → i < length all → ((r : ℕ) → r < done → get_or order r 0 ≢ i) → IsPlaced done (length all) numbers places i
+
+-- ---- before the first move
+
+pub none_moved : {X : Type 0} (all : List X) (order : List ℕ)
+    → AreMoved all order 0 all (range_with_len 0 (length all)) (range_with_len 0 (length all))
+none_moved all order = grind (arith, get_or-range_with_len, length-range_with_len, below)
+
+-- ---- one move
+
+module _ {X : Type 0} (all : List X) (order : List ℕ) (within : (p : ℕ) → p < length order → get_or order p 0 < length all)
+    (apart : (p q : ℕ) → p < q → q < length order → get_or order p 0 ≢ get_or order q 0)
+    (done : ℕ) (left : done < length order) (items : List X) (numbers places : List ℕ)
+    (before : AreMoved all order done items numbers places) where
+  -- where the item is that comes next
+  pub next_placed : IsPlaced done (length all) numbers places (get_or order done 0)
+  next_placed = grind arith
+
+  pub next_below : done < length all
+  next_below = omega (arith, next_placed.later, next_placed.below)
+
+  -- the item that makes room for it
+  pub next_numbered : IsNumbered all items numbers places done
+  next_numbered = before.numbered done (omega arith) next_below
+
+  pub next_moved : (from moved : ℕ) (new : List X) → from ≡ get_or places (get_or order done 0) 0 → moved ≡ get_or numbers done 0
+      → SwappedAt items new done from → length new ≡ length items
+      → AreMoved all order (done + 1) new (set numbers from moved) (set places moved from)
+  next_moved = grind (arith, next_placed, below, next_numbered, set, get_or-set_same, next_below, length-set, at_next, get_or-set_other)
+
+-- ---- after the last move
+
+taken_is : {X : Type 0} (all : List X) (order : List ℕ) (done : List X) → length done ≡ length order
+    → ((p : ℕ) (d : X) → p < length order → get_or done p d ≡ get_or all (get_or order p 0) d)
+    → ((p : ℕ) → p < length order → get_or order p 0 < length all) → done ≡ entries_at all order
+taken_is all [] [] len same within = refl
+taken_is all [] (x ∷ done) len same within = absurd (omega (arith, len))
+taken_is all (n ∷ order) [] len same within = absurd (omega (arith, len))
+taken_is {X} all (n ∷ order) (x ∷ done) len same within =
+    let first = slice_get-get_or all n x (within zero (omega arith)) ∙ ap Some (sym (same zero x (omega arith))) in
+    let rest = taken_is all order done (omega (arith, len)) (λ p d l. same (suc p) d (omega (arith, l)))
+    (λ p l. within (suc p) (omega (arith, l))) in
+    ap (λ more. x ∷ more) rest ∙ ap (λ o. cons_option o (entries_at all order)) (sym first)
+
+-- what is at the first places are the items of the order
+pub all_moved : {X : Type 0} (all : List X) (order : List ℕ) (items : List X) (numbers places : List ℕ)
+    → ((p : ℕ) → p < length order → get_or order p 0 < length all)
+    → AreMoved all order (length order) items numbers places → take (length order) items ≡ entries_at all order
+all_moved all order items numbers places within after =
+    taken_is all order _ (length-take-le _ items (omega (arith, after.within, after.len)))
+    (λ p d l. get_or-take _ items p d l ∙ after.moved p d l) within

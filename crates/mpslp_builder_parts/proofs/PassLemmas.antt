@@ -1,6 +1,5 @@
 -- What a loop moves from one list to another.
-use Rattle.std.proofs.Common.{◌≡◌, refl, ap, subst, ◌∙◌, ℕ, zero, suc, List, [], ◌∷◌, ◌++◌, arith}
-use Rattle.std.specs.List.{All}
+use Rattle.std.{proofs.Common.{List, [], ap, arith, refl, subst, suc, zero, ℕ, ◌++◌, ◌∙◌, ◌∷◌, ◌≡◌}, specs.List.All}
 use Rattle.mpslp_model_core.specs.Numbered.{each_part}
 
 -- the first remaining item is appended to those that are done
@@ -19,6 +18,7 @@ pub holds_later : {X : Type 0} (P : X → Type 0) (xs ys : List X) (x : X) → x
 holds_later P xs ys x is h k d l = subst (All P) is h (suc k) d (omega (arith, l))
 
 -- a part of each entry, with one more at the end
-pub each_part-append : {V X : Type 0} (f : V → X) (es : List (List ℕ × V)) (k : List ℕ) (v : V) → each_part f (es ++ (k, v) ∷ []) ≡ each_part f es ++ (k, f v) ∷ []
+pub each_part-append : {V X : Type 0} (f : V → X) (es : List (List ℕ × V)) (k : List ℕ) (v : V)
+    → each_part f (es ++ (k, v) ∷ []) ≡ each_part f es ++ (k, f v) ∷ []
 each_part-append f [] k v = refl
-each_part-append {V} {X} f (e ∷ es) k v = ap (λ (more : List (List ℕ × X)). (e.0, f e.1) ∷ more) (each_part-append f es k v)
+each_part-append {V} {X} f (e ∷ es) k v = grind (arith, each_part-append f es k v)

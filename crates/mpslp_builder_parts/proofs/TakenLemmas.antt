@@ -1,8 +1,6 @@
 -- Parts of entries that are taken in an order.
-use Rattle.std.proofs.Common.{◌≡◌, refl, sym, ap, subst, ◌∙◌, ℕ, zero, suc, List, [], ◌∷◌, length, arith}
-use Rattle.std.specs.Prelude.{Option, Some, None, slice_get}
-use Rattle.std.specs.Option.{option_map}
-use Rattle.std.specs.List.{All, cons_option}
+use Rattle.std.{proofs.Common.{List, [], ap, arith, length, refl, subst, suc, sym, zero, ℕ, ◌∙◌, ◌∷◌, ◌≡◌}, specs.List.{All, cons_option}}
+use Rattle.std.specs.{Option.option_map, Prelude.{None, Option, Some, slice_get}}
 use Rattle.mpslp_model_core.specs.Numbered.{each_part}
 use Rattle.mpslp_builder_parts.specs.Ordered.{entries_at}
 
@@ -12,7 +10,8 @@ module _ {V X : Type 0} (f : V → X) where
   part_at (e ∷ es) zero = refl
   part_at (e ∷ es) (suc n) = part_at es n
 
-  each_part-cons_option : (o : Option (List ℕ × V)) (es : List (List ℕ × V)) → each_part f (cons_option o es) ≡ cons_option (option_map (λ e. (e.0, f e.1)) o) (each_part f es)
+  each_part-cons_option : (o : Option (List ℕ × V)) (es : List (List ℕ × V))
+      → each_part f (cons_option o es) ≡ cons_option (option_map (λ e. (e.0, f e.1)) o) (each_part f es)
   each_part-cons_option None es = refl
   each_part-cons_option (Some e) es = refl
 
@@ -35,16 +34,11 @@ taken-alike f g es ds same ns = each_part-taken f es ns ∙ ap (λ (parts : List
 -- and they have the same length
 pub as_many : {V W X : Type 0} (f : V → X) (g : W → X) (es : List (List ℕ × V)) (ds : List (List ℕ × W))
     → each_part f es ≡ each_part g ds → length es ≡ length ds
-as_many f g es ds same = sym (length-each_part f es) ∙ ap length same ∙ length-each_part g ds
+as_many f g es ds same = grind (arith, length-each_part)
 
--- what is true of all items is true of those that are taken
-cons-all : {X : Type 0} (P : X → Type 0) (x : X) (xs : List X) → P x → All P xs → All P (x ∷ xs)
-cons-all P x xs here rest zero d below = here
-cons-all P x xs here rest (suc k) d below = rest k d (omega (arith, below))
-
-cons_option-all : {X : Type 0} (P : X → Type 0) (o : Option X) (xs : List X) → ((x : X) → o ≡ Some x → P x) → All P xs → All P (cons_option o xs)
-cons_option-all P None xs here rest = rest
-cons_option-all P (Some x) xs here rest = cons-all P x xs (here x refl) rest
+cons_option-all : {X : Type 0} (P : X → Type 0) (o : Option X) (xs : List X) → ((x : X) → o ≡ Some x → P x) → All P xs
+    → All P (cons_option o xs)
+cons_option-all v0 v1 xs here rest = grind arith
 
 holds_at : {X : Type 0} (P : X → Type 0) (xs : List X) (n : ℕ) (x : X) → All P xs → slice_get xs n ≡ Some x → P x
 holds_at P [] n x all is = cc
@@ -52,5 +46,5 @@ holds_at {X} P (y ∷ ys) zero x all is = let same : ◌≡◌ {A = X} y x = cc 
 holds_at P (y ∷ ys) (suc n) x all is = holds_at P ys n x (λ k d below. all (suc k) d (omega (arith, below))) is
 
 pub taken-all : {X : Type 0} (P : X → Type 0) (xs : List X) (ns : List ℕ) → All P xs → All P (entries_at xs ns)
-taken-all P xs [] all = λ k d below. absurd (omega (arith, below))
-taken-all P xs (n ∷ ns) all = cons_option-all P (slice_get xs n) (entries_at xs ns) (λ x is. holds_at P xs n x all is) (taken-all P xs ns all)
+taken-all P xs [] all = grind arith
+taken-all P xs (n ∷ ns) all = cons_option-all P _ _ (λ x is. holds_at P xs n x all is) (taken-all P xs ns all)

@@ -21,22 +21,14 @@ struct Front {
     number: usize,
 }
 
-/// The number with one more byte at its end.
-fn with_byte(bytes: u128, byte: u8) -> u128
-    requires { bytes < 2 ^ 120 }
-    ensures { result ≡ bytes * 256 + byte }
+/// The first bytes of a name, with 0 for each byte after its end.
+fn first_bytes(name: &[u8]) -> [u8; FRONT]
+    ensures { (i : ℕ) → i < 16 → slice_index result i ≡ slice_index name.now i }
 {
-    bytes * 256 + byte as u128
-}
-
-/// The byte at this place, or 0 after the end.
-fn byte_at(name: &[u8], at: usize) -> u8
-    ensures { result ≡ slice_index name.now at }
-{
-    match name.get(at) {
-        Some(byte) => *byte,
-        None => 0,
-    }
+    let len = name.len().min(FRONT);
+    let mut bytes = [0u8; FRONT];
+    bytes[..len].copy_from_slice(&name[..len]);
+    bytes
 }
 
 /// The first bytes of a name as one number.
@@ -44,11 +36,7 @@ fn front_value(name: &[u8]) -> u128
     ensures value { result ≡ front_value 16 name.now }
     ensures bytes { (i : ℕ) → slice_index name.now i < 256 }
 {
-    let mut bytes = 0;
-    for at in 0..FRONT {
-        bytes = with_byte(bytes, byte_at(name, at));
-    }
-    bytes
+    u128::from_be_bytes(first_bytes(name))
 }
 
 /// The name of the entry of this number.

@@ -6,7 +6,7 @@ ghost use Rattle.mpslp_c.specs.Answers.{format_of, IsCanonicalAnswer, IsSameAnsw
 
 use crate::answers::{OK, UNKNOWN_FORMAT, fault_status, truth_status};
 use crate::faults::{MpslpFault, set_fault};
-use crate::texts::{canonical_in, format_of, is_canonical_in, same_in};
+use crate::texts::{canonical_for_c, format_of, is_canonical_for_c, same_for_c};
 use mpslp_convert::ConvertFault;
 use mpslp_model::HashSeed;
 use std::alloc::Global;
@@ -84,7 +84,7 @@ pub extern "C" fn seeded_canonical(
         return UNKNOWN_FORMAT;
     };
     give_text(
-        canonical_in(alloc, HashSeed { state, factor }, from, to, bytes),
+        canonical_for_c(alloc, HashSeed { state, factor }, from, to, bytes),
         out,
         fault,
     )
@@ -120,7 +120,7 @@ pub extern "C" fn seeded_same(
         return UNKNOWN_FORMAT;
     };
     give_truth(
-        same_in(
+        same_for_c(
             alloc,
             HashSeed { state, factor },
             first_file_format,
@@ -154,7 +154,7 @@ pub extern "C" fn seeded_is_canonical(
 {
     match format_of(format) {
         Some(file_format) => give_truth(
-            is_canonical_in(alloc, HashSeed { state, factor }, file_format, bytes),
+            is_canonical_for_c(alloc, HashSeed { state, factor }, file_format, bytes),
             fault,
         ),
         None => UNKNOWN_FORMAT,

@@ -37,7 +37,7 @@ fn declare_sense(sense: u32, builder: &mut Builder) -> Result<(), LineError>
 }
 
 /// Declares the objective: its name, constant and sense.
-pub(crate) fn declare_objective(
+pub(crate) fn declare_stored_objective(
     alloc: Global,
     model: &MpslpModel,
     builder: &mut Builder,
@@ -52,7 +52,7 @@ pub(crate) fn declare_objective(
 }
 
 /// Declares a row.
-pub(crate) fn declare_row(
+pub(crate) fn declare_stored_row(
     alloc: Global,
     names: &[u8],
     row: MpslpRow,
@@ -81,7 +81,7 @@ fn declare_kind(column: &[u8], kind: u32, builder: &mut Builder) -> Result<(), L
 }
 
 /// Declares a column without its elements.
-pub(crate) fn declare_column(
+pub(crate) fn declare_stored_column(
     alloc: Global,
     names: &[u8],
     objective: &[u8],
@@ -101,7 +101,7 @@ pub(crate) fn declare_column(
 }
 
 /// Declares an element of a column.
-pub(crate) fn declare_element(
+pub(crate) fn declare_stored_element(
     names: &[u8],
     rows: &[MpslpRow],
     column: &[u8],

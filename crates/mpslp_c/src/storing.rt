@@ -16,7 +16,8 @@ use crate::faults::{
     AT_COLUMN, AT_ELEMENT, AT_OBJECTIVE, AT_ROW, ItemFault, MpslpFault, StoreFault, set_store_fault,
 };
 use crate::stored_items::{
-    bytes_at, declare_column, declare_element, declare_objective, declare_row,
+    bytes_at, declare_stored_column, declare_stored_element, declare_stored_objective,
+    declare_stored_row,
 };
 use crate::texts::format_of;
 use mpslp_convert::{ConvertFault, text_of};
@@ -52,7 +53,11 @@ fn declare_rows(
     ensures { TakesItems (row_items names.now 0 rows.now) builder.old builder.new result }
 {
     for i in 0..rows.len() {
-        placed(AT_ROW, i, declare_row(alloc, names, rows[i], builder))?;
+        placed(
+            AT_ROW,
+            i,
+            declare_stored_row(alloc, names, rows[i], builder),
+        )?;
     }
     Ok(())
 }
@@ -75,14 +80,14 @@ fn declare_elements(
         placed(
             AT_ELEMENT,
             k,
-            declare_element(names, rows, column, elements[k], builder),
+            declare_stored_element(names, rows, column, elements[k], builder),
         )?;
     }
     Ok(())
 }
 
 /// Declares the elements of the column of index `j`, which end before `end`.
-fn declare_own(
+fn declare_own_elements(
     names: &[u8],
     rows: &[MpslpRow],
     elements: &[MpslpElement],
@@ -133,10 +138,10 @@ fn declare_columns(
         placed(
             AT_COLUMN,
             j,
-            declare_column(alloc, model.names, objective, column, builder),
+            declare_stored_column(alloc, model.names, objective, column, builder),
         )?;
         let end = elements_end(model.columns, j + 1, model.elements.len());
-        declare_own(
+        declare_own_elements(
             model.names,
             model.rows,
             model.elements,
@@ -163,7 +168,11 @@ fn check_first(columns: &[MpslpColumn]) -> Result<(), LineError>
 fn declare_items(alloc: Global, model: &MpslpModel, builder: &mut Builder) -> Result<(), StoreFault>
     ensures { TakesItems (items model.now) builder.old builder.new result }
 {
-    placed(AT_OBJECTIVE, 0, declare_objective(alloc, model, builder))?;
+    placed(
+        AT_OBJECTIVE,
+        0,
+        declare_stored_objective(alloc, model, builder),
+    )?;
     declare_rows(alloc, model.names, model.rows, builder)?;
     placed(AT_COLUMN, 0, check_first(model.columns))?;
     declare_columns(

@@ -26,7 +26,7 @@ pub(crate) fn format_of(number: u32) -> Option<FileFormat>
 }
 
 /// The canonical text of the model that the bytes declare.
-pub(crate) fn canonical_in(
+pub(crate) fn canonical_for_c(
     alloc: Global,
     seed: HashSeed,
     from: FileFormat,
@@ -50,7 +50,7 @@ pub(crate) fn canonical_in(
 }
 
 /// Whether two texts declare the same model.
-pub(crate) fn same_in(
+pub(crate) fn same_for_c(
     alloc: Global,
     seed: HashSeed,
     first_file_format: FileFormat,
@@ -76,7 +76,7 @@ pub(crate) fn same_in(
 }
 
 /// Whether the bytes are the canonical text of the model that they declare.
-pub(crate) fn is_canonical_in(
+pub(crate) fn is_canonical_for_c(
     alloc: Global,
     seed: HashSeed,
     file_format: FileFormat,

@@ -1,13 +1,13 @@
 -- Printed names, numbers and signs as tokens: where each ends, and that it is the longest token at its position.
 use Rattle.mpslp_canonical_lp.proofs.Prelude
 use Prelude.{◌≡◌, refl, ap, ◌∙◌, ℕ, zero, suc, ◌+◌, ◌-◌, ◌≤◌, List, [], ◌∷◌, ◌++◌, Bool, true, false, length, take, map, arith}
-use Prelude.{length-append, Option, Some, None, is_blank, begins_comment, kind_of, Front, longest_within, longest_token, token_at, Token}
-use Prelude.{tokens_from, TokenKind, SeenToken, rules, sym, subst, ◌<◌, not, replicate, append_assoc, ◌^◌, ◌&&◌, ◌||◌, ◌==◌, ℤ, pos, negsuc}
+use Prelude.{length-append, Option, Some, None, is_blank, begins_comment, kind_of, Front, longest_within, token_at, Token}
+use Prelude.{tokens_from, TokenKind, SeenToken, rules, ◌<◌, not, replicate, append_assoc, ◌^◌, ◌&&◌, ◌||◌, ◌==◌, ℤ, pos, negsuc}
 use Prelude.{unsigned_abs, nat_lt, if◌then◌else◌, codes, list_all, list_any, first_so, second_so, decimal, nat_tests, eqb-true, ltb-true}
 use Prelude.{Number, IsDecimal, is_negative, is_digit, is_literal, with_point, scaled_text, number_text, AreDigits, decimal-spells}
 use Prelude.{zeros_are_digits, number-text, marker, same_bytes, is_letter, is_lp_byte, is_like_exponent, is_reserved, begins_a_number}
-use Prelude.{is_lp_name, both_so, not_so, nor, begins_word, is_word, begins-no_number, cond, drop, before_first, after_first}
-use Prelude.{position_or_len, is_sign, is_point, is_exponent_mark, without_sign, are_digits, unsigned_part, mantissa_digits, exponent_part}
+use Prelude.{is_lp_name, both_so, not_so, nor, begins_word, is_word, begins-no_number, before_first, after_first}
+use Prelude.{is_sign, is_point, is_exponent_mark, without_sign, are_digits, unsigned_part, mantissa_digits, exponent_part}
 use Prelude.{after-none, Each, Each-from_list_all, continues_word, is_number, operator_kind, int_le, flat_map, join_by, size_of, tokens}
 use Prelude.{class_of, token_fault, Relation, Lexeme, PrintedLine, word, label, number, sign, sense, sign_bytes, sense_bytes, lexeme_text}
 use Prelude.{line_text, sign_kind, sense_kind, tokens_in, line_tokens}
@@ -16,6 +16,9 @@ use Rattle.std.{proofs.Math.Seq.{take-append_seam, take-append-add}, specs.List.
 use Rattle.mpslp_decimal.proofs.{CutLemmas.{Each-append, Each-weaker}, SpellsLemmas.spells-from_number}
 use Rattle.mpslp_lp_tokens.specs.declared.tokens.TokenKind.TheVariants as kinds
 use Rattle.mpslp_lp_tokens.specs.declared.words.WordClass.TheVariants as meanings
+use Prelude.{longest_token}
+use Prelude.{sym}
+use Prelude.{subst}
 
 -- ---- the longest token at a position, if the text of a token is there and no token continues past it
 
@@ -62,12 +65,12 @@ longest-stops kind byte bytes rest zero n h stops within e = let same : n ≡ le
     ap (λ (size : ℕ). longest_within size ((byte ∷ bytes) ++ rest)) same ∙ longest-here kind byte bytes rest h
 longest-stops kind byte bytes [] (suc more) n h stops within e = absurd (omega (arith, within))
 longest-stops kind byte bytes (next ∷ rest) (suc more) zero h stops within e = absurd (omega (arith, e))
-longest-stops kind byte bytes (next ∷ rest) (suc more) (suc n) h stops within e =
-    let longer : kind_of (take (suc n) ((byte ∷ bytes) ++ next ∷ rest)) ≡ None =
-    ap (λ (size : ℕ). kind_of (take size ((byte ∷ bytes) ++ next ∷ rest))) e ∙ ap kind_of (take-append-add
-    (byte ∷ bytes) (next ∷ rest) (suc more)) ∙ stops (take more rest) in ap (λ (o : Option TokenKind). elim o as (λ _. Option Front)
-    [ Some found ↦ Some (record { kind = found; size = suc n }) | None ↦ longest_within n ((byte ∷ bytes) ++ next ∷ rest) ]) longer
-    ∙ longest-stops kind byte bytes (next ∷ rest) more n h stops (omega (arith, within)) (omega (arith, e))
+longest-stops kind byte bytes (next ∷ rest) (suc more) (suc n) h stops within e = grind (
+  arith,
+  take-append-add (byte ∷ bytes) (next ∷ rest)
+      (suc more),
+  longest-stops kind byte bytes (next ∷ rest) more n h stops (omega (arith, within)) (omega (arith, e)),
+)
 
 token-stops : (kind : TokenKind) (byte : ℕ) (bytes rest : List ℕ) → kind_of (byte ∷ bytes) ≡ Some kind → Stops (byte ∷ bytes) rest
     → token_at ((byte ∷ bytes) ++ rest) ≡ front_of kind (byte ∷ bytes)
@@ -94,27 +97,12 @@ taken-read (byte ∷ bytes) rest expected place h = taken-read bytes rest expect
 pub reads-token : (kind : TokenKind) (text rest : List ℕ) (expected : List SeenToken)
     → IsToken kind text → Stops text rest → Reads rest expected → Reads (text ++ rest) ((kind, text) ∷ expected)
 reads-token _ [] _ _ token _ h _ = absurd token.begins
-reads-token kind (byte ∷ bytes) rest expected token stops h place = let front = token-stops kind byte bytes rest token.is stops in
-    let one_less : length (byte ∷ bytes) - 1 ≡ length bytes = omega arith in by (begins_comment byte) (is_blank byte) token.begins.0
-    token.begins.1 ∙ ap (λ (f : Front). (f.kind, take f.size ((byte ∷ bytes) ++ rest)) ∷ seen (tokens_from (place + 1) (f.size - 1) (bytes
-    ++ rest))) front ∙ (λ i. (kind, take-append_seam (byte ∷ bytes) rest i) ∷ seen (tokens_from (place + 1) (one_less i) (bytes ++ rest)))
-    ∙ ap (λ (found : List SeenToken). (kind, byte ∷ bytes) ∷ found) (taken-read bytes rest expected (place + 1) h)
-  where
-    found : Front → List Token
-    found front = record { kind = front.kind; start = place; text = take front.size ((byte ∷ bytes) ++ rest) } ∷ tokens_from
-        (place + 1) (front.size - 1) (bytes ++ rest)
-
-    by : (comment blank : Bool) → comment ≡ false → blank ≡ false
-        → seen (elim comment as (λ _. List Token) [
-          | true ↦ []
-          | false ↦ elim blank as (λ _. List Token) [
-            | true ↦ tokens_from (place + 1) zero (bytes ++ rest)
-            | false ↦ found (token_at ((byte ∷ bytes) ++ rest))
-          ]
-        ]) ≡ seen (found (token_at ((byte ∷ bytes) ++ rest)))
-    by true blank p q = cc
-    by false true p q = cc
-    by false false p q = refl
+reads-token kind (byte ∷ bytes) rest expected token stops h place = grind (
+  arith,
+  token-stops kind byte bytes rest token.is stops,
+  take-append_seam (byte ∷ bytes) rest,
+  taken-read bytes rest expected (place + 1) h,
+)
 
 -- ---- the texts of names and of numbers are tokens
 
@@ -128,8 +116,8 @@ symbol-solid (s ∷ symbols) b all any = grind (
   arith,
   eqb-true,
   not_so,
-  symbol-solid symbols b
-      (second_so (not (s == 92 || (s == 32 || s == 9))) (list_all (λ x. not (x == 92 || (x == 32 || x == 9))) symbols) all),
+  symbol-solid symbols b (second_so (not (s == 92 || (s == 32 || s ==
+      9))) (list_all (λ x. not (x == 92 || (x == 32 || x == 9))) symbols) all),
 )
 
 letter-solid : (b : ℕ) → is_letter b ≡ true → (b == 92 || (b == 32 || b == 9)) ≡ false
@@ -189,8 +177,7 @@ scaled-begins ds (negsuc n) h some = by (nat_lt n 18)
     by : (b : Bool) → begins_a_number (if b then with_point (n + 1) ds else ds ++ codes "e-" ++ decimal (n + 1)) ≡ true
     by true = point-begins (length (replicate (n + 1 + 1 - length ds) 48 ++ ds) - (n + 1)) (replicate (n + 1 + 1 - length ds) 48 ++ ds) _
         (Each-append (λ b. is_digit b ≡ true) (replicate (n + 1 + 1 - length ds) 48) ds (zeros_are_digits (n + 1 + 1 - length ds)) h)
-    by false = subst (λ (t : List ℕ). begins_a_number t ≡ true)
-        (sym (append_assoc ds (codes "e-") (decimal (n + 1)))) (digits-begin ds (codes "e-" ++ decimal (n + 1)) h some)
+    by false = grind (arith, append_assoc, digits-begin)
 
 mantissa-small : (d : Number) → IsDecimal d → unsigned_abs d.mantissa < 10 ^ 64
 mantissa-small d h = let few = ltb-true (unsigned_abs d.mantissa) (10 ^ 36) (first_so _ _ h) in omega (arith, few)
@@ -214,12 +201,10 @@ module _ (P : ℕ → Type 0) (digit : (b : ℕ) → is_digit b ≡ true → P b
   both-parts (x ∷ xs) ys h = let more = both-parts xs ys h.1 in ((h.0, more.0), more.1)
 
   -- the parts before and after the first byte that passes a test, and that byte
-  around : (p : ℕ → Bool) → ((b : ℕ) → p b ≡ true → P b) → (xs : List ℕ) → Each P (before_first p xs) → Each P (after_first p xs) → Each P xs
+  around : (p : ℕ → Bool) → ((b : ℕ) → p b ≡ true → P b) → (xs : List ℕ) → Each P (before_first p xs) → Each P (after_first p xs)
+      → Each P xs
   around p _ [] h k = tt
-  around p here (x ∷ xs) h k = elim (p x) as (λ b. p x ≡ b → Each P (take (cond (not b) (1 + position_or_len p xs) 0) (x ∷ xs))
-      → Each P (drop (cond (not b) (1 + position_or_len p xs) 0 + 1) (x ∷ xs)) → Each P (x ∷ xs))
-      [ true ↦ λ e _ more. (here x e, more) | false ↦ λ e front more. let one : 1 + position_or_len p xs ≡ suc (position_or_len p xs) = omega arith in let two : 1 + position_or_len p xs + 1 ≡ suc (position_or_len p xs + 1) = omega arith in let first : Each P (x ∷ take (position_or_len p xs) xs) = subst (λ n. Each P (take n (x ∷ xs))) one front in (first.0, around p here xs first.1 (subst (λ n. Each P (drop n (x ∷ xs))) two more)) ]
-      refl h k
+  around p here (x ∷ xs) h k = grind (arith, around p here xs)
 
   signed-each : (xs : List ℕ) → Each P (without_sign xs) → Each P xs
   signed-each = grind arith
@@ -263,11 +248,7 @@ broken p (x ∷ xs) ys b h = grind (arith, broken p xs ys b h)
 
 word-broken : (text more : List ℕ) (b : ℕ) → begins_word b ≡ false → continues_word b ≡ false → is_word (text ++ b ∷ more) ≡ false
 word-broken [] more b h k = rw h refl
-word-broken (c ∷ cs) more b h k = by (begins_word c) (list_all continues_word (cs ++ b ∷ more)) (broken continues_word cs more b k)
-  where
-    by : (a d : Bool) → d ≡ false → (a && d) ≡ false
-    by true d e = e
-    by false d e = refl
+word-broken (c ∷ cs) more b h k = search (rules, broken continues_word cs more b k)
 
 none-found : {X : Type 0} (p : X → Bool) (table : List X) → Each (λ (entry : X). p entry ≡ false) table → find p table ≡ None
 none-found p [] h = refl
@@ -472,7 +453,8 @@ from-read : (piece : Lexeme) (lexemes : List Lexeme) → IsPrintable piece
 from-read piece [] h k = piece-read piece [] [] h tt reads-nil
 from-read piece (next ∷ lexemes) h k = grind (arith, piece-read, after-apart, reads-blank, from-read next lexemes k.0 k.1)
 
-lexemes-read : (lexemes : List Lexeme) → Each IsPrintable lexemes → Reads (join_by lexeme_text (codes " ") lexemes) (flat_map tokens_in lexemes)
+lexemes-read : (lexemes : List Lexeme) → Each IsPrintable lexemes
+    → Reads (join_by lexeme_text (codes " ") lexemes) (flat_map tokens_in lexemes)
 lexemes-read [] h = reads-nil
 lexemes-read (piece ∷ lexemes) h = from-read piece lexemes h.0 h.1
 

@@ -4,12 +4,12 @@ use Prelude.{rules, ◌≡◌, refl, ap, ◌∙◌, ℕ, zero, suc, ◌*◌, ◌
 use Prelude.{length-append, map, Option, Some, None, ◌&&◌, ◌==◌, nat_le, codes, filter_map, if◌then◌else◌, join_by, list_all, list_any}
 use Prelude.{cons_option, first_so, second_so, nat_tests, eqb-true, length-replicate, Number, IsDecimal, is_negative, size_of, is_digit}
 use Prelude.{number_text, before-none, Each, number-text, read-short, is_letter, is_lp_byte, Each-flat_map, Each-from_list_all}
-use Prelude.{list_all-from_Each, has_legal_bytes, begins_comment, is_word, Token, tokens, is_legal_byte, has_legal_length, first_held}
+use Prelude.{list_all-from_Each, has_legal_bytes, begins_comment, is_word, Token, tokens, is_legal_byte, has_legal_length}
 use Prelude.{number_fault, TerminalAt, terminal_of, line_terminals, token_fault, lexical_fault, AtMost, AtLeast, EqualTo, begins-lp, Lexeme}
 use Prelude.{PrintedLine, word, label, number, sign, sense, minus_infinity, lexeme_text, line_text, semi_continuous, SeenToken, tokens_in}
 use Prelude.{line_tokens, ◌++◌, ◌+◌, is_none, enumerate_from, both_so, sound_terminals, text_of, tokens_seen, flat_map, Decimal}
 use Prelude.{zero_number, class_of, SignOf, Plus, Minus, Terminal, word_terminal, value_of, Name, Sign, Compares, Colon, Infinity, Opens}
-use Prelude.{apply_sign, ◌<◌, cond, ◌||◌, filter, position, position_or_len, option_map, Ordering, entries, find, leb-true, lt-ltb}
+use Prelude.{apply_sign, ◌<◌, cond, filter, position, position_or_len, option_map, Ordering, entries, find, leb-true, lt-ltb}
 use Prelude.{have_same_value, marker, same_bytes, has_name_length, is_mps_name, is_like_exponent, is_reserved, begins_a_number, is_lp_name}
 use Prelude.{LinearModel, Row, Column, key_cmp, is_sound_row, is_sound_column, is_sound_coefficient, IsSound, Listing, listing_of}
 use Prelude.{is_bounded_decimal, is_lower_side, are_sides, Sense, Limit, MinusInf, Finite, PlusInf, not_so, nor, Each-both, Each-map}
@@ -20,16 +20,18 @@ use Prelude.{listed_lines, canonical_lines, is_semi_column, semis_section, under
 use Prelude.{unfit_in, unfit, numbered_lines, canonical_lp, AreReadAsPrinted}
 use Rattle.std.specs.{Str.Lines.lines, Result.result_unwrap_or}
 use Rattle.mpslp_decimal.proofs.CutLemmas.{Each-weaker, Each-append}
-use Rattle.mpslp_types.{specs.{FaultOrder.least_kind, declared.faults.FaultKind.FaultKind}, proofs.NameLemmas.mps_name-from_lp}
+use Rattle.mpslp_types.{specs.{declared.faults.FaultKind.FaultKind}, proofs.NameLemmas.mps_name-from_lp}
 use Rattle.mpslp_lines.{specs.declared.legal_line.TheConstants.MAX_LINE_LEN, proofs.WrittenLineLemmas.{IsPlain, lines-with_line_feeds}}
 use Rattle.mpslp_lp_grammar.specs.Terminal.Terminal.{Number as Number_terminal}
 use Rattle.mpslp_lp_tokens.proofs.WordLemmas.{word_class-name}
 use Rattle.mpslp_canonical_lp.proofs.LexemeLemmas.{literal-each, seen, text-literal, IsPrintable, after_first_piece, line-read, name-word}
 use Rattle.mpslp_canonical_lp.proofs.LexemeLemmas.{IsGoodWord, IsGoodName}
-use Rattle.mpslp_types.specs.declared.faults.FaultKind.TheVariants as faults
 use Rattle.mpslp_lp_tokens.specs.declared.tokens.TokenKind.TheVariants as kinds
 use Rattle.mpslp_lp_tokens.specs.declared.words.SectionWord.TheVariants as section_words
 use Rattle.mpslp_types.specs.declared.faults.NameAt.TheVariants as places
+use Prelude.{first_held}
+use Rattle.mpslp_types.specs.FaultOrder.{least_kind}
+use Rattle.mpslp_types.specs.declared.faults.FaultKind.TheVariants as faults
 
 -- ---- a printed line has no error of its own, and its terminals are those of its pieces
 
@@ -116,8 +118,7 @@ pub record IsPrintableLine (line : PrintedLine) : Type 0 where
 length-piece : (piece : Lexeme) → IsPrintable piece → length (lexeme_text piece) ≤ 256
 length-piece (word text) h = omega (arith, h.short)
 length-piece (label name) h = omega (arith, h.word_is.short, length-append name (codes ":"))
-length-piece (number value) h = let short : length (number_text value) ≤ 255 = read-short (number_text value) value (number-text value h) in
-    omega (arith, short)
+length-piece (number value) h = grind (arith, read-short (number_text value) value (number-text value h), number-text value h)
 length-piece (sign true) h = omega arith
 length-piece (sign false) h = omega arith
 length-piece (sense AtMost) h = omega arith
@@ -147,7 +148,8 @@ length-legal = grind (arith, replicate, length-replicate, length-joined, at_most
 abbrev seen_fault : SeenToken → Option FaultKind
 seen_fault token = token_fault token.0 token.1
 
-faults-seen : (found : List Token) → filter_map (λ (token : Token). token_fault token.kind token.text) found ≡ filter_map seen_fault (seen found)
+faults-seen : (found : List Token)
+    → filter_map (λ (token : Token). token_fault token.kind token.text) found ≡ filter_map seen_fault (seen found)
 faults-seen [] = refl
 faults-seen (token ∷ found) = ap (cons_option (token_fault token.kind token.text)) (faults-seen found)
 
@@ -161,9 +163,7 @@ number-faultless value h = rw (number-text value h) refl
 piece-faultless : (piece : Lexeme) → IsPrintable piece → Each (λ token. seen_fault token ≡ None) (tokens_in piece)
 piece-faultless (word _) h = (h.faultless, tt)
 piece-faultless (label _) h = (h.word_is.faultless, (refl, tt))
-piece-faultless (number value) h = elim (is_negative value) as (λ b. Each (λ token. seen_fault token ≡ None)
-    (if b then (kinds.Minus, codes "-") ∷ (kinds.Number, number_text (size_of value)) ∷ [] else (kinds.Number, number_text value) ∷ []))
-    [ true ↦ (refl, (number-faultless (size_of value) h, tt)) | false ↦ (number-faultless value h, tt) ]
+piece-faultless (number value) h = grind (arith, number-faultless (size_of value) h, number-faultless value h)
 piece-faultless (sign true) h = (refl, tt)
 piece-faultless (sign false) h = (refl, tt)
 piece-faultless (sense AtMost) h = (refl, tt)
@@ -172,7 +172,8 @@ piece-faultless (sense EqualTo) h = (refl, tt)
 piece-faultless minus_infinity h = (refl, (refl, tt))
 piece-faultless semi_continuous h = (refl, (refl, (refl, tt)))
 
-lexemes-faultless : (lexemes : List Lexeme) → Each IsPrintable lexemes → Each (λ piece. Each (λ token. seen_fault token ≡ None) (tokens_in piece)) lexemes
+lexemes-faultless : (lexemes : List Lexeme) → Each IsPrintable lexemes
+    → Each (λ piece. Each (λ token. seen_fault token ≡ None) (tokens_in piece)) lexemes
 lexemes-faultless lexemes h = Each-weaker IsPrintable (λ piece. Each (λ token. seen_fault token ≡ None) (tokens_in piece)) piece-faultless lexemes h
 
 -- a printed line has no error of its own
@@ -192,11 +193,11 @@ seen_at n token = record { line = n; terminal = terminal_of token.0 token.1 }
 terminals-seen : (n : ℕ) (found : List Token)
     → map (λ (token : Token). record { line = n; terminal = terminal_of token.kind token.text }) found ≡ map (seen_at n) (seen found)
 terminals-seen n [] = refl
-terminals-seen n (token ∷ found) =
-    ap (λ (more : List TerminalAt). record { line = n; terminal = terminal_of token.kind token.text } ∷ more) (terminals-seen n found)
+terminals-seen n (token ∷ found) = grind (arith, terminals-seen n found)
 
 -- the terminals of a printed line are those of its pieces
-pub line-terminals : (n : ℕ) (line : PrintedLine) → Each IsPrintable line.lexemes → line_terminals (n, line_text line) ≡ map (seen_at n) (line_tokens line)
+pub line-terminals : (n : ℕ) (line : PrintedLine) → Each IsPrintable line.lexemes
+    → line_terminals (n, line_text line) ≡ map (seen_at n) (line_tokens line)
 line-terminals n line h = terminals-seen n (tokens (line_text line)) ∙ ap (map (seen_at n)) (line-read line h)
 
 -- ---- a text of printed lines consists of these lines, and its terminals are those of their pieces
@@ -261,10 +262,7 @@ value-read value h = ap (λ r. result_unwrap_or r zero_number) (number-text valu
 piece-seen : (n : ℕ) (piece : Lexeme) → IsPrintable piece → map (seen_at n) (tokens_in piece) ≡ map (at n) (terminals_in piece)
 piece-seen n (word _) h = refl
 piece-seen n (label name) h = λ i. at n (word_terminal name (h.word_class i)) ∷ at n Colon ∷ []
-piece-seen n (number value) h = elim (is_negative value) as (λ b. map (seen_at n)
-    (if b then (kinds.Minus, codes "-") ∷ (kinds.Number, number_text (size_of value)) ∷ [] else (kinds.Number, number_text value) ∷ [])
-    ≡ map (at n) (if b then Sign Minus ∷ Number_terminal (size_of value) ∷ [] else Number_terminal value ∷ []))
-    [ true ↦ (λ i. at n (Sign Minus) ∷ at n (Number_terminal (value-read (size_of value) h i)) ∷ []) | false ↦ (λ i. at n (Number_terminal (value-read value h i)) ∷ []) ]
+piece-seen n (number value) h = grind (arith, value-read (size_of value) h, value-read value h)
 piece-seen n (sign true) h = refl
 piece-seen n (sign false) h = refl
 piece-seen n (sense AtMost) h = refl
@@ -520,8 +518,7 @@ listed-printable m h = let ending : Lines = heading (codes "End" ∷ []) ∷ [] 
 
 any-below : {X : Type 0} (p : X → Bool) (xs : List X) → list_any p xs ≡ true → position_or_len p xs < length xs
 any-below p [] h = cc
-any-below {X} p (x ∷ xs) h = elim (p x) as (λ b. (b || list_any p xs) ≡ true → cond (not b) (1 + position_or_len p xs) 0 < length (x ∷ xs))
-    [ true ↦ λ _. omega arith | false ↦ λ k. let more : position_or_len p xs < length xs = any-below p xs k in omega (arith, more) ] h
+any-below {X} p (x ∷ xs) h = grind (arith, any-below p xs)
 
 no-any : {X : Type 0} (p : X → Bool) (xs : List X) → position p xs ≡ None → list_any p xs ≡ false
 no-any {X} p xs h = grind (arith, lt-ltb, any-below)
@@ -565,11 +562,7 @@ lp-names m h = by (is_no_lp_name m.objective) (first_unfit (map (λ (row : List 
     by true row column e f g k = cc
     by false (Some i) column e f g k = cc
     by false None (Some j) e f g k = cc
-    by false None None e f g k = record {
-      objective = is-lp (is_lp_name m.objective) e;
-      rows = each-named m.rows (fit-names (map (λ (row : List ℕ × Row). row.0) m.rows) f);
-      columns = each-named m.columns (fit-names (map (λ (column : List ℕ × Column). column.0) m.columns) g);
-    }
+    by false None None e f g k = grind (arith, is-lp, each-named, fit-names)
 
 row-fits : (row : List ℕ × Row) → is_lp_name row.0 ≡ true → is_sound_row row ≡ true → IsFitRow row
 row-fits row name h = record { name = good-name row.0 name; limits = sides-decimal row.1.lower row.1.upper (first_so _ _ (second_so _ _ h)) }

@@ -3,8 +3,8 @@ use Rattle.mpslp_canonical_lp.proofs.Prelude
 use Prelude.{arith, ◌≡◌, refl, sym, ap, ◌∙◌, List, [], ◌∷◌, ℕ, Bool, true, false, not, map, Some, None, is_some, if◌then◌else◌, list_all}
 use Prelude.{Number, have_same_value, same_decimal, Row, is_sound_row, Listing, has_infinite_rhs, bytes_cmp, limit_of, is_bounded_decimal}
 use Prelude.{are_sides, Limit, Finite, RowDefinition, by_limits, empty_draft, row_entry, row_passes, Each-map, Each-all, list_all-from_Each}
-use Prelude.{puts, rows-all, sorted-mapped, bytes_total, tied_names, limits_between, AtMost, EqualTo, puts-own, row_sides, lower_of}
-use Prelude.{upper_of, bounded_so, bounded_finite, ◌++◌, cond, filter, filter_map, flat_map, cons_option, first_so, second_so, find}
+use Prelude.{puts, rows-all, sorted-mapped, bytes_total, tied_names, puts-own, row_sides, lower_of}
+use Prelude.{upper_of, bounded_so, bounded_finite, ◌++◌, cond, filter, filter_map, flat_map, first_so, second_so, find}
 use Prelude.{is_zero, Column, CoefficientKey, key_cmp, Each-weaker, Each-append, Each-flat_map, coefficients-all, same_key, value_in}
 use Prelude.{key_total, Term, term_in, objective_term, objective_terms, some_term, row_terms, puts-kept, found-each, Option, is_none}
 use Prelude.{unwrap_or, ◌&&◌, ◌||◌, is_lower_side, is_upper_side, Kind, PlusInf, at_name, has_name, column_of, lowers-all, uppers-all}
@@ -19,11 +19,11 @@ use Rattle.mpslp_types.proofs.EachLemmas.{Each}
 use Rattle.mpslp_builder.{specs.{Meaning.row_limits, Bounds.{zero_limit, one_limit}}, proofs.BoundsLemmas.column_of-is}
 use Rattle.mpslp_builder.proofs.SlotLemmas.{Stays, stays-all}
 use Rattle.mpslp_builder.proofs.EntryLemmas.{model-back, columns-back, no-negative_upper, binary-within}
-use Rattle.mpslp_canonical_lp.proofs.PhraseWalk.{left_of, column_and, terms_declared, constant_declared, general_made, semi_made}
-use Rattle.mpslp_canonical_lp.proofs.{PhraseWalk.{bound_made, column_made}, TextWalk.{listed_declarations, row_made}}
+use Rattle.mpslp_canonical_lp.proofs.PhraseWalk.{column_and, terms_declared, constant_declared, general_made, semi_made}
+use Rattle.mpslp_canonical_lp.proofs.{PhraseWalk.{column_made}, TextWalk.{listed_declarations, row_made}}
 use Rattle.mpslp_canonical_lp.proofs.ListedParts.{IsSoundListing, limits_stated, form_of, drafted, row_forms, rows-part, is_sound_entry}
 use Rattle.mpslp_canonical_lp.proofs.ListedParts.{own_coefficient, coefficients-part, place_at, no-coefficient, each-line_text, IsOwnColumn}
-use Rattle.mpslp_canonical_lp.proofs.ListedParts.{own-columns, lower_stated, upper_stated, column_lower, column_upper, lowers-part}
+use Rattle.mpslp_canonical_lp.proofs.ListedParts.{own-columns, lower_stated, column_lower, column_upper, lowers-part}
 use Rattle.mpslp_canonical_lp.proofs.ListedParts.{uppers-part, integers-part, semis-part, no-marks, no-binaries, form_stated}
 use Rattle.mpslp_canonical_lp.proofs.ListedParts.{no-right_sides, all_parts, nothing, own_name, bound_names, columns-part, hit}
 use Rattle.mpslp_canonical_lp.proofs.{ListedParts.sound-listing, LineLemmas.{Holds, each-filter_map}}
@@ -34,13 +34,8 @@ use Rattle.mpslp_builder.proofs.BoundsLemmas as kinds
 -- limits that are equal are the same decimal
 between-stated : (a b : Number) → is_bounded_decimal a ≡ true
     → is_bounded_decimal b ≡ true → form_of (limits_stated (Finite a) (Finite b)) ≡ by_limits (Finite a) (Finite b)
-between-stated a b p q = by (have_same_value a b) refl
-  where
-    by : (t : Bool) → have_same_value a b ≡ t → form_of (limits_between
-        (left_of (if t then None else Some a)) (if t then EqualTo else AtMost) (limit_of b)) ≡ by_limits (Finite a) (Finite b)
-    by true e = λ i. by_limits ((bounded_finite b q
-        ∙ ap (λ (d : Number). Finite d) (sym (same_decimal a b (bounded_so a p) (bounded_so b q) e))) i) (bounded_finite b q i)
-    by false e = λ i. by_limits (bounded_finite a p i) (bounded_finite b q i)
+between-stated a b p q = grind
+    (arith, bounded_finite b q, same_decimal a b (bounded_so a p) (bounded_so b q), bounded_so a p, bounded_so b q, bounded_finite a p)
 
 -- what is declared of a row are its limits
 pub limits-back : (lower upper : Limit) → are_sides lower upper ≡ true → form_of (limits_stated lower upper) ≡ by_limits lower upper
@@ -93,30 +88,17 @@ module _ (m : Listing) (h : IsSoundListing m) where
   kept key value is = first_so _ _ (second_so _ _
       (found-each key_cmp key_total same_key (λ k v. is_sound_entry m (k, v) ≡ true) m.coefficients h.coefficients key value is))
 
-  term-true : (row : List ℕ) (column : List ℕ × Column) → Holds (IsTrueTerm m row) (term_in m row column)
-  term-true = grind (arith, place_at, kept)
-
   terms-true : (row : List ℕ) (columns : List (List ℕ × Column)) → Each (IsTrueTerm m row) (filter_map (term_in m row) columns)
-  terms-true row columns = each-filter_map (IsTrueTerm m row)
-      (term_in m row) columns (Each-all (λ column. Holds (IsTrueTerm m row) (term_in m row column)) (term-true row) columns)
+  terms-true row columns = each-filter_map (IsTrueTerm m row) (term_in m row) columns (Each-all (λ column. Holds (IsTrueTerm m row) (term_in
+      m row column)) (grind (arith, place_at, kept)) columns)
 
   -- ---- the objective
 
-  objective-term-true : (column : List ℕ × Column) → Holds (IsTrueTerm m m.objective) (objective_term m column)
-  objective-term-true = grind (arith, term-true, no-coefficient)
-
   objective-true : Each (IsTrueTerm m m.objective) (objective_terms m)
-  objective-true = each-filter_map (IsTrueTerm m m.objective) (objective_term m) m.columns
-      (Each-all (λ column. Holds (IsTrueTerm m m.objective) (objective_term m column)) objective-term-true m.columns)
+  objective-true = each-filter_map (IsTrueTerm m m.objective) (objective_term m) m.columns (Each-all (λ column. Holds (IsTrueTerm m
+      m.objective) (objective_term m column)) (grind (arith, place_at, kept, no-coefficient)) m.columns)
 
   -- ---- rows
-
-  none-first : (row : List ℕ) (column : List ℕ × Column) (terms : List Term)
-      → cons_option (term_in m row column) terms ≡ [] → find key_cmp (place_at row column.0) m.coefficients ≡ None
-  none-first = grind arith
-
-  row-true : (row : List ℕ) (columns : List (List ℕ × Column)) → Each (IsTrueTerm m row) (some_term columns (filter_map (term_in m row) columns))
-  row-true = grind (arith, terms-true, none-first)
 
   -- ---- all entries
 
@@ -130,7 +112,7 @@ module _ (m : Listing) (h : IsSoundListing m) where
   all-true : Each (IsTrueEntry m) (flat_map (own_coefficient m.objective) (objective_terms m) ++ flat_map row_coefficients m.rows)
   all-true = Each-append (IsTrueEntry m) (flat_map (own_coefficient m.objective) (objective_terms m)) (flat_map row_coefficients m.rows)
       (entries-true m.objective (objective_terms m) objective-true) (Each-flat_map (IsTrueEntry m) row_coefficients m.rows (Each-all (λ row.
-      Each (IsTrueEntry m) (row_coefficients row)) (λ row. entries-true row.0 (row_terms m row.0) (row-true row.0 m.columns)) m.rows))
+      Each (IsTrueEntry m) (row_coefficients row)) (λ row. entries-true row.0 (row_terms m row.0) (grind (arith, terms-true))) m.rows))
 
   -- The coefficients that are declared, without zeros, are those of the listing.
   pub coefficients-kept : filter (λ entry. not (is_zero entry.1)) (drafted m).coefficients ≡ m.coefficients
@@ -210,25 +192,16 @@ binaries-none m = binaries-all (listed_declarations m) empty_draft ∙ ap (λ (e
 
 -- ---- the bounds follow from what is declared and the defaults
 
-unless-zero : (a : Number) → is_bounded_decimal a ≡ true → unwrap_or (if is_zero a then None else Some (limit_of a)) zero_limit ≡ Finite a
-unless-zero = grind arith
-
 either-same : (a b : Number) → is_bounded_decimal a ≡ true
     → is_bounded_decimal b ≡ true → unwrap_or (if have_same_value a b then Some (limit_of b) else Some (limit_of a)) zero_limit ≡ Finite a
-either-same a b p q = by (have_same_value a b) refl
-  where
-    by : (t : Bool) → have_same_value a b ≡ t → unwrap_or (if t then Some (limit_of b) else Some (limit_of a)) zero_limit ≡ Finite a
-    by true e = bounded_finite b q ∙ ap (λ (d : Number). Finite d) (sym (same_decimal a b (bounded_so a p) (bounded_so b q) e))
-    by false e = bounded_finite a p
+either-same a b p q = grind
+    (arith, bounded_finite b q, same_decimal a b (bounded_so a p) (bounded_so b q), bounded_so a p, bounded_so b q, bounded_finite a p)
 
 no_side : false ≡ true → ⊥
 no_side e = cc
 
 lower-back : (l u : Limit) → is_lower_side l ≡ true → is_upper_side u ≡ true → unwrap_or (lower_stated l u) zero_limit ≡ l
-lower-back = grind (arith, either-same, unless-zero, no_side)
-
-upper-back : (l u : Limit) → is_lower_side l ≡ true → is_upper_side u ≡ true → unwrap_or (upper_stated l u) PlusInf ≡ u
-upper-back = grind (arith, bounded_finite, no_side)
+lower-back = grind (arith, either-same, no_side)
 
 same_integer : (k : Kind) → is_integer_kind k ≡ kinds.is_integer_kind k
 same_integer = grind arith
@@ -249,7 +222,7 @@ bounds-back m h column k = let name = column.0 in let l = column.1.lower in let 
     ∙ same_semi column.1.kind) (ap (λ (o : Option Limit). unwrap_or o zero_limit) (lower-at m h name ∙ ap (then_stated column_lower) k.1)
     ∙ lower-back l u (lower_of l u sides) (upper_of l u sides)) ((λ i. unwrap_or ((upper-at m h name ∙ ap (then_stated column_upper) k.1) i)
     (if has_name (binaries i) name || (has_name (marked i) name && (is_none (at_name (drafted m).lowers name) && is_none
-    (at_name (drafted m).uppers name))) then one_limit else PlusInf)) ∙ upper-back l u (lower_of l u sides) (upper_of l u sides))
+    (at_name (drafted m).uppers name))) then one_limit else PlusInf)) ∙ (grind (arith, bounded_finite, no_side)))
 
 pub each-back : (m : Listing) → IsSoundListing m → Each (λ column. column_of (drafted m) column.0 ≡ column.1) m.columns
 each-back m h = Each-weaker (IsOwnColumn m) (λ column. column_of (drafted m) column.0 ≡ column.1) (bounds-back m h) m.columns (own-columns m h)
@@ -286,18 +259,20 @@ module _ (P : Declaration → Type 0) (h : EachKind P) where
   in_turn : (x : List ℕ) (a b : Limit) → Each P (column_and x (limits_by AtLeast a) ++ bounds_declared x None (Some b))
   in_turn x a b = (h.of_column x, (h.of_lower x a, (h.of_upper x b, tt)))
 
-  each-bound : (x : List ℕ) (lower upper : Limit) → Each P (bound_made x lower upper)
-  each-bound = grind arith
-
   each-rest : (m : Listing) → Each P (rest_declared m)
-  each-rest m = Each-append P (flat_map (row_made m) m.rows) _ (Each-flat_map P (row_made m) m.rows (Each-all
-      (λ row. Each P (row_made m row)) (each-row m) m.rows)) (Each-append P (flat_map column_made m.columns) _ (Each-flat_map P column_made
-      m.columns (Each-all (λ column. Each P (column_made column)) (λ column. each-bound column.0 column.1.lower column.1.upper) m.columns))
-      (Each-append P (flat_map general_made (filter is_integer_column m.columns)) (flat_map semi_made (filter is_semi_column m.columns))
-      (Each-flat_map P general_made (filter is_integer_column m.columns) (Each-all (λ column. Each P (general_made column))
-      (λ column. (h.of_column column.0, (h.of_integer column.0, tt))) (filter is_integer_column m.columns)))
-      (Each-flat_map P semi_made (filter is_semi_column m.columns) (Each-all (λ column. Each P (semi_made column))
-      (λ column. (h.of_column column.0, (h.of_semi column.0, tt))) (filter is_semi_column m.columns)))))
+  each-rest m = Each-append P (flat_map (row_made m) m.rows) _ (Each-flat_map P (row_made m) m.rows (Each-all (λ row. Each P (row_made m
+      row)) (each-row m) m.rows)) (Each-append P (flat_map column_made m.columns) _ (Each-flat_map P column_made m.columns (Each-all (λ
+      column. Each P (column_made column)) (λ column. grind arith) m.columns)) (Each-append P (flat_map general_made (filter
+      is_integer_column m.columns)) (flat_map semi_made (filter is_semi_column m.columns)) (Each-flat_map P general_made (filter
+      is_integer_column m.columns) (Each-all (λ column. Each P (general_made column)) (λ column. (
+        h.of_column column.0,
+        (
+          h.of_integer
+              column.0,
+          tt,
+        ),
+      )) (filter is_integer_column m.columns))) (Each-flat_map P semi_made (filter is_semi_column m.columns) (Each-all (λ
+      column. Each P (semi_made column)) (λ column. (h.of_column column.0, (h.of_semi column.0, tt))) (filter is_semi_column m.columns)))))
 
   -- and in its items
   each-after : ((v : Number) → P (declare_constant v))
@@ -313,31 +288,13 @@ abbrev begun : Listing → Draft
 begun m = with_declarations empty_draft (objective_declared m.sense m.objective)
 
 pub sense-drafted : (m : Listing) → (drafted m).sense ≡ Some m.sense
-sense-drafted m = stays-all (λ d. d.sense) (Some m.sense) _ (each-after (Stays (λ d. d.sense) (Some m.sense)) (record {
-  of_row = λ _ _ all is. is;
-  of_column = λ _ all is. is;
-  of_coefficient = λ _ _ all is. is;
-  of_lower = λ _ _ all is. is;
-  of_upper = λ _ _ all is. is;
-  of_integer = λ _ all is. is;
-  of_semi = λ _ all is. is;
-}) (λ _ all is. is) m) (begun m) refl
+sense-drafted m = grind (arith, stays-all (λ d. d.sense) (Some m.sense), each-after (Stays (λ d. d.sense) (Some m.sense)))
 
 pub objective-drafted : (m : Listing) → (drafted m).objective ≡ Some m.objective
-objective-drafted m = stays-all (λ d. d.objective) (Some m.objective) _ (each-after (Stays (λ d. d.objective) (Some m.objective)) (record {
-  of_row = λ _ _ all is. is;
-  of_column = λ _ all is. is;
-  of_coefficient = λ _ _ all is. is;
-  of_lower = λ _ _ all is. is;
-  of_upper = λ _ _ all is. is;
-  of_integer = λ _ all is. is;
-  of_semi = λ _ all is. is;
-}) (λ _ all is. is) m) (begun m) refl
+objective-drafted m = grind
+    (arith, stays-all (λ d. d.objective) (Some m.objective), each-after (Stays (λ d. d.objective) (Some m.objective)))
 
 -- ---- the constant
-
-keeps-constant : (value : Option Number) → EachKind (Stays (λ d. d.constant) value)
-keeps-constant = grind arith
 
 -- it is declared unless it is 0
 abbrev stated_constant : Number → Option Number
@@ -347,13 +304,12 @@ constant-added : (all : Draft) (value : Number) → all.constant ≡ None → (w
 constant-added = grind arith
 
 constant-drafted : (m : Listing) → (drafted m).constant ≡ stated_constant m.constant
-constant-drafted m = let terms = terms_declared m.objective (objective_terms m) in let constant = constant_declared m.constant in
-    ap (λ (all : Draft). all.constant) (with_declarations-append (terms ++ constant) (rest_declared m) (begun m))
-    ∙ stays-all (λ d. d.constant) (stated_constant m.constant) (rest_declared m)
-    (each-rest (Stays (λ d. d.constant) (stated_constant m.constant)) (keeps-constant (stated_constant m.constant)) m) (with_declarations
-    (begun m) (terms ++ constant)) (ap (λ (all : Draft). all.constant) (with_declarations-append terms constant (begun m))
-    ∙ constant-added (with_declarations (begun m) terms) m.constant (stays-all (λ d. d.constant) None terms
-    (each-terms (Stays (λ d. d.constant) None) (keeps-constant None) m.objective (objective_terms m)) (begun m) refl))
+constant-drafted m = let terms = terms_declared m.objective (objective_terms m) in let constant = constant_declared m.constant in ap (λ (all
+    : Draft). all.constant) (with_declarations-append (terms ++ constant) (rest_declared m) (begun m)) ∙ stays-all (λ d. d.constant)
+    (stated_constant m.constant) (rest_declared m) (each-rest (Stays (λ d. d.constant) (stated_constant m.constant)) (grind arith) m)
+    (with_declarations (begun m) (terms ++ constant)) (ap (λ (all : Draft). all.constant) (with_declarations-append terms constant (begun
+    m)) ∙ constant-added (with_declarations (begun m) terms) m.constant (stays-all (λ d. d.constant) None terms (each-terms (Stays (λ d.
+    d.constant) None) (grind arith) m.objective (objective_terms m)) (begun m) refl))
 
 no-right_side : (m : Listing) → (drafted m).rhs_values ≡ []
 no-right_side m = rhs_values-all (listed_declarations m) empty_draft ∙ ap (λ (es : List (List ℕ × Number)). puts bytes_cmp es []) (no-right_sides m)
@@ -373,17 +329,11 @@ listed_names m = all_parts column_part nothing (λ _. own_name) bound_names own_
 -- ---- all of them are names of columns
 
 module _ (P : List ℕ × Unit {0} → Type 0) where
-  bound-names-hold : (name : List ℕ) (l u : Limit) → P (name, tt) → Each P (flat_map column_part (bound_made name l u))
-  bound-names-hold = grind arith
-
   abbrev HoldsOfColumn : List ℕ × Column → Type 0
   HoldsOfColumn column = P (named column)
 
   abbrev HoldsOfTerm : Term → Type 0
   HoldsOfTerm term = P (named term)
-
-  term-holds : (m : Listing) (row : List ℕ) (column : List ℕ × Column) → HoldsOfColumn column → Holds HoldsOfTerm (term_in m row column)
-  term-holds = grind arith
 
   objective-term-holds : (m : Listing) (column : List ℕ × Column) → HoldsOfColumn column → Holds HoldsOfTerm (objective_term m column)
   objective-term-holds = grind arith
@@ -405,22 +355,17 @@ module _ (P : List ℕ × Unit {0} → Type 0) where
       m) m.columns h))) (Each-append P (flat_map (λ row. flat_map own_name (row_terms m row.0)) m.rows) _ (Each-flat_map P (λ row. flat_map
       own_name (row_terms m row.0)) m.rows (Each-all (λ row. Each P (flat_map own_name (row_terms m row.0))) (λ row. terms-named (row_terms
       m row.0) (some-holds m.columns (filter_map (term_in m row.0) m.columns) h (each-filter_map HoldsOfTerm (term_in m row.0) m.columns
-      (Each-weaker HoldsOfColumn (λ column. Holds HoldsOfTerm (term_in m row.0 column)) (term-holds m row.0) m.columns h)))) m.rows))
-      (Each-append P (flat_map bound_names m.columns) _ (Each-flat_map P bound_names m.columns (Each-weaker HoldsOfColumn
-      (λ column. Each P (bound_names column)) (λ column is. bound-names-hold column.0 column.1.lower column.1.upper is) m.columns h))
-      (Each-append P (flat_map own_name (filter is_integer_column m.columns)) (flat_map own_name (filter is_semi_column m.columns))
-      (kept-named is_integer_column m.columns h) (kept-named is_semi_column m.columns h))))
+      (Each-weaker HoldsOfColumn (λ column. Holds HoldsOfTerm (term_in m row.0 column)) (grind arith) m.columns h)))) m.rows)) (Each-append
+      P (flat_map bound_names m.columns) _ (Each-flat_map P bound_names m.columns (Each-weaker HoldsOfColumn (λ column. Each P (bound_names
+      column)) (λ column is. grind arith) m.columns h)) (Each-append P (flat_map own_name (filter is_integer_column m.columns)) (flat_map
+      own_name (filter is_semi_column m.columns)) (kept-named is_integer_column m.columns h) (kept-named is_semi_column m.columns h))))
 
 -- ---- and each column is among them
 
 any-each : {X : Type 0} (p : X → Bool) (Q : X → Type 0) (Goal : Type 0)
     → ((x : X) → p x ≡ true → Q x → Goal) → (xs : List X) → list_any p xs ≡ true → Each Q xs → Goal
 any-each p Q Goal f [] h k = grind (arith)
-any-each p Q Goal f (x ∷ xs) h k = by (p x) refl h (λ there. any-each p Q Goal f xs there k.1)
-  where
-    by : (b : Bool) → p x ≡ b → (b || list_any p xs) ≡ true → (list_any p xs ≡ true → Goal) → Goal
-    by true e _ _ = f x e k.0
-    by false e there more = more there
+any-each p Q Goal f (x ∷ xs) h k = grind (arith, any-each p Q Goal f xs)
 
 module _ (m : Listing) (h : IsSoundListing m) where
   abbrev IsNamed : List ℕ → Names → Type 0
@@ -447,11 +392,7 @@ module _ (m : Listing) (h : IsSoundListing m) where
       (λ c e. (zero_number, ap (λ (b : Bool). if b then term_in m m.objective c else Some (c.0, zero_number)) (alike c e ∙ none))))
     where
       alike : (c : List ℕ × Column) → same_bytes column.0 c.0 ≡ true → has_coefficients m c ≡ has_coefficients m column
-      alike c e = ap (λ (name : List ℕ). list_any (λ (entry : CoefficientKey × Number). same_bytes entry.0.column name) m.coefficients)
-          (sym (same_name column.0 c.0 e))
-
-  each-named : (column : List ℕ × Column) → IsOwnColumn m column → IsNamed column.0 (listed_names m)
-  each-named = grind (arith, in-listed, with-coefficient, without-coefficients)
+      alike c e = grind (arith, same_name column.0 c.0 e)
 
 -- ---- the columns of the draft
 
@@ -461,11 +402,11 @@ unmapped Q (column ∷ columns) h = (h.0, unmapped Q columns h.1)
 
 pub columns-drafted : (m : Listing) → IsSoundListing m → (drafted m).columns ≡ map named m.columns
 columns-drafted m h = let target = map named m.columns in let sorted = T_from _ (sorted-mapped (λ _. tt) m.columns ∙ h.columns_sorted) in
-    columns-all (listed_declarations m) empty_draft ∙ ap (λ (es : Names). puts bytes_cmp es []) (columns-part m)
-    ∙ puts-give bytes_cmp bytes_total tied_names target (listed_names m) sorted (listed-named (λ e. find bytes_cmp e.0 target ≡ Some e.1) m
-    (unmapped (λ e. find bytes_cmp e.0 target ≡ Some e.1) m.columns (finds_own bytes_cmp bytes_total tied_names target sorted)))
-    (Each-map (λ e. is_some (find bytes_cmp e.0 (listed_names m)) ≡ true) named m.columns (Each-weaker (IsOwnColumn m)
-    (λ column. is_some (at_name (listed_names m) column.0) ≡ true) (λ column own. each-named m h column own) m.columns (own-columns m h)))
+    columns-all (listed_declarations m) empty_draft ∙ ap (λ (es : Names). puts bytes_cmp es []) (columns-part m) ∙ puts-give bytes_cmp
+    bytes_total tied_names target (listed_names m) sorted (listed-named (λ e. find bytes_cmp e.0 target ≡ Some e.1) m (unmapped (λ e. find
+    bytes_cmp e.0 target ≡ Some e.1) m.columns (finds_own bytes_cmp bytes_total tied_names target sorted))) (Each-map (λ e. is_some (find
+    bytes_cmp e.0 (listed_names m)) ≡ true) named m.columns (Each-weaker (IsOwnColumn m) (λ column. is_some (at_name (listed_names m)
+    column.0) ≡ true) (λ column own. grind (arith, in-listed, with-coefficient, without-coefficients)) m.columns (own-columns m h)))
 
 -- ---- the draft of what the canonical text of a well-formed model declares means the model
 

@@ -4,19 +4,19 @@ use Prelude.{arith, rules, ◌≡◌, refl, ap, ◌∙◌, List, [], ◌∷◌, 
 use Prelude.{flat_map, append-nil, flat_map-append, Number, is_zero, have_same_value, Row, Column, Listing, limit_of, RowDefinition}
 use Prelude.{by_limits, Declaration, declare_sense, declare_objective, declare_constant, declare_row, Declarations, Draft, draft_of, Sense}
 use Prelude.{Limit, MinusInf, Finite, PlusInf, flat_map-flat_map, flat_map-none, named, Limits, row_limits, term_declared}
-use Prelude.{objective_declared, Term, objective_terms, row_terms, is_integer_column, is_semi_column, map, CoefficientKey, declare_column}
-use Prelude.{declare_lower, declare_upper, row_part, rhs_part, column_part, coefficient_part, lower_part, upper_part, marked_part}
+use Prelude.{objective_declared, Term, objective_terms, row_terms, is_integer_column, is_semi_column, map, CoefficientKey}
+use Prelude.{row_part, rhs_part, column_part, coefficient_part, lower_part, upper_part, marked_part}
 use Prelude.{integer_part, binary_part, semi_part, stated, all_stated, flat_map_single, Bool, not, ◌&&◌, is_sorted, entries, entries_sorted}
 use Prelude.{IsDecimal, is_decimal, is_one_of, bytes_cmp, LinearModel, key_cmp, is_sound_row, is_sound_column, is_sound_coefficient}
-use Prelude.{IsSound, listing_of, at_name, names_in, true_from, Each-both, Each-from_list_all, own-found, sym, cond, is_some, filter_map}
-use Prelude.{◌||◌, list_any, cons_option, option_map, eq_by_cmp, IsTotalOrder, first_so, second_so, Ordering, find, zero_number, same_bytes}
+use Prelude.{IsSound, listing_of, at_name, names_in, true_from, Each-both, Each-from_list_all, own-found, sym, is_some, filter_map}
+use Prelude.{◌||◌, list_any, cons_option, IsTotalOrder, first_so, second_so, Ordering, find, zero_number, same_bytes}
 use Prelude.{or_left, or_right, equal_from, find-front, some_cons, some_append_left, some_append_right, same_key, itself_named, any-name}
 use Prelude.{same_name, key_total, term_in, has_coefficients, objective_term, some_term, found-each}
 use Rattle.std.specs.declared.cmp.Ordering.TheVariants.{Equal}
 use Rattle.mpslp_types.proofs.EachLemmas.{Each}
 use Rattle.mpslp_builder.proofs.SlotLemmas.{flat-same}
 use Rattle.mpslp_canonical_lp.proofs.PhraseWalk.{terms_declared, constant_declared, objective_made, general_made, semi_made, column_made}
-use Rattle.mpslp_canonical_lp.proofs.PhraseWalk.{left_of, bound_made}
+use Rattle.mpslp_canonical_lp.proofs.PhraseWalk.{left_of}
 use Rattle.mpslp_canonical_lp.proofs.TextWalk.{row_left, row_relation, row_right, row_made, listed_declarations}
 
 -- ---- what is declared of a row and of a column
@@ -83,17 +83,13 @@ module _ {Y : Type 0} (part : Declaration → List Y) (row : List ℕ × Row →
   all_parts m = flat_map (term m.objective) (objective_terms m) ++ (flat_map (row_parts m) m.rows ++ (flat_map bound m.columns
       ++ (flat_map general (filter is_integer_column m.columns) ++ flat_map semi (filter is_semi_column m.columns))))
 
-  no-constant : (h : PartsOf part row term bound general semi) (value : Number) → flat_map part (constant_declared value) ≡ []
-  no-constant h value = elim (is_zero value) as (λ b. flat_map part (if b then [] else declare_constant value ∷ []) ≡ [])
-      [ true ↦ refl | false ↦ ap (λ (ys : List Y). ys ++ []) (h.of_constant value) ]
-
   objective-parts : (h : PartsOf part row term bound general semi) (m : Listing)
       → flat_map part (objective_made m) ≡ flat_map (term m.objective) (objective_terms m)
-  objective-parts h m = follow (objective_declared m.sense m.objective) (terms_declared m.objective (objective_terms m)
-      ++ constant_declared m.constant) [] (flat_map (term m.objective) (objective_terms m) ++ []) (λ i. h.of_sense m.sense i
-      ++ (h.of_objective m.objective i ++ [])) (follow (terms_declared m.objective (objective_terms m)) (constant_declared m.constant) _ _
-      (section (term_declared m.objective) (term m.objective) (h.of_term m.objective) (objective_terms m)) (no-constant h m.constant))
-      ∙ append-nil (flat_map (term m.objective) (objective_terms m))
+  objective-parts h m = follow (objective_declared m.sense m.objective) (terms_declared m.objective (objective_terms m) ++ constant_declared
+      m.constant) [] (flat_map (term m.objective) (objective_terms m) ++ []) (λ i. h.of_sense m.sense i ++ (h.of_objective m.objective i ++
+      [])) (follow (terms_declared m.objective (objective_terms m)) (constant_declared m.constant) _ _ (section (term_declared m.objective)
+      (term m.objective) (h.of_term m.objective) (objective_terms m)) (grind arith)) ∙ append-nil (flat_map (term m.objective)
+      (objective_terms m))
 
   rows-parts : (h : PartsOf part row term bound general semi) (m : Listing) (entry : List ℕ × Row) → flat_map part (row_made m entry) ≡ row_parts m entry
   rows-parts h m entry = λ i. h.of_row entry i ++ section (term_declared entry.0) (term entry.0) (h.of_term entry.0) (row_terms m entry.0) i
@@ -117,11 +113,6 @@ nothing_of name term = []
 abbrev pub own_name : {X : Type 0} → List ℕ × X → List (List ℕ × Unit {0})
 own_name entry = named entry ∷ []
 
--- if terms put nothing into the map
-pub without-terms : {Y : Type 0} (row : List ℕ × Row → List Y) (m : Listing) (more : List Y) → flat_map nothing (objective_terms m)
-    ++ (flat_map (λ entry. row entry ++ flat_map nothing (row_terms m entry.0)) m.rows ++ more) ≡ flat_map row m.rows ++ more
-without-terms {Y} row m more = grind (arith, flat_map-none, flat-same, append-nil)
-
 -- if the lines of rows put nothing into it either
 without-rows : {Y : Type 0} (m : Listing) (more : List Y)
     → flat_map nothing (objective_terms m) ++ (flat_map (λ entry. flat_map nothing (row_terms m entry.0)) m.rows ++ more) ≡ more
@@ -141,11 +132,6 @@ bounds-parts part bound h m = columns-parts part bound nothing nothing h m ∙ (
 
 -- ---- each map of the draft that the declarations of the canonical text of a listing make
 
-bounds-none : {Y : Type 0} (part : Declaration → List Y)
-    → ((x : List ℕ) → part (declare_column x) ≡ []) → ((x : List ℕ) (l : Limit) → part (declare_lower x l) ≡ [])
-    → ((x : List ℕ) (l : Limit) → part (declare_upper x l) ≡ []) → (column : List ℕ × Column) → flat_map part (column_made column) ≡ []
-bounds-none {Y} part c l u column = grind arith
-
 -- ---- rows
 
 abbrev pub row_forms : List (List ℕ × Row) → List (List ℕ × RowDefinition)
@@ -158,20 +144,14 @@ rows-part m = listed-parts row_part (λ row. (row.0, form_stated row.1) ∷ []) 
   of_constant = λ _. refl;
   of_row = λ _. refl;
   of_term = λ _ _. refl;
-  of_bound = bounds-none row_part (λ _. refl) (λ _ _. refl) (λ _ _. refl);
+  of_bound = grind arith;
   of_general = λ _. refl;
   of_semi = λ _. refl;
-}) m ∙ without-terms (λ row. (row.0, form_stated row.1) ∷ []) m _
+}) m ∙ (grind (arith, flat_map-none, flat-same, append-nil))
     ∙ (λ i. flat_map_single (λ row. (row.0, form_stated row.1)) m.rows i ++ (flat_map-none m.columns i ++ (flat_map-none
     (filter is_integer_column m.columns) i ++ flat_map-none (filter is_semi_column m.columns) i))) ∙ append-nil (row_forms m.rows)
 
 -- ---- bounds
-
-lower-made : (name : List ℕ) (l u : Limit) → flat_map lower_part (bound_made name l u) ≡ stated name (lower_stated l u)
-lower-made = grind arith
-
-upper-made : (name : List ℕ) (l u : Limit) → flat_map upper_part (bound_made name l u) ≡ stated name (upper_stated l u)
-upper-made = grind arith
 
 pub lowers-part : (m : Listing) → flat_map lower_part (listed_declarations m) ≡ all_stated column_lower m.columns
 lowers-part = bounds-parts lower_part (λ column. stated column.0 (column_lower column.1)) (record {
@@ -180,7 +160,7 @@ lowers-part = bounds-parts lower_part (λ column. stated column.0 (column_lower 
   of_constant = λ _. refl;
   of_row = λ _. refl;
   of_term = λ _ _. refl;
-  of_bound = λ column. lower-made column.0 column.1.lower column.1.upper;
+  of_bound = λ column. grind arith;
   of_general = λ _. refl;
   of_semi = λ _. refl;
 })
@@ -192,7 +172,7 @@ uppers-part = bounds-parts upper_part (λ column. stated column.0 (column_upper 
   of_constant = λ _. refl;
   of_row = λ _. refl;
   of_term = λ _ _. refl;
-  of_bound = λ column. upper-made column.0 column.1.lower column.1.upper;
+  of_bound = λ column. grind arith;
   of_general = λ _. refl;
   of_semi = λ _. refl;
 })
@@ -204,7 +184,7 @@ integers-part m = columns-parts integer_part nothing own_name nothing (record {
   of_constant = λ _. refl;
   of_row = λ _. refl;
   of_term = λ _ _. refl;
-  of_bound = bounds-none integer_part (λ _. refl) (λ _ _. refl) (λ _ _. refl);
+  of_bound = grind arith;
   of_general = λ _. refl;
   of_semi = λ _. refl;
 }) m ∙ (λ i. flat_map-none m.columns i ++ (flat_map_single named (filter is_integer_column m.columns) i ++ flat_map-none
@@ -217,7 +197,7 @@ semis-part m = columns-parts semi_part nothing nothing own_name (record {
   of_constant = λ _. refl;
   of_row = λ _. refl;
   of_term = λ _ _. refl;
-  of_bound = bounds-none semi_part (λ _. refl) (λ _ _. refl) (λ _ _. refl);
+  of_bound = grind arith;
   of_general = λ _. refl;
   of_semi = λ _. refl;
 }) m ∙ (λ i. flat_map-none m.columns i
@@ -229,16 +209,7 @@ bound_names column = flat_map column_part (column_made column)
 
 -- columns are named by terms, by bounds and by their types
 pub columns-part : (m : Listing) → flat_map column_part (listed_declarations m) ≡ all_parts column_part nothing (λ _. own_name) bound_names own_name own_name m
-columns-part = listed-parts column_part nothing (λ _. own_name) bound_names own_name own_name (record {
-  of_sense = λ _. refl;
-  of_objective = λ _. refl;
-  of_constant = λ _. refl;
-  of_row = λ _. refl;
-  of_term = λ _ _. refl;
-  of_bound = λ _. refl;
-  of_general = λ _. refl;
-  of_semi = λ _. refl;
-})
+columns-part = grind (arith, listed-parts column_part nothing, column_part)
 
 abbrev pub own_coefficient : List ℕ → Term → List (CoefficientKey × Number)
 own_coefficient row term = (record { row = row; column = term.0 }, term.1) ∷ []
@@ -252,7 +223,7 @@ coefficients-part m = let rows = flat_map (λ row. flat_map (own_coefficient row
       of_constant = λ _. refl;
       of_row = λ _. refl;
       of_term = λ _ _. refl;
-      of_bound = bounds-none coefficient_part (λ _. refl) (λ _ _. refl) (λ _ _. refl);
+      of_bound = grind arith;
       of_general = λ _. refl;
       of_semi = λ _. refl;
     }) m ∙ (λ i. flat_map (own_coefficient m.objective) (objective_terms m) ++ (rows ++ (flat_map-none m.columns i
@@ -273,7 +244,7 @@ no-right_sides = no-part rhs_part (record {
   of_constant = λ _. refl;
   of_row = λ _. refl;
   of_term = λ _ _. refl;
-  of_bound = bounds-none rhs_part (λ _. refl) (λ _ _. refl) (λ _ _. refl);
+  of_bound = grind arith;
   of_general = λ _. refl;
   of_semi = λ _. refl;
 })
@@ -285,7 +256,7 @@ no-marks = no-part marked_part (record {
   of_constant = λ _. refl;
   of_row = λ _. refl;
   of_term = λ _ _. refl;
-  of_bound = bounds-none marked_part (λ _. refl) (λ _ _. refl) (λ _ _. refl);
+  of_bound = grind arith;
   of_general = λ _. refl;
   of_semi = λ _. refl;
 })
@@ -297,7 +268,7 @@ no-binaries = no-part binary_part (record {
   of_constant = λ _. refl;
   of_row = λ _. refl;
   of_term = λ _ _. refl;
-  of_bound = bounds-none binary_part (λ _. refl) (λ _ _. refl) (λ _ _. refl);
+  of_bound = grind arith;
   of_general = λ _. refl;
   of_semi = λ _. refl;
 })
@@ -348,16 +319,16 @@ place_at row column = record { row = row; column = column }
 has-some : (row column : List ℕ) (value : Number) (es : List (CoefficientKey × Number)) → find key_cmp (place_at row column) es ≡ Some value
     → list_any (λ (entry : CoefficientKey × Number). same_bytes entry.0.column column) es ≡ true
 has-some row column value [] is = grind (arith)
-has-some row column value (e ∷ es) is = by (eq_by_cmp key_cmp (place_at row column) e.0) refl is (λ more. has-some row column value es more)
-  where
-    any : Bool
-    any = list_any (λ (entry : CoefficientKey × Number). same_bytes entry.0.column column) es
-
-    by : (b : Bool) → eq_by_cmp key_cmp (place_at row column) e.0 ≡ b → cond b (Some e.1) (find key_cmp (place_at row column) es)
-        ≡ Some value → (find key_cmp (place_at row column) es ≡ Some value → any ≡ true) → (same_bytes e.0.column column || any) ≡ true
-    by true tie _ _ = or_left _ _ (ap (λ (key : CoefficientKey). same_bytes key.column column)
-        (sym (same_key (place_at row column) e.0 (equal_from (key_cmp (place_at row column) e.0) tie))) ∙ itself_named column)
-    by false _ at more = or_right _ _ (more at)
+has-some row column value (e ∷ es) is = grind (
+  arith,
+  has-some row column value es,
+  or_left,
+  same_key (place_at row column) e.0,
+  equal_from
+      (key_cmp (place_at row column) e.0),
+  itself_named column,
+  or_right,
+)
 
 pub no-coefficient : (m : Listing) (row : List ℕ) (column : List ℕ × Column)
     → has_coefficients m column ≡ false → find key_cmp (place_at row column.0) m.coefficients ≡ None
@@ -392,10 +363,7 @@ module _ {K X : Type 0} (R : K → K → Ordering) (total : IsTotalOrder R) (sam
       by : (b : Bool) → same_bytes q column.0 ≡ b → (b || list_any (λ c. same_bytes q c.0) columns) ≡ true
           → (t : Option Term) → f column ≡ t → (list_any (λ c. same_bytes q c.0) columns ≡ true → SomeAt (key_of row q) rest)
           → SomeAt (key_of row q) (flat_map (own_entry row) (cons_option t (filter_map f columns)))
-      by true e k t at _ = let there = some column e in ap (λ (o : Option Term). is_some
-          (find R (key_of row q) (flat_map (own_entry row) (cons_option o (filter_map f columns))))) (sym at ∙ there.1)
-          ∙ ap (λ (name : List ℕ). is_some (find R (key_of row name) ((key_of row column.0, entry_of (column.0, there.0)) ∷ rest)))
-          (same_name q column.0 e) ∙ find-front R total same (key_of row column.0) (entry_of (column.0, there.0)) rest
+      by true e k t at _ = grind (arith, rest, same_name, find-front)
       by false e k None _ more = more k
       by false e k (Some t) _ more = some_cons R total same (key_of row q) (key_of row t.0) (entry_of t) rest (more k)
 
@@ -417,8 +385,7 @@ module _ {K X : Type 0} (R : K → K → Ordering) (total : IsTotalOrder R) (sam
   module _ (m : Listing) (h : IsSoundListing m) where
     term-there : (key : CoefficientKey) (value : Number) → find key_cmp key m.coefficients ≡ Some value → (row : List ℕ)
         → key.row ≡ row → (column : List ℕ × Column) → same_bytes key.column column.0 ≡ true → term_in m row column ≡ Some (column.0, value)
-    term-there key value is row named column e = ap (option_map (λ (v : Number). (column.0, v)))
-        ((λ i. find key_cmp (place_at (sym named i) (sym (same_name key.column column.0 e) i)) m.coefficients) ∙ is)
+    term-there key value is row named column e = grind (arith, named, same_name key.column column.0 e)
 
     in-objective : (key : CoefficientKey) (value : Number) → find key_cmp key m.coefficients ≡ Some value → key.row ≡ m.objective
         → (column : List ℕ × Column) → same_bytes key.column column.0 ≡ true → (v : Number) × (objective_term m column ≡ Some (column.0, v))
@@ -438,8 +405,7 @@ module _ {K X : Type 0} (R : K → K → Ordering) (total : IsTotalOrder R) (sam
         sound = found-each key_cmp key_total same_key (λ k v. is_sound_entry m (k, v) ≡ true) m.coefficients h.coefficients key value is
 
         placed : (names && is_one_of (m.objective ∷ names_in m.rows) key.row) ≡ true
-        placed = second_so (not (is_zero value)) (names && is_one_of (m.objective ∷ names_in m.rows) key.row)
-            (second_so (is_decimal value) (not (is_zero value) && (names && is_one_of (m.objective ∷ names_in m.rows) key.row)) sound)
+        placed = grind (arith, names, sound)
 
         columns : list_any (λ column. same_bytes key.column column.0) m.columns ≡ true
         columns = sym (any-name key.column m.columns) ∙ first_so names (is_one_of (m.objective ∷ names_in m.rows) key.row) placed

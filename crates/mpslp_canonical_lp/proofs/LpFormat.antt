@@ -15,7 +15,6 @@ use Rattle.mpslp_builder.specs.Meaning.{row_limits}
 use Rattle.mpslp_lp.specs.FirstFault.{IsFirstLpFault}
 use Rattle.mpslp_canonical_lp.proofs.{TextWalk.canonical-declares_if, UnrefusedText.{listed-consistent, plain-text}}
 use Rattle.mpslp_canonical_lp.proofs.ListedMeaning.{listed-means}
-use Rattle.std.specs.declared.cmp.Ordering.TheVariants as orders
 
 -- ---- what LP text declares has only LP names, so LP can express it
 
@@ -33,10 +32,8 @@ record HasLpNames (all : Draft) : Type 0 where
 
 names-with_declaration : (all : Draft) (d : Declaration) → has_lp_name d ≡ true → HasLpNames all → HasLpNames (with_declaration all d)
 names-with_declaration _ (declare_objective _) h names = record { objective = h; rows = names.rows; columns = names.columns }
-names-with_declaration all (declare_row name form) h names =
-    record { objective = names.objective; rows = named-put is_lp_name name form all.rows h names.rows; columns = names.columns }
-names-with_declaration all (declare_column name) h names =
-    record { objective = names.objective; rows = names.rows; columns = named-put is_lp_name name tt all.columns h names.columns }
+names-with_declaration all (declare_row name form) h names = grind (arith, named-put is_lp_name name form all.rows h names.rows)
+names-with_declaration all (declare_column name) h names = grind (arith, named-put is_lp_name name tt all.columns h names.columns)
 names-with_declaration _ _ h names = record { objective = names.objective; rows = names.rows; columns = names.columns }
 
 names-with_declarations : (ds : Declarations) (all : Draft) → list_all has_lp_name ds ≡ true → HasLpNames all → HasLpNames (with_declarations all ds)
@@ -86,10 +83,6 @@ draft-fit all objective sorted names =
     (lp-named row_values all.rows names.rows)) (ap (λ (es : List (List ℕ × ColumnOf)). first_unfit (map (λ e. e.0) es)) columns_are
     ∙ none-unfit (map (λ (e : List ℕ × ColumnOf). e.0) columns) (lp-named column_values all.columns names.columns))
 
--- LP can express what LP text declares.
-pub declared-fit : (bytes : List ℕ) (m : LinearModel) → DeclaresLp bytes m → unfit m ≡ None
-declared-fit = grind (arith, draft-fit, sorted-draft_of, names-with_declarations, lp_names-declared)
-
 -- ---- the canonical LP text of a well-formed model with LP names declares it
 
 pub canonical-declares : DeclareTheirModels
@@ -106,7 +99,8 @@ is-injective m n sound fits other fit = (
 )
 
 pub declared-fits : DeclareWhatFits
-declared-fits bytes m declares = (declares.means.meant.sound, declared-fit bytes m declares)
+declared-fits bytes m declares =
+    (declares.means.meant.sound, grind (arith, draft-fit, sorted-draft_of, names-with_declarations, lp_names-declared))
 
 -- ---- the laws of LP as a format of model files, in terms of the trait `Format`
 
@@ -126,9 +120,6 @@ declared_sound = declared-fits
 pub no_fault : (bytes : List ℕ) (m : LinearModel) (fault : Fault) → DeclaresLp bytes m → IsFirstLpFault bytes fault → ⊥
 no_fault = model-or_fault
 
-one-stated : (a b : Fault) → Some a ≡ Some b → a ≡ b
-one-stated a b e = cc
-
 -- No bytes have two first errors.
 pub one_fault : (bytes : List ℕ) (fault other : Fault) → IsFirstLpFault bytes fault → IsFirstLpFault bytes other → fault ≡ other
-one_fault _ a b first second = one-stated a b (sym first ∙ second)
+one_fault _ a b first second = cc

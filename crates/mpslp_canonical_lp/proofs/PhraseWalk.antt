@@ -1,11 +1,11 @@
 -- How the grammar reads the printed forms: each declares what it was printed from, if none of it is rejected.
 pub use Rattle.mpslp_canonical_lp.specs.PrintedDeclarations.{point_at, constant_declared, AreNew}
 use Rattle.mpslp_canonical_lp.proofs.Prelude
-use Prelude.{arith, ◌≡◌, refl, ℕ, List, [], ◌∷◌, ◌++◌, true, false, append_assoc, Some, None, codes, list_any, Decimal, same_bytes}
+use Prelude.{arith, ◌≡◌, refl, ℕ, List, [], ◌∷◌, ◌++◌, true, false, append_assoc, Some, None, codes, Decimal}
 use Prelude.{limit_of, Draft, empty_draft, Declarations, declare_column, bounds_declared, with_declarations, refusals_in_turn}
 use Prelude.{bounds_refusals, Sense, Minimize, Maximize, Limit, MinusInf, SignOf, Minus, TerminalAt, Opens, Name, Sign, Compares, Colon}
 use Prelude.{Infinity, phrases, made_by, Finished, no_section_seen, with_section, section_fault, Point, start, SectionsSeen, PartialRow}
-use Prelude.{Place, BeforeItems, InObjective, BetweenRows, InRow, InBounds, InGenerals, InSemis, apply_sign, Limits, limits_by, flip}
+use Prelude.{Place, BeforeItems, InObjective, BetweenRows, InRow, InBounds, InGenerals, InSemis, apply_sign, Limits, limits_by}
 use Prelude.{term_declared, objective_declared, fits_left, row_limits, row_declared, may_begin_section, phrase_at, Relation, sym, ap, subst}
 use Prelude.{◌∙◌, ◌+◌, Bool, map, if◌then◌else◌, flat_map, is_negative, size_of, with_declarations-append, refusals_in_turn-append, Each}
 use Prelude.{word_terminal, AtStart, PrintedLine, Listing, Lines, Term, heading, label_line, sense_word, term_line, objective_terms}
@@ -43,18 +43,6 @@ abbrev pub sense_opens : Sense → SectionWord
 sense_opens Minimize = section_words.Minimize
 sense_opens Maximize = section_words.Maximize
 
-pub start-walks : (n k : ℕ) (aim : Sense) (name : List ℕ)
-    → Walks start (at n (Opens (sense_opens aim)) ∷ at k (Name name) ∷ at k Colon ∷ []) (objective_declared aim name) (point_at
-    (BeforeItems name) (with_section no_section_seen sections.Objective) (with_declarations empty_draft (objective_declared aim name)))
-start-walks = grind arith
-
--- the first term, and each further one
-pub first-term-walks : (seen : SectionsSeen) (all : Draft) (name : List ℕ) (n : ℕ) (sign : SignOf) (size : Decimal) (column : List ℕ)
-    → refusals_in_turn all (term_declared name (column, apply_sign sign size)) ≡ [] → Walks (point_at (BeforeItems name) seen all)
-    (at n (Sign sign) ∷ at n (Number size) ∷ at n (Name column) ∷ []) (term_declared name (column, apply_sign sign size))
-    (point_at (InObjective name) seen (with_declarations all (term_declared name (column, apply_sign sign size))))
-first-term-walks = grind arith
-
 pub term-walks : (seen : SectionsSeen) (all : Draft) (name : List ℕ) (n : ℕ) (sign : SignOf) (size : Decimal) (column : List ℕ)
     → refusals_in_turn all (term_declared name (column, apply_sign sign size)) ≡ [] → Walks (point_at (InObjective name) seen all)
     (at n (Sign sign) ∷ at n (Number size) ∷ at n (Name column) ∷ []) (term_declared name (column, apply_sign sign size))
@@ -70,22 +58,6 @@ pub left-row-walks : (seen : SectionsSeen) (all : Draft) (name : List ℕ) (k j 
     (InRow (record { name = name; left = Some (limit_of value, relation); terms = (column, apply_sign sign size) ∷ [] })) seen all)
 left-row-walks = grind arith
 
--- the same with a sign before the limit
-pub signed-row-walks : (seen : SectionsSeen) (all : Draft)
-    (name : List ℕ) (k j n : ℕ) (below : SignOf) (value : Decimal) (relation : Relation) (sign : SignOf) (size : Decimal) (column : List ℕ)
-    → Walks (point_at BetweenRows seen all) (at k (Name name) ∷ at k Colon ∷ at j (Sign below) ∷ at j
-    (Number value) ∷ at j (Compares relation) ∷ at n (Sign sign) ∷ at n (Number size) ∷ at n (Name column) ∷ []) [] (point_at
-    (InRow (record { name = name; left = Some (limit_of (apply_sign below value), relation); terms = (column, apply_sign sign size) ∷ [] }))
-    seen all)
-signed-row-walks = grind arith
-
--- a further term, whose column is new in the row
-pub row-term-walks : (seen : SectionsSeen) (all : Draft) (row : PartialRow) (n : ℕ) (sign : SignOf) (size : Decimal) (column : List ℕ)
-    → list_any (λ (term : List ℕ × Decimal). same_bytes column term.0) row.terms ≡ false
-    → Walks (point_at (InRow row) seen all) (at n (Sign sign) ∷ at n (Number size) ∷ at n (Name column) ∷ []) []
-    (point_at (InRow (record row { terms = row.terms ++ (column, apply_sign sign size) ∷ [] })) seen all)
-row-term-walks = grind arith
-
 -- what a row declares that ends with this relation and this limit
 abbrev pub ended_by : PartialRow → Relation → Limit → Declarations
 ended_by row relation limit = row_declared row (row_limits row.left relation limit)
@@ -97,31 +69,12 @@ pub row-end-walks : (seen : SectionsSeen) (all : Draft) (row : PartialRow) (n : 
     (point_at BetweenRows seen (with_declarations all (ended_by row relation (limit_of value))))
 row-end-walks = grind arith
 
--- the same with a sign before the limit
-pub signed-end-walks : (seen : SectionsSeen)
-    (all : Draft) (row : PartialRow) (n : ℕ) (relation : Relation) (below : SignOf) (value : Decimal) → fits_left row.left relation ≡ true
-    → refusals_in_turn all (ended_by row relation (limit_of (apply_sign below value))) ≡ [] → Walks (point_at (InRow row) seen all)
-    (at n (Compares relation) ∷ at n (Sign below) ∷ at n (Number value) ∷ []) (ended_by row relation (limit_of (apply_sign below value)))
-    (point_at BetweenRows seen (with_declarations all (ended_by row relation (limit_of (apply_sign below value)))))
-signed-end-walks = grind arith
-
 -- ---- sections
 
 pub bounds-section-walks : (place : Place) (seen : SectionsSeen) (all : Draft) (n : ℕ)
     → may_begin_section place ≡ true → section_fault seen sections.Bounds ≡ None → Walks
     (point_at place seen all) (at n (Opens section_words.Bounds) ∷ []) [] (point_at (InBounds None) (with_section seen sections.Bounds) all)
 bounds-section-walks = grind arith
-
-pub generals-section-walks : (place : Place) (seen : SectionsSeen) (all : Draft) (n : ℕ)
-    → may_begin_section place ≡ true → section_fault seen sections.Generals ≡ None → Walks
-    (point_at place seen all) (at n (Opens section_words.Generals) ∷ []) [] (point_at InGenerals (with_section seen sections.Generals) all)
-generals-section-walks = grind arith
-
--- `Semi-Continuous`
-pub semis-section-walks : (place : Place) (seen : SectionsSeen) (all : Draft) (n : ℕ) → may_begin_section place ≡ true
-    → section_fault seen sections.SemiContinuous ≡ None → Walks (point_at place seen all) (at n (Opens section_words.Semi) ∷ at n
-    (Sign Minus) ∷ at n (Name (codes "Continuous")) ∷ []) [] (point_at InSemis (with_section seen sections.SemiContinuous) all)
-semis-section-walks = grind arith
 
 -- the text is complete at its last word
 pub end-says : (place : Place) (seen : SectionsSeen) (all : Draft) (n : ℕ) → may_begin_section place ≡ true → section_fault
@@ -141,17 +94,6 @@ column_and column limits = (declare_column column ∷ []) ++ bounds_declared col
 -- bounds of a column that is declared with them are not rejected
 abbrev pub AreTaken : Draft → List ℕ → Limits → Type 0
 AreTaken all column limits = bounds_refusals (with_declarations all (declare_column column ∷ [])) column limits.lower limits.upper ≡ []
-
--- `-infinity` before a column
-pub infinite-left-walks : (seen : SectionsSeen) (all : Draft) (n : ℕ) (relation : Relation) (column : List ℕ)
-    → AreTaken all column (limits_by (flip relation) MinusInf) → Walks (point_at (InBounds None) seen all) (at n (Sign Minus)
-    ∷ at n Infinity ∷ at n (Compares relation) ∷ at n (Name column) ∷ []) (column_and column (limits_by (flip relation) MinusInf))
-    (point_at (InBounds (Some (column, relation))) seen (with_declarations all (column_and column (limits_by (flip relation) MinusInf))))
-infinite-left-walks = grind arith
-
--- ---- integer columns
-
--- ---- semi-continuous columns
 
 -- ---- the printed objective, up to `Subject To`, declares the sense, the objective, its terms and its constant
 
@@ -200,7 +142,7 @@ items_at name started = if started then InObjective name else BeforeItems name
 pub one-term : (started : Bool) (seen : SectionsSeen) (all : Draft) (name : List ℕ) (n : ℕ) (term : Term) → IsTerm term → refusals_in_turn
     all (term_declared name term) ≡ [] → Walks (point_at (items_at name started) seen all) (line_terminals_in n (term_line term))
     (term_declared name term) (point_at (InObjective name) seen (with_declarations all (term_declared name term)))
-one-term = grind (arith, point_at, term-terminals, signed-value, at, sign_of, term-walks, first-term-walks)
+one-term = grind (arith, point_at, term-terminals, signed-value, at, sign_of, term-walks)
 
 abbrev pub after_terms : Bool → List Term → Bool
 after_terms started [] = started
@@ -255,7 +197,7 @@ objective-walk m fit h = let seen : SectionsSeen = with_section no_section_seen 
     (subject_heading ∷ [])) ∙ terminals-append 1 first (lines ++ ending) ∙ (λ i. begin-terminals 1 m.sense m.objective i ++ terminals-append
     3 lines ending i))) (parts-walk AtStart (BeforeItems m.objective) BetweenRows no_section_seen seen in_rows empty_draft
     (at 1 (Opens (sense_opens m.sense)) ∷ at 2 (Name m.objective) ∷ at 2 Colon ∷ []) (all_terminals 3 lines ++ all_terminals
-    (number_after 3 lines) ending) begun (terms ++ constant) (start-walks 1 2 m.sense m.objective) (parts-walk (BeforeItems m.objective)
+    (number_after 3 lines) ending) begun (terms ++ constant) (grind arith) (parts-walk (BeforeItems m.objective)
     (items_at m.objective (after_terms false (objective_terms m))) BetweenRows seen seen in_rows (with_declarations empty_draft begun)
     (all_terminals 3 lines) (all_terminals (number_after 3 lines) ending) terms constant (objective-terms-walk false seen (with_declarations
     empty_draft begun) m.objective 3 (objective_terms m) (objective-fits m fit) later.0) (constant-walk (after_terms false (objective_terms
@@ -267,12 +209,7 @@ objective-walk m fit h = let seen : SectionsSeen = with_section no_section_seen 
 
 pub number-either : (P : Decimal → List Terminal → Type 0) (value : Decimal) → ((v : Decimal) → P v (Number v ∷ []))
     → ((below : SignOf) (v : Decimal) → P (apply_sign below v) (Sign below ∷ Number v ∷ [])) → P value (terminals_in (number value))
-number-either P value plain with_sign = by (is_negative value) refl
-  where
-    by : (b : Bool) → is_negative value ≡ b → P value (if b then Sign Minus ∷ Number (size_of value) ∷ [] else Number value ∷ [])
-    by true e = subst (λ (v : Decimal). P v (Sign Minus ∷ Number (size_of value) ∷ []))
-        (ap (λ (b : Bool). apply_sign (sign_of b) (size_of value)) (sym e) ∙ signed-value value) (with_sign Minus (size_of value))
-    by false e = plain value
+number-either P value plain with_sign = grind (arith, sign_of, signed-value value)
 
 -- ---- what is declared
 
@@ -283,11 +220,6 @@ bound_made column (Finite lower) (Finite upper) = if have_same_value lower upper
     (limit_of upper)) else column_and column (limits_by AtLeast (limit_of lower)) ++ bounds_declared column None (Some (limit_of upper))
 bound_made column (Finite lower) _ = if is_zero lower then [] else column_and column (limits_by AtLeast (limit_of lower))
 bound_made column _ _ = column_and column no_limits
-
--- none of these is rejected, so the bounds are declared
-taken-from : (all : Draft) (column : List ℕ) (limits : Limits) → (is_some limits.lower || is_some limits.upper) ≡ true
-    → refusals_in_turn all (column_and column limits) ≡ [] → AreTaken all column limits
-taken-from = grind arith
 
 -- ---- parts of a line
 
@@ -357,27 +289,19 @@ infinite-line seen all n column upper good h = let first = column_and column (li
     (word_terminal column (sym good.word_class i)) ∷ at n (Compares AtMost) ∷ map (at n) (sym (append-nil right) i))
     (parts-walk (InBounds None) (InBounds (Some (column, AtMost))) (InBounds None) seen seen seen all
     (at n (Sign Minus) ∷ at n Infinity ∷ at n (Compares AtMost) ∷ at n (Name column) ∷ []) (at n (Compares AtMost) ∷ map (at n) right)
-    first second (infinite-left-walks seen all n AtMost column (taken-from all column (limits_by AtLeast MinusInf) refl parts.0))
+    first second (grind arith)
     (upper-walk seen (with_declarations all first) n column upper parts.1))
-
--- a column and `free`
-free-line : (seen : SectionsSeen) (all : Draft) (n : ℕ) (column : List ℕ) → IsGoodName column → refusals_in_turn all
-    (column_and column no_limits) ≡ [] → Walks (bounds_point seen all) (pieces_terminals n (word column ∷ word (codes "free") ∷ []))
-    (column_and column no_limits) (bounds_point seen (with_declarations all (column_and column no_limits)))
-free-line = grind arith
 
 -- ---- the lines of columns
 
 some-line : (from to : Point) (n : ℕ) (piece : Lexeme) (lexemes : List Lexeme) (made : Declarations)
     → Walks from (pieces_terminals n (piece ∷ lexemes)) made to → Walks from (all_terminals n (line_of_some (piece ∷ lexemes))) made to
-some-line from to n piece lexemes made h =
-    subst (λ (tokens : List TerminalAt). Walks from tokens made to) (sym (append-nil (pieces_terminals n (piece ∷ lexemes)))) h
+some-line from to n piece lexemes made h = grind (arith, append-nil)
 
 pub column-walk : (seen : SectionsSeen) (all : Draft) (n : ℕ) (column : List ℕ) (lower upper : Limit) → IsGoodName column → refusals_in_turn
     all (bound_made column lower upper) ≡ [] → Walks (bounds_point seen all) (all_terminals n (line_of_some (bound_lexemes
     column lower upper))) (bound_made column lower upper) (bounds_point seen (with_declarations all (bound_made column lower upper)))
-column-walk seen all n column MinusInf (Finite b) good h =
-    some-line _ _ n minus_infinity (sense AtMost ∷ word column ∷ sense AtMost ∷ number b ∷ []) _ (infinite-line seen all n column b good h)
+column-walk seen all n column MinusInf (Finite b) good h = grind (arith, some-line, infinite-line)
 column-walk seen all n column (Finite a) (Finite b) good h = by (have_same_value a b) h
   where
     by : (t : Bool) → refusals_in_turn all (if t then column_and column (limits_by EqualTo (limit_of b)) else column_and column
@@ -389,23 +313,11 @@ column-walk seen all n column (Finite a) (Finite b) good h = by (have_same_value
         (limits_by AtLeast (limit_of a)) ++ bounds_declared column None (Some (limit_of b)))))
     by true k = some-line _ _ n (word column) (sense EqualTo ∷ number b ∷ []) _ (valued-line seen all n column EqualTo b good k)
     by false k = some-line _ _ n (number a) (sense AtMost ∷ word column ∷ sense AtMost ∷ number b ∷ []) _ (between-line seen all n a column b good k)
-column-walk seen all n column (Finite a) MinusInf good h = by (is_zero a) h
-  where
-    by : (t : Bool) → refusals_in_turn all (if t then [] else column_and column (limits_by AtLeast (limit_of a))) ≡ []
-        → Walks (bounds_point seen all) (all_terminals n (line_of_some (if t then [] else word column ∷ sense AtLeast ∷ number a ∷ [])))
-        (if t then [] else column_and column (limits_by AtLeast (limit_of a)))
-        (bounds_point seen (with_declarations all (if t then [] else column_and column (limits_by AtLeast (limit_of a)))))
-    by true k = walks-none (bounds_point seen all)
-    by false k = some-line _ _ n (word column) (sense AtLeast ∷ number a ∷ []) _ (valued-line seen all n column AtLeast a good k)
-column-walk seen all n column (Finite a) PlusInf good h = by (is_zero a) h
-  where
-    by : (t : Bool) → refusals_in_turn all (if t then [] else column_and column (limits_by AtLeast (limit_of a))) ≡ []
-        → Walks (bounds_point seen all) (all_terminals n (line_of_some (if t then [] else word column ∷ sense AtLeast ∷ number a ∷ [])))
-        (if t then [] else column_and column (limits_by AtLeast (limit_of a)))
-        (bounds_point seen (with_declarations all (if t then [] else column_and column (limits_by AtLeast (limit_of a)))))
-    by true k = walks-none (bounds_point seen all)
-    by false k = some-line _ _ n (word column) (sense AtLeast ∷ number a ∷ []) _ (valued-line seen all n column AtLeast a good k)
-column-walk seen all n column _ _ good h = some-line _ _ n (word column) (word (codes "free") ∷ []) _ (free-line seen all n column good h)
+column-walk seen all n column (Finite a) MinusInf good h = grind
+    (arith, walks-none (bounds_point seen all), some-line, valued-line seen all n column AtLeast a good)
+column-walk seen all n column (Finite a) PlusInf good h = grind
+    (arith, walks-none (bounds_point seen all), some-line, valued-line seen all n column AtLeast a good)
+column-walk seen all n column _ _ good h = some-line _ _ n (word column) (word (codes "free") ∷ []) _ (grind arith)
 
 abbrev pub column_made : List ℕ × Column → Declarations
 column_made column = bound_made column.0 column.1.lower column.1.upper
@@ -451,32 +363,16 @@ begin-plain = grind arith
 begin-left : (seen : SectionsSeen) (all : Draft) (name : List ℕ) (k j n : ℕ) (left : Decimal) (term : Term) → Walks (point_at BetweenRows
     seen all) (at k (Name name) ∷ at k Colon ∷ (map (at j) (terminals_in (number left)) ++ at j (Compares AtMost) ∷ term_tokens n term)) []
     (in_row seen all (partial name (Some left) (term ∷ [])))
-begin-left = grind (arith, point_at, at, terminals_in, signed-value, number-either, sign_of, left-row-walks, signed-row-walks)
+begin-left = grind (arith, point_at, at, terminals_in, signed-value, number-either, sign_of, left-row-walks)
 
 -- the label, the limit before the terms if there is one, and the first term
 pub begin-walk : (seen : SectionsSeen) (all : Draft) (name : List ℕ) (n : ℕ) (left : Option Decimal) (term : Term)
     → IsTerm term → Walks (point_at BetweenRows seen all)
     (all_terminals n (label_line name ∷ (left_line left ++ term_line term ∷ []))) [] (in_row seen all (partial name left (term ∷ [])))
-begin-walk = search (
-  rules,
-  point_at,
-  at,
-  append-nil,
-  line_terminals_in,
-  term-terminals,
-  begin-plain,
-  terminals_in,
-  mapped-append,
-  append_assoc,
-  begin-left,
-)
+begin-walk = search
+    (rules, point_at, at, append-nil, line_terminals_in, term-terminals, begin-plain, terminals_in, mapped-append, append_assoc, begin-left)
 
 -- ---- its further terms
-
-more-term : (seen : SectionsSeen) (all : Draft) (row : PartialRow) (n : ℕ) (term : Term)
-    → IsTerm term → list_any (λ (earlier : Term). same_bytes term.0 earlier.0) row.terms ≡ false → Walks
-    (in_row seen all row) (line_terminals_in n (term_line term)) [] (in_row seen all (record row { terms = row.terms ++ term ∷ [] }))
-more-term = search (rules, term-terminals, signed-value, row-term-walks, sign_of)
 
 pub row-terms-walk : (sections_seen : SectionsSeen) (all : Draft) (name : List ℕ) (left : Option Decimal) (n : ℕ) (seen terms : List Term)
     → Each IsTerm terms → AreNew seen terms → Walks (in_row sections_seen all (partial name left seen))
@@ -484,10 +380,10 @@ pub row-terms-walk : (sections_seen : SectionsSeen) (all : Draft) (name : List �
 row-terms-walk sections_seen all name left n seen [] good new = grind (arith, append-nil, walks-none)
 row-terms-walk sections_seen all name left n seen (term ∷ terms) good new = subst (λ (whole : List Term). Walks (in_row sections_seen all
     (partial name left seen)) (all_terminals n (map term_line (term ∷ terms))) [] (in_row sections_seen all (partial name left whole)))
-    (append_assoc seen (term ∷ []) terms) (walks-then (in_row sections_seen all (partial name left seen)) (in_row sections_seen all
-    (partial name left (seen ++ term ∷ []))) (in_row sections_seen all (partial name left ((seen ++ term ∷ []) ++ terms)))
-    (line_terminals_in n (term_line term)) (all_terminals (n + 1) (map term_line terms)) [] [] (more-term sections_seen all (partial
-    name left seen) n term good.0 new.0) (row-terms-walk sections_seen all name left (n + 1) (seen ++ term ∷ []) terms good.1 new.1))
+    (append_assoc seen (term ∷ []) terms) (walks-then (in_row sections_seen all (partial name left seen)) (in_row sections_seen all (partial
+    name left (seen ++ term ∷ []))) (in_row sections_seen all (partial name left ((seen ++ term ∷ []) ++ terms))) (line_terminals_in n
+    (term_line term)) (all_terminals (n + 1) (map term_line terms)) [] [] (search (rules, term-terminals, signed-value, sign_of))
+    (row-terms-walk sections_seen all name left (n + 1) (seen ++ term ∷ []) terms good.1 new.1))
 
 -- ---- its end
 
@@ -497,10 +393,10 @@ pub row-end-walk : (seen : SectionsSeen) (all : Draft) (row : PartialRow) (n : �
     (ended_by row relation (limit_of right)) (point_at BetweenRows seen (with_declarations all (ended_by row relation (limit_of right))))
 row-end-walk seen all row n relation right fits h = subst (λ (tokens : List Terminal). Walks (in_row seen all row) (at n (Compares relation)
     ∷ map (at n) tokens) (ended_by row relation (limit_of right)) (point_at BetweenRows seen (with_declarations all (ended_by row relation
-    (limit_of right))))) (sym (append-nil (terminals_in (number right)))) (number-either (λ v terminals. refusals_in_turn all
-    (ended_by row relation (limit_of v)) ≡ [] → Walks (in_row seen all row) (at n (Compares relation) ∷ map (at n) terminals)
-    (ended_by row relation (limit_of v)) (point_at BetweenRows seen (with_declarations all (ended_by row relation (limit_of v))))) right
-    (λ v k. row-end-walks seen all row n relation v fits k) (λ below v k. signed-end-walks seen all row n relation below v fits k) h)
+    (limit_of right))))) (sym (append-nil (terminals_in (number right)))) (number-either (λ v terminals. refusals_in_turn all (ended_by row
+    relation (limit_of v)) ≡ [] → Walks (in_row seen all row) (at n (Compares relation) ∷ map (at n) terminals) (ended_by row relation
+    (limit_of v)) (point_at BetweenRows seen (with_declarations all (ended_by row relation (limit_of v))))) right (λ v k. row-end-walks seen
+    all row n relation v fits k) (λ below v k. grind arith) h)
 
 -- ---- the printed bounds and integer columns, and the end of the text
 
@@ -578,8 +474,8 @@ semis-end place seen all n (column ∷ columns) fit may ends h = let lines : Lin
     let opening : List TerminalAt = at n (Opens section_words.Semi) ∷ at n (Sign Minus) ∷ at n (Name (codes "Continuous")) ∷ [] in
     subst (λ (tokens : List TerminalAt). EndsWith (point_at place seen all) tokens made)
     (ap (λ (more : List TerminalAt). opening ++ more) (sym (terminals-append (n + 1) lines ending))) (walk-ends place InSemis seen
-    inside all opening (all_terminals (n + 1) lines ++ all_terminals (number_after (n + 1) lines) ending) [] made (semis-section-walks place
-    seen all n may ends.semis) (subst (λ (declared : Declarations). EndsWith (point_at InSemis inside all) (all_terminals (n + 1) lines
+    inside all opening (all_terminals (n + 1) lines ++ all_terminals (number_after (n + 1) lines) ending) [] made (grind arith) (subst (λ
+    (declared : Declarations). EndsWith (point_at InSemis inside all) (all_terminals (n + 1) lines
     ++ all_terminals (number_after (n + 1) lines) ending) declared) (append-nil made) (walk-ends InSemis InSemis inside inside all
     (all_terminals (n + 1) lines) (all_terminals (number_after (n + 1) lines) ending) made [] (semis-walk inside all
     (n + 1) (column ∷ columns) fit h) (end-ends InSemis inside (with_declarations all made) (number_after (n + 1) lines) refl ends.later))))
@@ -597,7 +493,7 @@ generals-end place seen all n (column ∷ columns) semis fit whole may generals 
     subst (λ (tokens : List TerminalAt). EndsWith (point_at place seen all) tokens (made ++ more)) (ap (λ (tokens : List TerminalAt). at n
     (Opens section_words.Generals) ∷ tokens) (sym (terminals-append (n + 1) lines rest))) (walk-ends place InGenerals seen inside all (at n
     (Opens section_words.Generals) ∷ []) (all_terminals (n + 1) lines ++ all_terminals (number_after (n + 1) lines) rest) [] (made ++ more)
-    (generals-section-walks place seen all n may generals) (walk-ends InGenerals InGenerals inside inside all (all_terminals (n + 1) lines)
+    (grind arith) (walk-ends InGenerals InGenerals inside inside all (all_terminals (n + 1) lines)
     (all_terminals (number_after (n + 1) lines) rest) made more (generals-walk inside all (n + 1) (column ∷ columns) fit parts.0)
     (semis-end InGenerals inside (with_declarations all made) (number_after (n + 1) lines) semis whole refl later parts.1)))
 

@@ -2,26 +2,23 @@
 use Rattle.mpslp_canonical_lp.proofs.Prelude
 use Prelude.{rules, ◌≡◌, refl, sym, ap, ◌∙◌, ℕ, suc, ◌<◌, arith, List, [], ◌∷◌, ◌++◌, true, false, append_assoc, ◌&&◌, Option, Some, None}
 use Prelude.{list_any, flat_map, second_so, is_sorted, is_lt, same_bytes, bytes_cmp, both_so, both_false, so_not, Each-weaker, Each-append}
-use Prelude.{CoefficientKey, are_distinct, Declarations, names_in, Slot, row_slot, rhs_slot, range_slot, coefficient_slot, lower_slot}
+use Prelude.{are_distinct, Declarations, names_in, Slot, row_slot, rhs_slot, range_slot, coefficient_slot, lower_slot}
 use Prelude.{upper_slot, same_slot, slots_of, all_slots, IsNew, Apart, distinct-append, same_name, bytes_total, itself_named, subst, length}
 use Prelude.{filter_map, if◌then◌else◌, cons_option, option_map, find, Number, zero_number, Each-both, Each-all, Column, key_cmp, Listing}
-use Prelude.{Term, term_in, has_coefficients, objective_term, objective_terms, some_term, row_terms, ◌||◌, Bool, not, map, Limit}
+use Prelude.{Term, term_in, has_coefficients, objective_term, objective_terms, some_term, row_terms, ◌||◌, Bool, not, map}
 use Prelude.{Each-flat_map, Row, sense_slot, objective_slot, constant_slot, distinct-flat_map}
 use Rattle.std.{specs.FinMap.Entries.below_all, proofs.lemmas.List.Folds.list_any-append}
 use Rattle.mpslp_types.proofs.EachLemmas.{Each}
 use Rattle.mpslp_canonical_lp.proofs.{LineLemmas.{IsTerm, IsFit, terms-fit, some-fits}, PhraseWalk.{AreNew, terms_declared}}
-use Rattle.mpslp_canonical_lp.proofs.PhraseWalk.{constant_declared, objective_made, bound_made, column_made, general_made, semi_made}
+use Rattle.mpslp_canonical_lp.proofs.PhraseWalk.{constant_declared, objective_made, column_made, general_made, semi_made}
 use Rattle.mpslp_canonical_lp.proofs.TextWalk.{IsRow, row_made, listed_declarations}
 
 -- ---- slots in sections of rising rank: if no section fills a slot twice, all together do not
 
 -- ---- the same slot
 
-same_key : (a b : CoefficientKey) → (same_bytes a.row b.row && same_bytes a.column b.column) ≡ true → a ≡ b
-same_key = search (rules, same_name)
-
 pub slot_is : (a b : Slot) → same_slot a b ≡ true → a ≡ b
-slot_is = search (rules, same_name, same_key)
+slot_is = search (rules, same_name)
 
 -- a slot differs from all others
 pub new-from_others : (slot : Slot) (slots : List Slot) → Each (λ later. later ≡ slot → ⊥) slots → IsNew same_slot slot slots
@@ -62,12 +59,10 @@ abbrev pub AreOther : {X : Type 0} → List (List ℕ × X) → Type 0
 AreOther [] = Unit {0}
 AreOther (e ∷ es) = Each (λ later. same_bytes later.0 e.0 ≡ false) es × AreOther es
 
-no_tie : (a b : List ℕ) → is_lt (bytes_cmp a b) ≡ true → same_bytes b a ≡ false
-no_tie = grind (arith, same_name, bytes_total)
-
 above-other : {X : Type 0} (name : List ℕ) (es : List (List ℕ × X)) → below_all bytes_cmp name es ≡ true → Each (λ later. same_bytes later.0 name ≡ false) es
 above-other _ [] h = tt
-above-other name (e ∷ es) h = grind (arith, no_tie, above-other name es (second_so (is_lt (bytes_cmp name e.0)) (below_all bytes_cmp name es) h))
+above-other name (e ∷ es) h =
+    grind (arith, same_name, bytes_total, above-other name es (second_so (is_lt (bytes_cmp name e.0)) (below_all bytes_cmp name es) h))
 
 pub other-from_sorted : {X : Type 0} (es : List (List ℕ × X)) → is_sorted bytes_cmp es ≡ true → AreOther es
 other-from_sorted [] h = tt
@@ -94,9 +89,6 @@ owner (lower_slot name) = Some name
 owner (upper_slot name) = Some name
 owner _ = None
 
-some_name : (a b : List ℕ) → Some a ≡ Some b → same_bytes b a ≡ false → ⊥
-some_name = grind (arith, itself_named)
-
 -- The slots of entries of different names are different, if each has the name of its entry.
 pub owners-apart : {X : Type 0} (f : List ℕ × X → List Slot)
     → ((e : List ℕ × X) → Each (λ slot. owner slot ≡ Some e.0) (f e)) → (es : List (List ℕ × X)) → AreOther es → Apart same_slot f es
@@ -105,7 +97,7 @@ owners-apart {X} f own (e ∷ es) h = (
   Each-weaker (λ slot. owner slot ≡ Some e.0) (λ slot. Each (λ later. IsNew same_slot slot (f later)) es)
       (λ slot is. Each-weaker (λ later. same_bytes later.0 e.0 ≡ false) (λ later. IsNew same_slot slot (f later))
       (λ later other. new-from_others slot (f later) (Each-weaker (λ x. owner x ≡ Some later.0) (λ x. x ≡ slot → ⊥)
-      (λ x its same. some_name e.0 later.0 (sym is ∙ ap owner (sym same) ∙ its) other) (f later) (own later))) es h.0) (f e) (own e),
+      (λ x its same. grind (arith, itself_named)) (f later) (own later))) es h.0) (f e) (own e),
   owners-apart f own es h.1,
 )
 
@@ -278,9 +270,6 @@ objective-section m columns = let cells = all_slots (terms_declared m.objective 
   );
 }
 
-constant-section : (objective : List ℕ) (value : Number) → Section (rank objective) 3 (all_slots (constant_declared value))
-constant-section = grind arith
-
 -- ---- bounds
 
 -- the slots of a column's bounds
@@ -289,14 +278,11 @@ record IsOfColumn (objective column : List ℕ) (slots : List Slot) : Type 0 whe
   pub own : Each (λ slot. owner slot ≡ Some column) slots
   pub ranked : Each (λ slot. rank objective slot ≡ 5) slots
 
-bound-slots : (objective column : List ℕ) (lower upper : Limit) → IsOfColumn objective column (all_slots (bound_made column lower upper))
-bound-slots = grind arith
-
 abbrev bound_slots : List ℕ × Column → List Slot
 bound_slots column = all_slots (column_made column)
 
 slots-of_column : (objective : List ℕ) (column : List ℕ × Column) → IsOfColumn objective column.0 (bound_slots column)
-slots-of_column objective column = bound-slots objective column.0 column.1.lower column.1.upper
+slots-of_column objective column = grind arith
 
 bounds-section : (m : Listing) → AreOther m.columns → Section (rank m.objective) 5 (flat_map bound_slots m.columns)
 bounds-section m columns = record {
@@ -343,7 +329,7 @@ listed-once m columns rows others = let all : Sections (rank m.objective) 0 (sec
     record { once = refl; ranked = (refl, tt) },
     (
       objective-section m columns,
-      (constant-section m.objective m.constant, (rows-section m columns rows others, (bounds-section m columns, tt))),
+      (grind arith, (rows-section m columns rows others, (bounds-section m columns, tt))),
     ),
   ),
 ) in ap (are_distinct same_slot) (sections-fill m) ∙ joined-once (rank m.objective) 0 (sections m) all

@@ -6,11 +6,10 @@ use Prelude.{Declarations, with_declarations, refusals_in_turn, Limit, Finite, E
 use Prelude.{with_section, start, SectionsSeen, AtStart, BetweenRows, InBounds, InRow, fits_left, Relation, AtMost, AtLeast, EqualTo, Lines}
 use Prelude.{Term, under_heading, label_line, term_line, right_line, left_lines, last_line, minus_large, row_terms, row_lines, line_of_some}
 use Prelude.{bound_lexemes, bound_lines, is_integer_column, name_line, objective_section, bounds_section, generals_section, listed_lines}
-use Prelude.{under_semi_heading, is_semi_column, semis_section, LinearModel, IsSound, listing_of, Means, Fault, Outcome, Finished}
-use Prelude.{text_says, text_declares, numbered_lines, first_own_fault, outcome, is_finished, declarations_of, DeclaresLp, canonical_lp}
+use Prelude.{under_semi_heading, is_semi_column, semis_section, LinearModel, IsSound, listing_of, Means, Finished}
+use Prelude.{text_declares, outcome, is_finished, declarations_of, DeclaresLp, canonical_lp}
 use Prelude.{unfit}
 use Rattle.mpslp_decimal.proofs.CutLemmas.{Each-weaker}
-use Rattle.mpslp_lp.specs.LpText.{or_else}
 use Rattle.mpslp_canonical_lp.proofs.LineLemmas.{IsTerm, IsFitColumn, IsFit, line_terminals_in, all_terminals, at, fit-from_sound}
 use Rattle.mpslp_canonical_lp.proofs.{LineLemmas.canonical-terminals, PhraseWalk.{Walks, walks-none, walks-then, point_at, ended_by}}
 use Rattle.mpslp_canonical_lp.proofs.PhraseWalk.{bounds-section-walks, number_after, terminals-append, parts-taken, parts-walk, in_rows}
@@ -19,6 +18,12 @@ use Rattle.mpslp_canonical_lp.proofs.PhraseWalk.{generals-end, ending, semi_made
 use Rattle.mpslp_canonical_lp.proofs.PhraseWalk.{partial, AreNew, begin-walk, row-terms-walk, row-end-walk}
 use Rattle.mpslp_lp_tokens.specs.declared.words.Section.TheVariants as sections
 use Rattle.mpslp_lp_tokens.specs.declared.words.SectionWord.TheVariants as section_words
+use Prelude.{Fault}
+use Prelude.{Outcome}
+use Prelude.{text_says}
+use Prelude.{numbered_lines}
+use Prelude.{first_own_fault}
+use Rattle.mpslp_lp.specs.LpText.{or_else}
 
 -- ---- a row, by what is printed of its limits
 

@@ -3,16 +3,16 @@ use Rattle.mpslp_canonical_lp.proofs.Prelude
 use Prelude.{arith, ◌≡◌, refl, ◌∙◌, ℕ, List, [], ◌∷◌, ◌++◌, true, false, filter, Option, Some, None, if◌then◌else◌, flat_map, second_so}
 use Prelude.{put, Number, is_zero, have_same_value, bytes_cmp, limit_of, Limit, MinusInf, Finite, PlusInf, both_so, or_left, or_right}
 use Prelude.{Column, CoefficientKey, Listing, RowDefinition, declare_constant, declare_row, declare_column, declare_coefficient}
-use Prelude.{bounds_declared, Declarations, Draft, empty_draft, with_declaration, with_declarations, has_name, has_row, has_column, has-put}
-use Prelude.{itself_named, are_known_in_turn, Limits, limits_by, no_limits, AtLeast, EqualTo, Term, row_terms, is_integer_column}
+use Prelude.{bounds_declared, Declarations, Draft, empty_draft, with_declaration, with_declarations, has_name, has_row, has-put}
+use Prelude.{itself_named, are_known_in_turn, limits_by, AtLeast, EqualTo, Term, row_terms, is_integer_column}
 use Prelude.{is_semi_column, is_known, Bool, unwrap_or, list_any, Sense, both_false, Each-weaker, Each-append, Each-flat_map, Each-all}
 use Prelude.{by_limits, Declaration, declare_sense, declare_objective, declare_lower, declare_upper, declare_integer, declare_semi}
-use Prelude.{row_limits, Relation, objective_terms, rules, sym, ap, ◌<◌, not, length, suc, map, is_some, ◌&&◌, ◌||◌, list_all}
-use Prelude.{option_map_or, entries, same_bytes, is_one_of, is_plus_infinite, is_minus_infinite, is_bounded_decimal, are_sides, Kind}
+use Prelude.{row_limits, Relation, objective_terms, rules, sym, ap, ◌<◌, not, length, suc, map, ◌||◌, list_all}
+use Prelude.{option_map_or, entries, same_bytes, is_one_of, is_plus_infinite, is_minus_infinite, is_bounded_decimal, are_sides}
 use Prelude.{so_not, nor, Each-filter, list_all-from_Each, LinearModel, is_sound_row, is_sound_column, IsSound, listing_of, puts}
 use Prelude.{declare_marked, declare_binary, at_name, names_in, is_integer, is_semi, have_infinite_side, refusals_in_turn, is_allowed}
-use Prelude.{has_objective_rhs, has_one_constant, AreConsistent, rhs_part, rhs_values-all, same_name, consistent-from_none}
-use Prelude.{none-from_fine_in_turn, AtMost, is_integer_kind, is_semi_kind, unfit, own-found, row_sides, column_sides, lower_of, upper_of}
+use Prelude.{has_one_constant, AreConsistent, rhs_part, rhs_values-all, same_name, consistent-from_none}
+use Prelude.{none-from_fine_in_turn, AtMost, is_semi_kind, unfit, own-found, row_sides, column_sides, lower_of, upper_of}
 use Prelude.{bounded_finite}
 use Rattle.std.specs.Cmp.Lexicographic.{nat_list_eq_equiv}
 use Rattle.mpslp_types.proofs.EachLemmas.{Each}
@@ -59,47 +59,24 @@ terms-known row (term ∷ terms) context h = let after = with_declaration contex
     let key : CoefficientKey = record { row = row; column = term.0 } in both_so _ _
     (both_so _ _ h (there term.0 tt context.columns)) (terms-known row terms (with_declaration after (declare_coefficient key term.1)) h)
 
-row-known : (name : List ℕ) (form : RowDefinition) (terms : List Term) → AlwaysKnown (declare_row name form ∷ terms_declared name terms)
-row-known = grind (arith, terms-known, or_right, there)
-
 -- ---- the objective
-
-constant-known : (value : Number) → AlwaysKnown (constant_declared value)
-constant-known value context = elim (is_zero value) as (λ b. are_known_in_turn context (if b then [] else declare_constant value ∷ [])
-    ≡ true) [ true ↦ refl | false ↦ refl ]
-
-objective-known : (m : Listing) → AlwaysKnown (objective_made m)
-objective-known = grind (arith, terms_declared, known-append, constant_declared, terms-known, or_left, itself_named, constant-known)
 
 -- ---- bounds
 
-sides-known : (column : List ℕ) (lower upper : Option Limit) (context : Draft)
-    → has_column context column ≡ true → are_known_in_turn context (bounds_declared column lower upper) ≡ true
-sides-known = grind arith
-
-limited-known : (column : List ℕ) (limits : Limits) → AlwaysKnown (column_and column limits)
-limited-known column limits context =
-    sides-known column limits.lower limits.upper (with_declaration context (declare_column column)) (there column tt context.columns)
-
--- a lower bound, and then an upper one
-both-known : (column : List ℕ) (lower upper : Limit) → AlwaysKnown (column_and column (limits_by AtLeast lower) ++ bounds_declared column None (Some upper))
-both-known = grind (arith, known-append, column_and, limited-known, sides-known, there)
-
 bound-known : (column : List ℕ) (lower upper : Limit) → AlwaysKnown (bound_made column lower upper)
-bound-known column MinusInf (Finite b) = both-known column MinusInf (limit_of b)
-bound-known column (Finite a) (Finite b) =
-    λ context. elim (have_same_value a b) as (λ t. are_known_in_turn context (if t then column_and column (limits_by EqualTo
-    (limit_of b)) else column_and column (limits_by AtLeast (limit_of a)) ++ bounds_declared column None (Some (limit_of b))) ≡ true)
-    [ true ↦ limited-known column (limits_by EqualTo (limit_of b)) context | false ↦ both-known column (limit_of a) (limit_of b) context ]
+bound-known column MinusInf (Finite b) = (grind (arith, known-append, column_and, there))
+bound-known column (Finite a) (Finite b) = λ context. elim (have_same_value a b) as (λ t. are_known_in_turn context (if t then column_and
+    column (limits_by EqualTo (limit_of b)) else column_and column (limits_by AtLeast (limit_of a)) ++ bounds_declared column None (Some
+    (limit_of b))) ≡ true) [ true ↦ grind (arith, there) | false ↦ grind (arith, known-append, column_and, there) ]
 bound-known column (Finite a) MinusInf = λ context. elim (is_zero a) as (λ t. are_known_in_turn context (if t then [] else column_and column
-    (limits_by AtLeast (limit_of a))) ≡ true) [ true ↦ refl | false ↦ limited-known column (limits_by AtLeast (limit_of a)) context ]
+    (limits_by AtLeast (limit_of a))) ≡ true) [ true ↦ refl | false ↦ grind (arith, there) ]
 bound-known column (Finite a) PlusInf = λ context. elim (is_zero a) as (λ t. are_known_in_turn context (if t then [] else column_and column
-    (limits_by AtLeast (limit_of a))) ≡ true) [ true ↦ refl | false ↦ limited-known column (limits_by AtLeast (limit_of a)) context ]
-bound-known column MinusInf MinusInf = limited-known column no_limits
-bound-known column MinusInf PlusInf = limited-known column no_limits
-bound-known column PlusInf MinusInf = limited-known column no_limits
-bound-known column PlusInf (Finite b) = limited-known column no_limits
-bound-known column PlusInf PlusInf = limited-known column no_limits
+    (limits_by AtLeast (limit_of a))) ≡ true) [ true ↦ refl | false ↦ grind (arith, there) ]
+bound-known column MinusInf MinusInf = (grind (arith, there))
+bound-known column MinusInf PlusInf = (grind (arith, there))
+bound-known column PlusInf MinusInf = (grind (arith, there))
+bound-known column PlusInf (Finite b) = (grind (arith, there))
+bound-known column PlusInf PlusInf = grind (arith, there)
 
 -- ---- types
 
@@ -116,8 +93,18 @@ pub listed-known : (m : Listing) → are_known_in_turn empty_draft (listed_decla
 listed-known m = let rows = flat_map (row_made m) m.rows in
     let bounds = flat_map column_made m.columns in let generals = flat_map general_made (filter is_integer_column m.columns) in
     let semis = flat_map semi_made (filter is_semi_column m.columns) in always-append (objective_made m)
-    (rows ++ (bounds ++ (generals ++ semis))) (objective-known m) (always-append rows (bounds ++ (generals ++ semis)) (always-flat
-    (row_made m) (λ row. row-known row.0 _ (row_terms m row.0)) m.rows) (always-append bounds (generals ++ semis) (always-flat column_made
+    (rows ++ (bounds ++ (generals ++ semis))) (grind (
+      arith,
+      terms_declared,
+      known-append,
+      constant_declared,
+      terms-known,
+      or_left,
+      itself_named,
+      are_known_in_turn,
+    )) (always-append rows (bounds ++ (generals ++ semis)) (always-flat
+    (row_made m) (λ row. grind (arith, terms-known, or_right, there)) m.rows) (always-append bounds (generals ++ semis) (always-flat
+    column_made
     (λ column. bound-known column.0 column.1.lower column.1.upper) m.columns) (always-append generals semis (always-flat general_made
     general-known (filter is_integer_column m.columns)) (always-flat semi_made semi-known (filter is_semi_column m.columns))))) empty_draft
 
@@ -147,8 +134,7 @@ module _ (P : Declaration → Type 0) where
   each-term : ((name : List ℕ) → P (declare_column name)) → ((key : CoefficientKey) (value : Number) → P (declare_coefficient key value))
       → (row : List ℕ) (terms : List Term) → Each P (terms_declared row terms)
   each-term _ _ _ [] = tt
-  each-term column coefficient row (term ∷ terms) =
-      (column term.0, (coefficient (record { row = row; column = term.0 }) term.1, each-term column coefficient row terms))
+  each-term column coefficient row (term ∷ terms) = grind (arith, each-term column coefficient row terms)
 
   each-constant : ((value : Number) → P (declare_constant value)) → (value : Number) → Each P (constant_declared value)
   each-constant h value = elim (is_zero value) as (λ b. Each P (if b then [] else declare_constant value ∷ [])) [ true ↦ tt | false ↦ (h value, tt) ]
@@ -174,11 +160,6 @@ module _ (P : Declaration → Type 0) where
       (Each-flat_map P semi_made (filter is_semi_column m.columns) (Each-weaker (λ column. P (declare_semi column.0))
       (λ column. Each P (semi_made column)) (λ column c. (h.column column.0, (c, tt))) (filter is_semi_column m.columns) h.semis)))))
 
-  -- for the declarations of the bounds of a column, whatever the bounds are
-  pub each-bound : (name : List ℕ) → P (declare_column name) → ((limit : Limit) → P (declare_lower name limit))
-      → ((limit : Limit) → P (declare_upper name limit)) → (lower upper : Limit) → Each P (bound_made name lower upper)
-  each-bound = grind arith
-
   -- for any row, any bound and any type
   pub each-of_kind : (m : Listing) → ((sense : Sense) → P (declare_sense sense)) → ((name : List ℕ) → P (declare_objective name))
       → ((value : Number) → P (declare_constant value)) → ((name : List ℕ) → P (declare_column name)) → ((key : CoefficientKey)
@@ -193,7 +174,7 @@ module _ (P : Declaration → Type 0) where
     column = column;
     coefficient = coefficient;
     rows = Each-all (λ r. P (declare_row r.0 (form_made r.1.lower r.1.upper))) (λ r. row r.0 (form_made r.1.lower r.1.upper)) m.rows;
-    bounds = Each-all (λ c. Each P (column_made c)) (λ c. each-bound c.0 (column c.0) (lower c.0) (upper c.0) c.1.lower c.1.upper) m.columns;
+    bounds = Each-all (λ c. Each P (column_made c)) (λ c. grind arith) m.columns;
     generals = generals;
     semis = semis;
   })
@@ -246,19 +227,13 @@ bound-allowed all name _ _ h = cc
 
 -- ---- types
 
-or_in : (a b c : Bool) → (b || (a || c)) ≡ ((a || b) || c)
-or_in = grind arith
-
 abbrev says_semi : List ℕ → Declaration → Bool
 says_semi q (declare_semi column) = same_bytes q column
 says_semi q _ = false
 
-semi-one : (all : Draft) (d : Declaration) (q : List ℕ) → is_semi (with_declaration all d) q ≡ (says_semi q d || is_semi all q)
-semi-one = grind (arith, has-put)
-
 semis-said : (ds : Declarations) (all : Draft) (q : List ℕ) → is_semi (with_declarations all ds) q ≡ (list_any (says_semi q) ds || is_semi all q)
 semis-said [] _ q = refl
-semis-said (d ∷ ds) all q = grind (arith, semi-one, or_in, semis-said ds (with_declaration all d) q)
+semis-said (d ∷ ds) all q = grind (arith, has-put, semis-said ds (with_declaration all d) q)
 
 abbrev says_integer : List ℕ → Declaration → Bool
 says_integer q (declare_marked column) = same_bytes q column
@@ -266,21 +241,9 @@ says_integer q (declare_integer column) = same_bytes q column
 says_integer q (declare_binary column) = same_bytes q column
 says_integer q _ = false
 
-in_first : (s a b c : Bool) → ((s || a) || (b || c)) ≡ (s || (a || (b || c)))
-in_first = grind arith
-
-in_second : (s a b c : Bool) → (a || ((s || b) || c)) ≡ (s || (a || (b || c)))
-in_second = grind arith
-
-in_third : (s a b c : Bool) → (a || (b || (s || c))) ≡ (s || (a || (b || c)))
-in_third = grind arith
-
-integer-one : (all : Draft) (d : Declaration) (q : List ℕ) → is_integer (with_declaration all d) q ≡ (says_integer q d || is_integer all q)
-integer-one = grind (arith, has-put, in_first, in_second, in_third)
-
 integers-said : (ds : Declarations) (all : Draft) (q : List ℕ) → is_integer (with_declarations all ds) q ≡ (list_any (says_integer q) ds || is_integer all q)
 integers-said [] _ q = refl
-integers-said (d ∷ ds) all q = grind (arith, integer-one, or_in, integers-said ds (with_declaration all d) q)
+integers-said (d ∷ ds) all q = grind (arith, has-put, integers-said ds (with_declaration all d) q)
 
 -- ---- a name has one column, of one type
 
@@ -290,12 +253,9 @@ IsFound m column = at_name m.columns column.0 ≡ Some column.1
 abbrev found_semi : Option Column → Bool
 found_semi o = option_map_or (λ (column : Column). is_semi_kind column.kind) o false
 
-one_kind : (kind : Kind) → is_integer_kind kind ≡ true → is_semi_kind kind ≡ false
-one_kind = grind arith
-
 kinds-apart : (m : Listing) (x y : List ℕ × Column) → IsFound m x
     → is_integer_column x ≡ true → IsFound m y → is_semi_column y ≡ true → (same_bytes x.0 y.0 ≡ false) × (same_bytes y.0 x.0 ≡ false)
-kinds-apart = search (rules, one_kind, same_name)
+kinds-apart = search (rules, same_name)
 
 -- each integer column differs from each semi-continuous one
 abbrev Apart : List ℕ × Column → List ℕ × Column → Type 0
@@ -334,12 +294,6 @@ module _ (m : Listing) (own : Each (IsFound m) m.columns) where
 
 -- ---- the constant
 
-no_rhs : (o : Option (List ℕ)) → option_map_or (λ name. has_name {X = Number} [] name) o false ≡ false
-no_rhs = grind arith
-
-not_both : (a b : Bool) → b ≡ false → not (a && b) ≡ true
-not_both = grind arith
-
 one-constant : (m : Listing) → has_one_constant (drafted m) ≡ true
 one-constant m =
     let none : flat_map rhs_part (listed_declarations m) ≡ [] = flat-none rhs_part (listed_declarations m)
@@ -347,8 +301,7 @@ one-constant m =
     (λ _ _. refl) (λ _ _. refl) (Each-all (λ c. rhs_part (declare_integer c.0) ≡ []) (λ _. refl) (filter is_integer_column m.columns))
     (Each-all (λ c. rhs_part (declare_semi c.0) ≡ []) (λ _. refl) (filter is_semi_column m.columns))) in
     let empty : (drafted m).rhs_values ≡ [] = rhs_values-all (listed_declarations m) empty_draft ∙ ap (λ (es : List (List ℕ × Number)). puts
-    bytes_cmp es []) none in not_both (is_some (drafted m).constant) (has_objective_rhs (drafted m)) (ap (λ (es : List (List ℕ × Number)).
-    option_map_or (λ name. has_name es name) (drafted m).objective false) empty ∙ no_rhs (drafted m).objective)
+    bytes_cmp es []) none in grind arith
 
 -- ---- the listing of a well-formed model
 

@@ -1,24 +1,25 @@
 -- The declarations of the canonical text of a listing, and the draft that they make, map by map.
 use Rattle.mpslp_canonical_mps.proofs.Prelude
-use Prelude.{arith, ◌≡◌, refl, ap, ◌∙◌, List, [], ◌∷◌, ◌++◌, ℕ, true, false, append-nil, flat_map-append, flat_map, Declaration}
-use Prelude.{declare_sense, declare_objective, declare_lower, declare_upper, declare_semi, Declarations, flat_map-flat_map, Sense, Limit}
-use Prelude.{Each, Each-append, Each-flat_map, cond, map, Option, Some, None, filter, Number, is_zero, negated, have_same_value, Row}
-use Prelude.{Column, CoefficientKey, Listing, RowDefinition, by_type, declare_row, declare_rhs, declare_range, lower_stated, upper_stated}
-use Prelude.{row_part, rhs_part, range_part, column_part, coefficient_part, lower_part, upper_part, marked_part, binary_part, semi_part}
-use Prelude.{stated, all_stated, flat-none, flat-same, Kind, Continuous, Integer, Semi, MinusInf, Finite, PlusInf, printed_type}
-use Prelude.{printed_rhs, printed_range, PrintedBound, printed_upper, printed_bounds, is_integer_column, is_plain_column, sym, Bool, not}
-use Prelude.{append_assoc, is_some, ◌&&◌, is_sorted, IsDecimal, is_decimal, is_mps_name, is_one_of, bytes_cmp, Each-all, T_from, key_cmp}
-use Prelude.{suits, is_sound_row, is_sound_column, has_integer_kind, puts, puts-append, find-front, Draft, draft_of, empty_draft, at_name}
-use Prelude.{has_name, names_in, is_semi_kind, parted-give, rows-all, rhs_values-all, ranges-all, columns-all, lowers-all, uppers-all}
-use Prelude.{marked-all, integers-all, binaries-all, semis-all, bytes_total, tied_names, names_sorted, at-mapped, named, first_there}
-use Prelude.{then_stated, sorted-kept, find-puts, puts-own, find-kept, sorted-stated, find-stated, filter-not_not, printed_coefficients}
-use Prelude.{entries_sorted, true_from, Each-from_list_all, LinearModel, IsSound, listing_of, filter_map, ◌||◌, cons_option, option_map}
-use Prelude.{first_so, second_so, find, same_bytes, some_cons, some_append_left, some_append_right, coefficients-all, same_key, value_in}
-use Prelude.{same_name, key_total, any-name, puts-kept, found-each, found-either, cell_at, column_coefficients}
+use Prelude.{Bool, CoefficientKey, Column, Continuous, Declaration, Declarations, Draft, Each, Each-all, Each-append, Each-flat_map}
+use Prelude.{Each-from_list_all, Finite, Integer, IsDecimal, IsSound, Kind, Limit, LinearModel, List, Listing, MinusInf, None, Number}
+use Prelude.{Option, PlusInf, PrintedBound, Row, RowDefinition, Semi, Sense, Some, T_from, [], all_stated, any-name, ap, append-nil}
+use Prelude.{append_assoc, arith, at-mapped, at_name, binaries-all, binary_part, by_type, bytes_cmp, bytes_total, cell_at, coefficient_part}
+use Prelude.{coefficients-all, column_coefficients, column_part, columns-all, cond, cons_option, declare_lower, declare_objective}
+use Prelude.{declare_range, declare_rhs, declare_row, declare_semi, declare_sense, declare_upper, draft_of, empty_draft, entries_sorted}
+use Prelude.{false, filter, filter-not_not, filter_map, find, find-front, find-kept, find-puts, find-stated, first_so, first_there}
+use Prelude.{flat-none, flat-same, flat_map, flat_map-append, flat_map-flat_map, found-each, found-either, has_integer_kind, has_name}
+use Prelude.{have_same_value, integers-all, is_decimal, is_integer_column, is_mps_name, is_one_of, is_plain_column, is_semi_kind, is_some}
+use Prelude.{is_sorted, is_sound_column, is_sound_row, is_zero, key_cmp, key_total, listing_of, lower_part, lower_stated, lowers-all, map}
+use Prelude.{marked-all, marked_part, named, names_in, names_sorted, negated, not, option_map, parted-give, printed_bounds}
+use Prelude.{printed_coefficients, printed_range, printed_rhs, printed_type, puts, puts-append, puts-kept, puts-own, range_part, ranges-all}
+use Prelude.{refl, rhs_part, rhs_values-all, row_part, rows-all, same_bytes, same_key, same_name, second_so, semi_part, semis-all}
+use Prelude.{some_append_left, some_append_right, some_cons, sorted-kept, sorted-stated, stated, suits, sym, then_stated, tied_names, true}
+use Prelude.{true_from, upper_part, upper_stated, uppers-all, value_in, ℕ, ◌&&◌, ◌++◌, ◌||◌, ◌∙◌, ◌∷◌, ◌≡◌}
 use Rattle.mpslp_builder.proofs.DraftEntries.{integer_part}
-use Rattle.mpslp_canonical_mps.proofs.WholeWalk.{to_row, cells_in, group_in, to_side, side_unless_zero, row_side, sides_in, row_range}
-use Rattle.mpslp_canonical_mps.proofs.{WholeWalk.{to_bound, bounds_in, sense_decl, whole_of, Whole, whole_decl, to_cell}, SectionWalks.Cell}
-use Rattle.mpslp_canonical_mps.proofs.SectionWalks.{cell_decl, cells_of, Bound, bound_decl, RowItem, row_decl, Side, side_decl, range_decl}
+use Rattle.mpslp_canonical_mps.proofs.SectionWalks.{Bound, Cell, RowItem, Side, bound_decl, cell_decl, cells_of, range_decl, row_decl}
+use Rattle.mpslp_canonical_mps.proofs.{SectionWalks.side_decl, WholeWalk.{Whole, bounds_in, cells_in, group_in, row_range, row_side}}
+use Rattle.mpslp_canonical_mps.proofs.WholeWalk.{sense_decl, side_unless_zero, sides_in, to_bound, to_cell, to_row, to_side, whole_decl}
+use Rattle.mpslp_canonical_mps.proofs.WholeWalk.{whole_of}
 
 -- ---- the declarations of canonical text, section by section: their properties, and what they put into a map. What the
 -- declarations of a listing's canonical text put into each map
@@ -40,9 +41,11 @@ each-whole P w h = let rows = flat_map row_decl w.rows in let plain = flat_map (
     let integers = flat_map (cell_decl true) (cells_of w.integers) in let sides = flat_map side_decl w.late.sides in
     let ranges = flat_map range_decl w.late.ranges in let bounds = flat_map bound_decl w.late.bounds in Each-append P _ _ h.sense
     (Each-append P (declare_objective w.objective ∷ rows) ((plain ++ integers) ++ (sides ++ (ranges ++ (bounds ++ []))))
-    (h.objective, Each-flat_map P row_decl w.rows h.rows) (Each-append P _ _ (Each-append P plain integers (Each-flat_map P (cell_decl false) _ h.plain)
+    (h.objective, Each-flat_map P row_decl w.rows h.rows)
+    (Each-append P _ _ (Each-append P plain integers (Each-flat_map P (cell_decl false) _ h.plain)
     (Each-flat_map P (cell_decl true) _ h.integers)) (Each-append P sides _ (Each-flat_map P side_decl w.late.sides h.sides) (Each-append P
-    ranges _ (Each-flat_map P range_decl w.late.ranges h.ranges) (Each-append P bounds [] (Each-flat_map P bound_decl w.late.bounds h.bounds) tt)))))
+    ranges _ (Each-flat_map P range_decl w.late.ranges h.ranges)
+    (Each-append P bounds [] (Each-flat_map P bound_decl w.late.bounds h.bounds) tt)))))
 
 -- ---- what declarations put into a map
 
@@ -51,9 +54,11 @@ abbrev pub made_of : {X Y : Type 0} → (Declaration → List Y) → (X → Decl
 made_of part decl x = flat_map part (decl x)
 
 abbrev pub section_parts : {Y : Type 0} → (Declaration → List Y) → Whole → List Y
-section_parts part w = flat_map part (sense_decl w.sense) ++ ((part (declare_objective w.objective) ++ flat_map (made_of part row_decl) w.rows)
+section_parts part w = flat_map part (sense_decl w.sense)
+    ++ ((part (declare_objective w.objective) ++ flat_map (made_of part row_decl) w.rows)
     ++ ((flat_map (made_of part (cell_decl false)) (cells_of w.plain) ++ flat_map (made_of part (cell_decl true)) (cells_of w.integers))
-    ++ (flat_map (made_of part side_decl) w.late.sides ++ (flat_map (made_of part range_decl) w.late.ranges ++ flat_map (made_of part bound_decl) w.late.bounds))))
+    ++ (flat_map (made_of part side_decl) w.late.sides
+    ++ (flat_map (made_of part range_decl) w.late.ranges ++ flat_map (made_of part bound_decl) w.late.bounds))))
 
 follow : {Y : Type 0} (part : Declaration → List Y) (xs ys : Declarations) (us vs : List Y) → flat_map part xs ≡ us → flat_map part ys ≡ vs
     → flat_map part (xs ++ ys) ≡ us ++ vs
@@ -82,15 +87,16 @@ pub bound-none : {Y : Type 0} (part : Declaration → List Y) → ((x : List ℕ
 bound-none = grind arith
 
 -- the parts of all sections, one by one
-pub record SectionParts {Y : Type 0} (part : Declaration → List Y) (w : Whole) (rows plain integers sides ranges bounds : List Y) : Type 0 where
-  pub of_sense : flat_map part (sense_decl w.sense) ≡ []
-  pub of_objective : part (declare_objective w.objective) ≡ []
-  pub of_rows : flat_map (made_of part row_decl) w.rows ≡ rows
-  pub of_plain : flat_map (made_of part (cell_decl false)) (cells_of w.plain) ≡ plain
-  pub of_integers : flat_map (made_of part (cell_decl true)) (cells_of w.integers) ≡ integers
-  pub of_sides : flat_map (made_of part side_decl) w.late.sides ≡ sides
-  pub of_ranges : flat_map (made_of part range_decl) w.late.ranges ≡ ranges
-  pub of_bounds : flat_map (made_of part bound_decl) w.late.bounds ≡ bounds
+pub record SectionParts {Y : Type 0} (part : Declaration → List Y) (w : Whole) (rows plain integers sides ranges bounds : List Y) : Type 0
+  where
+    pub of_sense : flat_map part (sense_decl w.sense) ≡ []
+    pub of_objective : part (declare_objective w.objective) ≡ []
+    pub of_rows : flat_map (made_of part row_decl) w.rows ≡ rows
+    pub of_plain : flat_map (made_of part (cell_decl false)) (cells_of w.plain) ≡ plain
+    pub of_integers : flat_map (made_of part (cell_decl true)) (cells_of w.integers) ≡ integers
+    pub of_sides : flat_map (made_of part side_decl) w.late.sides ≡ sides
+    pub of_ranges : flat_map (made_of part range_decl) w.late.ranges ≡ ranges
+    pub of_bounds : flat_map (made_of part bound_decl) w.late.bounds ≡ bounds
 
 pub joined-parts : {Y : Type 0} (part : Declaration → List Y) (w : Whole) (rows plain integers sides ranges bounds : List Y)
     → SectionParts part w rows plain integers sides ranges bounds
@@ -155,12 +161,9 @@ pub cells-made : {Y : Type 0} (f : Cell → List Y) (m : Listing) (columns : Lis
 cells-made f m [] = refl
 cells-made f m (column ∷ columns) = flat_map-append f _ _ ∙ ap (λ more. flat_map f (cells_in m column) ++ more) (cells-made f m columns)
 
-side-made : (row : List ℕ) (value : Number) → flat_map own_side (side_unless_zero row value) ≡ stated row (value_stated value)
-side-made = grind arith
-
 pub sides-made : (m : Listing)
     → flat_map own_side (sides_in m) ≡ stated m.objective (value_stated (negated m.constant)) ++ all_stated side_stated m.rows
-sides-made = grind (arith, flat_map-append, side_unless_zero, row_side, side-made, flat_map-flat_map, flat-same, stated)
+sides-made = grind (arith, flat_map-append, side_unless_zero, row_side, flat_map-flat_map, flat-same, stated)
 
 pub ranges-made : (rows : List (List ℕ × Row)) → flat_map own_side (flat_map row_range rows) ≡ all_stated range_stated rows
 ranges-made = grind (arith, flat_map-flat_map, row_range, flat-same, stated, to_side)
@@ -177,30 +180,9 @@ pub lower-made : (name : List ℕ) (kind : Kind) (l u : Limit)
     → lowers_made name (printed_bounds kind l u) ≡ stated name (lower_stated kind l u have_same_value)
 lower-made = grind arith
 
-pub upper-made : (name : List ℕ) (kind : Kind) (l u : Limit) → uppers_made name (printed_bounds kind l u) ≡ stated name (upper_stated kind l u)
+pub upper-made : (name : List ℕ) (kind : Kind) (l u : Limit)
+    → uppers_made name (printed_bounds kind l u) ≡ stated name (upper_stated kind l u)
 upper-made = grind arith
-
--- ---- semi-continuous columns, by the type of their upper bounds
-
-abbrev semis_made : List ℕ → List PrintedBound → List (List ℕ × Unit {0})
-semis_made name bounds = flat_map (made_of semi_part bound_decl) (map (to_bound name) bounds)
-
-one-semi : (name : List ℕ) (kind : Kind) (b : Number) → semis_made name (printed_upper kind (Finite b)) ≡ stated name (semi_stated kind (Finite b))
-one-semi = grind arith
-
-pub semi-made : (name : List ℕ) (kind : Kind) (l u : Limit) → semis_made name (printed_bounds kind l u) ≡ stated name (semi_stated kind u)
-semi-made = grind arith
-
-all-lowers : (columns : List (List ℕ × Column))
-    → flat_map (made_of lower_part bound_decl) (flat_map bounds_in columns) ≡ all_stated column_lower columns
-all-lowers = grind (arith, flat_map-flat_map, made_of, lower_part, bound_decl, bounds_in, flat-same, stated, lower-made)
-
-all-uppers : (columns : List (List ℕ × Column))
-    → flat_map (made_of upper_part bound_decl) (flat_map bounds_in columns) ≡ all_stated column_upper columns
-all-uppers = grind (arith, flat_map-flat_map, made_of, upper_part, bound_decl, bounds_in, flat-same, stated, upper-made)
-
-all-semis : (columns : List (List ℕ × Column)) → flat_map (made_of semi_part bound_decl) (flat_map bounds_in columns) ≡ all_stated column_semi columns
-all-semis = grind (arith, flat_map-flat_map, made_of, semi_part, bound_decl, bounds_in, flat-same, stated, semi-made)
 
 -- ---- each map
 
@@ -331,14 +313,15 @@ bounds-part part stated_of sense objective rows p q sides ranges m h =
 
 pub lowers-part : (m : Listing) → flat_map lower_part (listed_decl m) ≡ all_stated column_lower m.columns
 lowers-part m = bounds-part lower_part column_lower (λ _. refl) (λ _. refl) (λ _ _. refl) (λ _. refl) (λ _. refl) (λ _. refl) (λ _. refl) m
-    (all-lowers m.columns)
+    (grind (arith, flat_map-flat_map, made_of, lower_part, bound_decl, bounds_in, flat-same, stated, lower-made))
 
 pub uppers-part : (m : Listing) → flat_map upper_part (listed_decl m) ≡ all_stated column_upper m.columns
 uppers-part m = bounds-part upper_part column_upper (λ _. refl) (λ _. refl) (λ _ _. refl) (λ _. refl) (λ _. refl) (λ _. refl) (λ _. refl) m
-    (all-uppers m.columns)
+    (grind (arith, flat_map-flat_map, made_of, upper_part, bound_decl, bounds_in, flat-same, stated, upper-made))
 
 pub semis-part : (m : Listing) → flat_map semi_part (listed_decl m) ≡ all_stated column_semi m.columns
-semis-part m = bounds-part semi_part column_semi (λ _. refl) (λ _. refl) (λ _ _. refl) (λ _. refl) (λ _. refl) (λ _. refl) (λ _. refl) m (all-semis m.columns)
+semis-part m = bounds-part semi_part column_semi (λ _. refl) (λ _. refl) (λ _ _. refl) (λ _. refl) (λ _. refl) (λ _. refl) (λ _. refl) m
+    (grind (arith, flat_map-flat_map, made_of, semi_part, bound_decl, bounds_in, flat-same, stated))
 
 -- ---- the draft of the canonical declarations of a well-formed listing, map by map. What the well-formedness of a
 -- model implies for its listing
@@ -364,8 +347,6 @@ pub record IsSoundListing (m : Listing) : Type 0 where
 abbrev pub drafted : Listing → Draft
 drafted m = draft_of (listed_decl m)
 
--- ---- small facts on entries
-
 -- ---- rows
 
 pub rows-drafted : (m : Listing) → IsSoundListing m → (drafted m).rows ≡ row_forms m.rows
@@ -376,43 +357,103 @@ pub row-at : (m : Listing) → IsSoundListing m → (q : List ℕ)
     → at_name (drafted m).rows q ≡ then_stated (λ row. Some (form_stated row)) (at_name m.rows q)
 row-at m h q = ap (λ es. at_name es q) (rows-drafted m h) ∙ at-mapped form_stated q m.rows
 
-puts-stated : (q : List ℕ) (o : Option Number) → puts bytes_cmp (stated q o) [] ≡ stated q o
-puts-stated = grind arith
-
 pub right_side-at : (m : Listing) → IsSoundListing m → (q : List ℕ) → at_name (drafted m).rhs_values q
     ≡ first_there (then_stated side_stated (at_name m.rows q)) (at_name (stated m.objective (value_stated (negated m.constant))) q)
-right_side-at = grind (arith, stated, value_stated, all_stated, side_stated, rhs_values-all, listed_decl, puts, rhs_values-part, puts-append, puts-stated, find-puts, bytes_total, tied_names, sorted-stated, first_there, find-stated)
+right_side-at = grind (
+  arith,
+  stated,
+  value_stated,
+  all_stated,
+  side_stated,
+  rhs_values-all,
+  listed_decl,
+  puts,
+  rhs_values-part,
+  puts-append,
+  find-puts,
+  bytes_total,
+  tied_names,
+  sorted-stated,
+  first_there,
+  find-stated,
+)
 
 pub range-at : (m : Listing) → IsSoundListing m → (q : List ℕ) → at_name (drafted m).ranges q ≡ then_stated range_stated (at_name m.rows q)
-range-at = grind (arith, ranges-all, listed_decl, puts, ranges-part, puts-own, bytes_total, tied_names, all_stated, range_stated, sorted-stated, find-stated)
+range-at = grind (
+  arith,
+  ranges-all,
+  listed_decl,
+  puts,
+  ranges-part,
+  puts-own,
+  bytes_total,
+  tied_names,
+  all_stated,
+  range_stated,
+  sorted-stated,
+  find-stated,
+)
 
 -- ---- columns
 
-pub lower-at : (m : Listing) → IsSoundListing m → (q : List ℕ) → at_name (drafted m).lowers q ≡ then_stated column_lower (at_name m.columns q)
-lower-at = grind (arith, lowers-all, listed_decl, puts, lowers-part, puts-own, bytes_total, tied_names, all_stated, column_lower, sorted-stated, find-stated)
+pub lower-at : (m : Listing) → IsSoundListing m → (q : List ℕ)
+    → at_name (drafted m).lowers q ≡ then_stated column_lower (at_name m.columns q)
+lower-at = grind (
+  arith,
+  lowers-all,
+  listed_decl,
+  puts,
+  lowers-part,
+  puts-own,
+  bytes_total,
+  tied_names,
+  all_stated,
+  column_lower,
+  sorted-stated,
+  find-stated,
+)
 
-pub upper-at : (m : Listing) → IsSoundListing m → (q : List ℕ) → at_name (drafted m).uppers q ≡ then_stated column_upper (at_name m.columns q)
-upper-at = grind (arith, uppers-all, listed_decl, puts, uppers-part, puts-own, bytes_total, tied_names, all_stated, column_upper, sorted-stated, find-stated)
+pub upper-at : (m : Listing) → IsSoundListing m → (q : List ℕ)
+    → at_name (drafted m).uppers q ≡ then_stated column_upper (at_name m.columns q)
+upper-at = grind (
+  arith,
+  uppers-all,
+  listed_decl,
+  puts,
+  uppers-part,
+  puts-own,
+  bytes_total,
+  tied_names,
+  all_stated,
+  column_upper,
+  sorted-stated,
+  find-stated,
+)
 
 semi-at : (m : Listing) → IsSoundListing m → (q : List ℕ) → at_name (drafted m).semis q ≡ then_stated column_semi (at_name m.columns q)
-semi-at = grind (arith, semis-all, listed_decl, puts, semis-part, puts-own, bytes_total, tied_names, all_stated, column_semi, sorted-stated, find-stated)
-
--- a semi-continuous column of a well-formed listing has a finite upper bound, whose line declares its type
-semi-suited : (kind : Kind) (l u : Limit) → suits kind l u ≡ true → is_some (semi_stated kind u) ≡ is_semi_kind kind
-semi-suited = grind arith
+semi-at = grind (
+  arith,
+  semis-all,
+  listed_decl,
+  puts,
+  semis-part,
+  puts-own,
+  bytes_total,
+  tied_names,
+  all_stated,
+  column_semi,
+  sorted-stated,
+  find-stated,
+)
 
 pub semis-at : (m : Listing) → IsSoundListing m → (q : List ℕ) (column : Column) → suits column.kind column.lower column.upper ≡ true
     → at_name m.columns q ≡ Some column → has_name (drafted m).semis q ≡ is_semi_kind column.kind
-semis-at = grind (arith, semi-at, then_stated, column_semi, semi-suited)
+semis-at = grind (arith, semi-at, then_stated, column_semi)
 
 -- each cell of a column names it, and there is at least one
 own-all : (name : List ℕ) (cells : List (List ℕ × Number)) → Each (λ e. e ≡ (name, tt)) (flat_map own_column (map (to_cell name) cells))
 own-all name [] = tt
 own-all name (cell ∷ cells) = (refl, own-all name cells)
-
-own-some : (name objective : List ℕ) (cells : List (List ℕ × Number))
-    → is_some (at_name (flat_map own_column (map (to_cell name) (printed_coefficients objective cells))) name) ≡ true
-own-some = grind (arith, find-front, bytes_total, tied_names, own_column, to_cell)
 
 abbrev names_of_cells : Listing → List ℕ × Column → List (List ℕ × Unit {0})
 names_of_cells m column = flat_map own_column (cells_in m column)
@@ -420,8 +461,10 @@ names_of_cells m column = flat_map own_column (cells_in m column)
 pub columns-parted : (m : Listing) (p : List ℕ × Column → Bool) (columns : List (List ℕ × Column)) → is_sorted bytes_cmp columns ≡ true
     → puts bytes_cmp (from_cells own_column m (filter p columns) ++ from_cells own_column m (filter (λ column. not (p column)) columns)) []
     ≡ map named columns
-columns-parted m p columns h = parted-give bytes_cmp bytes_total tied_names named (names_of_cells m) p columns (T_from _ (names_sorted _ columns h))
-    (Each-all _ (λ column. own-some column.0 m.objective _) columns) (Each-all _ (λ column. own-all column.0 _) columns)
+columns-parted m p columns h = parted-give bytes_cmp bytes_total tied_names named (names_of_cells m) p columns
+    (T_from _ (names_sorted _ columns h))
+    (Each-all _ (λ column. (grind (arith, find-front, bytes_total, tied_names, own_column, to_cell))) columns)
+    (Each-all _ (λ column. own-all column.0 _) columns)
 
 pub columns-drafted : (m : Listing) → IsSoundListing m → (drafted m).columns ≡ map named m.columns
 columns-drafted m h = columns-all (listed_decl m) empty_draft ∙ ap (λ es. puts bytes_cmp es [])
@@ -442,7 +485,8 @@ marked-drafted m h = let integers = filter is_integer_column m.columns in marked
     ∙ sym (λ i. from_cells own_column m (filter-all integers i) ++ from_cells own_column m (filter-no integers i)))
     ∙ columns-parted m (λ _. true) integers (sorted-kept bytes_cmp is_integer_column m.columns h.columns_sorted)
 
-one-part : {X Y : Type 0} (f : X → List Y) (xs : List X) → flat_map f xs ≡ flat_map f (filter (λ _. true) xs) ++ flat_map f (filter (λ _. not true) xs)
+one-part : {X Y : Type 0} (f : X → List Y) (xs : List X)
+    → flat_map f xs ≡ flat_map f (filter (λ _. true) xs) ++ flat_map f (filter (λ _. not true) xs)
 one-part f [] = refl
 one-part f (x ∷ xs) = ap (λ ys. f x ++ ys) (one-part f xs)
     ∙ sym (append_assoc (f x) (flat_map f (filter (λ _. true) xs)) (flat_map f (filter (λ _. not true) xs)))
@@ -503,14 +547,6 @@ cells-true : (coefficients : List (CoefficientKey × Number)) (column : List ℕ
 cells-true coefficients column kept [] = tt
 cells-true coefficients column kept (row ∷ rows) = grind (arith, cells-true coefficients column kept rows)
 
-none-first : (row : List ℕ) (o : Option Number) (cells : List (List ℕ × Number))
-    → cons_option (option_map (λ (value : Number). (row, value)) o) cells ≡ [] → o ≡ None
-none-first = grind arith
-
-line_text-true : (m : Listing) (column : List ℕ) → AllKept m.coefficients
-    → Each (IsTrueCell m.coefficients column) (printed_coefficients m.objective (column_coefficients m column))
-line_text-true = grind (arith, cells-true, none-first)
-
 -- as entries
 abbrev IsTrueEntry : List (CoefficientKey × Number) → CoefficientKey × Number → Type 0
 IsTrueEntry coefficients entry = find key_cmp entry.0 coefficients ≡ cond (is_kept entry.1) (Some entry.1) None
@@ -523,7 +559,7 @@ entries-true coefficients column (cell ∷ cells) h = (h.0, entries-true coeffic
 columns-true : (m : Listing) → AllKept m.coefficients → (columns : List (List ℕ × Column))
     → Each (IsTrueEntry m.coefficients) (from_cells own_coefficient m columns)
 columns-true m kept columns = Each-flat_map _ _ columns (Each-all _ (λ column. entries-true m.coefficients column.0
-    (printed_coefficients m.objective (column_coefficients m column.0)) (line_text-true m column.0 kept)) columns)
+    (printed_coefficients m.objective (column_coefficients m column.0)) (grind (arith, cells-true, kept))) columns)
 
 -- ---- each coefficient is printed
 
@@ -544,17 +580,15 @@ row-hit coefficients row column value is (x ∷ rows) h = by (same_bytes row x) 
         coefficients ≡ o → (is_one_of rows row ≡ true → SomeAt (place_at row column) (flat_map own_coefficient
         (map (to_cell column) (filter_map (cell_at coefficients column) rows)))) → SomeAt (place_at row column) (flat_map own_coefficient
         (map (to_cell column) (cons_option (option_map (λ (d : Number). (x, d)) o) (filter_map (cell_at coefficients column) rows))))
-    by true e k None at more = absurd (nothing (sym at ∙ ap (λ n. find key_cmp (place_at n column) coefficients) (sym (same_name row x e)) ∙ is))
-    by true e k (Some d) at more = let rest = flat_map own_coefficient (map (to_cell column) (filter_map (cell_at coefficients column) rows)) in
+    by true e k None at more =
+        absurd (nothing (sym at ∙ ap (λ n. find key_cmp (place_at n column) coefficients) (sym (same_name row x e)) ∙ is))
+    by true e k (Some d) at more = let rest =
+        flat_map own_coefficient (map (to_cell column) (filter_map (cell_at coefficients column) rows)) in
         ap (λ n. is_some (find key_cmp (place_at n column) ((place_at x column, d) ∷ rest))) (same_name row x e)
         ∙ find-front key_cmp key_total same_key (place_at x column) d rest
     by false e k None at more = more k
     by false e k (Some d) at more = some_cons key_cmp key_total same_key _ (place_at x column) d
         (flat_map own_coefficient (map (to_cell column) (filter_map (cell_at coefficients column) rows))) (more k)
-
-line_text-hit : (key : CoefficientKey) (column objective : List ℕ) (cells : List (List ℕ × Number)) → SomeAt key (flat_map own_coefficient
-    (map (to_cell column) cells)) → SomeAt key (flat_map own_coefficient (map (to_cell column) (printed_coefficients objective cells)))
-line_text-hit = grind arith
 
 join-some : (key : CoefficientKey) (left right : List (CoefficientKey × Number))
     → (is_some (find key_cmp key left) || is_some (find key_cmp key right)) ≡ true → SomeAt key (left ++ right)
@@ -573,12 +607,12 @@ module _ (m : Listing) (h : IsSoundListing m) where
   hit : (key : CoefficientKey) (value : Number) → find key_cmp key m.coefficients ≡ Some value → (column : List ℕ × Column)
       → same_bytes key.column column.0 ≡ true → SomeAt key (flat_map own_coefficient (cells_in m column))
   hit key value is column e = let named : key.column ≡ column.0 = same_name key.column column.0 e in
-      let here : find key_cmp (place_at key.row column.0) m.coefficients ≡ Some value = ap (λ n. find key_cmp (place_at key.row n) m.coefficients) (sym named) ∙ is in
+      let here : find key_cmp (place_at key.row column.0) m.coefficients ≡ Some value =
+      ap (λ n. find key_cmp (place_at key.row n) m.coefficients) (sym named) ∙ is in
       let names = is_one_of (names_in m.columns) key.column in let rows = is_one_of (m.objective ∷ names_in m.rows) key.row in
       let there : rows ≡ true = second_so names _ (second_so (is_kept value) _ (second_so (is_decimal value) _ (sound-at key value is))) in
       ap (λ n. is_some (find key_cmp (place_at key.row n) (flat_map own_coefficient (cells_in m column)))) named
-      ∙ line_text-hit (place_at key.row column.0) column.0 m.objective (column_coefficients m column.0)
-      (row-hit m.coefficients key.row column.0 value here (m.objective ∷ map (λ row. row.0) m.rows) there)
+      ∙ grind (arith, (row-hit m.coefficients key.row column.0 value here (m.objective ∷ map (λ row. row.0) m.rows) there))
 
   each-line_text : (key : CoefficientKey) → SomeAt key m.coefficients → SomeAt key (from_cells own_coefficient m
       (filter is_plain_column m.columns) ++ from_cells own_coefficient m (filter (λ column. not (is_plain_column column)) m.columns))
@@ -596,5 +630,3 @@ module _ (m : Listing) (h : IsSoundListing m) where
       (coefficients-part m ∙ ap (λ cs. plain ++ from_cells own_coefficient m cs) (sym (filter-not_not is_integer_column m.columns))))
       ∙ puts-kept key_cmp key_total same_key is_kept m.coefficients (plain ++ others) h.coefficients_sorted
       (Each-append _ plain others (columns-true m all-kept _) (columns-true m all-kept _)) each-line_text
-
--- ---- what the well-formedness of a model implies for its listing, for the crates above

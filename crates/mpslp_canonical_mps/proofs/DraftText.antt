@@ -1,9 +1,9 @@
 -- The canonical text of the model of a draft, from the draft's lists.
 use Rattle.mpslp_canonical_mps.proofs.Prelude
-use Prelude.{◌≡◌, ◌∙◌, ap, List, [], ◌∷◌, ℕ, Bool, true, map, drop, get_or, Option, None, ◌&&◌, filter, unwrap_or, first_so, second_so}
-use Prelude.{is_sorted, entries-from_sorted, Fault, BuildFault, Minimize, bytes_cmp, Each, T_from, is_zero, LinearModel, key_cmp, Listing}
-use Prelude.{listing_of, Draft, column_of, objective_name, constant_of, row_entry, model_of, DeclaresMps, draft_in, Passes}
-use Prelude.{declares-from_passes, tests, passes-from_tests, text_of, listed_lines, canonical_mps}
+use Prelude.{Bool, BuildFault, DeclaresMps, Draft, Each, Fault, LinearModel, List, Listing, Minimize, None, Option, Passes, T_from, [], ap}
+use Prelude.{bytes_cmp, canonical_mps, column_of, constant_of, declares-from_passes, draft_in, drop, entries-from_sorted, filter, first_so}
+use Prelude.{get_or, is_sorted, is_zero, key_cmp, listed_lines, listing_of, map, model_of, objective_name, passes-from_tests, row_entry}
+use Prelude.{second_so, tests, text_of, true, unwrap_or, ℕ, ◌&&◌, ◌∙◌, ◌∷◌, ◌≡◌}
 use Rattle.std.specs.Prelude.{not}
 
 -- the bytes declare a model whose canonical text is this
@@ -30,7 +30,14 @@ listing_of-model all h = let m = listing_in all in let more = second_so _ _ h in
     let rows = entries-from_sorted bytes_cmp m.rows (T_from _ (first_so _ _ h)) in
     let columns = entries-from_sorted bytes_cmp m.columns (T_from _ (first_so _ _ more)) in
     let coefficients = entries-from_sorted key_cmp m.coefficients (T_from _ (second_so _ _ more)) in
-    λ i. record { sense = m.sense; objective = m.objective; constant = m.constant; rows = rows i; columns = columns i; coefficients = coefficients i }
+    λ i. record {
+      sense = m.sense;
+      objective = m.objective;
+      constant = m.constant;
+      rows = rows i;
+      columns = columns i;
+      coefficients = coefficients i;
+    }
 
 pub line_text-from_passes : (bytes output : List ℕ) → Passes bytes → is_in_order (listing_in (draft_in bytes)) ≡ true
     → text_of (listed_lines (listing_in (draft_in bytes))) ≡ output → IsPrinted bytes output

@@ -4,21 +4,19 @@
 -- The bounds that are declared of different columns fill different slots.
 -- The canonical declarations of a well-formed listing fill no slot twice.
 use Rattle.mpslp_canonical_mps.proofs.Prelude
-use Prelude.{arith, ◌≡◌, refl, ap, ◌∙◌, List, [], ◌∷◌, ◌++◌, ℕ, Bool, true, false, map, Option, Some, None, filter_map, ◌&&◌, ◌||◌}
-use Prelude.{flat_map, list_any, cons_option, option_map, first_so, second_so, find, is_sorted, Number, same_bytes, bytes_cmp, are_distinct}
-use Prelude.{both_so, both_false, not_so, so_not, nor, Each, Each-weaker, CoefficientKey, key_cmp, Declarations, names_in, Slot, sense_slot}
-use Prelude.{objective_slot, constant_slot, row_slot, rhs_slot, range_slot, coefficient_slot, lower_slot, upper_slot, same_slot, slots_of}
-use Prelude.{all_slots, IsNew, distinct-append, distinct-sorted, same_name, bytes_total, cell_at, rules, nat_list_eq_equiv, below_all}
-use Prelude.{is_one_of, Each-append, Each-map, Each-flat_map, Each-all, Column, Listing, Apart, distinct-flat_map, later_differ}
-use Prelude.{printed_coefficients, sym, is_some, negated, Row, at_name, tied_names, then_stated, stated, all_stated, sorted-stated}
-use Prelude.{find-stated, one_of-names, none_there, Kind, Limit, PrintedBound, printed_bounds, suc, ◌<◌, append-nil, flat_map-append}
-use Prelude.{filter, Sense, Each-filter, declare_objective, flat_map-flat_map, sorted-kept, flat-same, own-found, is_integer_column}
-use Prelude.{is_plain_column}
-use Rattle.mpslp_canonical_mps.proofs.WholeWalk.{to_cell, cells_in, to_row, sides_in, row_range, to_bound, bounds_in, group_in, sense_decl}
-use Rattle.mpslp_canonical_mps.proofs.{WholeWalk.whole_of, DraftMaps.{place_at, IsSoundListing, value_stated, side_stated, range_stated}}
-use Rattle.mpslp_canonical_mps.proofs.DraftMaps.{own_side, sides-made, ranges-made, made_of, listed_decl, cells-made, whole-parts}
-use Rattle.mpslp_canonical_mps.proofs.SectionWalks.{Cell, cell_decl, cells_of, row_decl, Side, side_decl, range_decl, BoundForm, lower}
-use Rattle.mpslp_canonical_mps.proofs.SectionWalks.{upper, bound_decl, decl_at}
+use Prelude.{Apart, Bool, CoefficientKey, Column, Declarations, Each, Each-all, Each-append, Each-filter, Each-flat_map, Each-map}
+use Prelude.{Each-weaker, IsNew, List, Listing, None, Number, Option, Row, Sense, Slot, Some, [], all_slots, all_stated, ap, append-nil}
+use Prelude.{are_distinct, arith, at_name, below_all, both_so, bytes_cmp, bytes_total, cell_at, coefficient_slot, cons_option}
+use Prelude.{constant_slot, declare_objective, distinct-append, distinct-flat_map, distinct-sorted, false, filter, filter_map, find}
+use Prelude.{find-stated, first_so, flat-same, flat_map, flat_map-append, flat_map-flat_map, is_integer_column, is_one_of, is_plain_column}
+use Prelude.{is_some, is_sorted, key_cmp, later_differ, list_any, lower_slot, map, names_in, nat_list_eq_equiv, negated, none_there, nor}
+use Prelude.{not_so, objective_slot, one_of-names, option_map, own-found, printed_coefficients, range_slot, refl, rhs_slot, row_slot, rules}
+use Prelude.{same_bytes, same_name, same_slot, second_so, sense_slot, slots_of, so_not, sorted-kept, sorted-stated, stated, suc, sym}
+use Prelude.{then_stated, tied_names, true, upper_slot, ℕ, ◌++◌, ◌<◌, ◌||◌, ◌∙◌, ◌∷◌, ◌≡◌}
+use Rattle.mpslp_canonical_mps.proofs.DraftMaps.{IsSoundListing, cells-made, listed_decl, made_of, own_side, place_at, range_stated}
+use Rattle.mpslp_canonical_mps.proofs.{DraftMaps.{ranges-made, side_stated, sides-made, value_stated, whole-parts}, SectionWalks.Cell}
+use Rattle.mpslp_canonical_mps.proofs.SectionWalks.{Side, bound_decl, cell_decl, cells_of, range_decl, row_decl, side_decl}
+use Rattle.mpslp_canonical_mps.proofs.WholeWalk.{bounds_in, cells_in, group_in, row_range, sense_decl, sides_in, to_cell, to_row, whole_of}
 
 -- ---- slots of different kinds
 
@@ -34,9 +32,6 @@ rank (lower_slot _) = 5
 rank (upper_slot _) = 5
 rank constant_slot = 6
 
-same-rank : (a b : Slot) → same_slot a b ≡ true → rank a ≡ rank b
-same-rank = grind arith
-
 abbrev pub AllOf : ℕ → List Slot → Type 0
 AllOf n slots = Each (λ slot. rank slot ≡ n) slots
 
@@ -45,7 +40,7 @@ NoneOf n slots = Each (λ slot. rank slot ≡ n → ⊥) slots
 
 other-new : (n : ℕ) (slot : Slot) (slots : List Slot) → rank slot ≡ n → NoneOf n slots → IsNew same_slot slot slots
 other-new n slot [] is none = refl
-other-new n slot (later ∷ slots) is none = grind (arith, same-rank, other-new n slot slots is none.1)
+other-new n slot (later ∷ slots) is none = grind (arith, other-new n slot slots is none.1)
 
 -- slots of one kind before slots of others
 pub join-ranks : (n : ℕ) (xs ys : List Slot) → are_distinct same_slot xs ≡ true → are_distinct same_slot ys ≡ true → AllOf n xs
@@ -76,17 +71,11 @@ slots-flat (d ∷ ds) = grind (arith, slots-flat ds)
 abbrev pub cell_slot : Cell → List Slot
 cell_slot cell = coefficient_slot (place_at cell.row cell.column) ∷ []
 
-and_none : (a b : Bool) → b ≡ false → (a && b) ≡ false
-and_none = grind arith
-
-none_and : (a b : Bool) → a ≡ false → (a && b) ≡ false
-none_and = grind arith
-
 -- a coefficient of another column is not one of this column
 pub column-new : (row column other : List ℕ) → same_bytes other column ≡ false → (cells : List (List ℕ × Number))
     → IsNew same_slot (coefficient_slot (place_at row column)) (flat_map cell_slot (map (to_cell other) cells))
 column-new row column other h [] = refl
-column-new row column other h (cell ∷ cells) = grind (arith, place_at, to_cell, and_none, column-new row column other h cells)
+column-new row column other h (cell ∷ cells) = grind (arith, place_at, to_cell, column-new row column other h cells)
 
 -- nor is one of another row
 row-new : (coefficients : List (CoefficientKey × Number)) (row column : List ℕ) (rows : List (List ℕ))
@@ -98,7 +87,8 @@ row-new coefficients row column (x ∷ rows) h = let parts = nor _ _ h in
   where
     by : (o : Option Number) → same_bytes x row ≡ false → IsNew same_slot (coefficient_slot (place_at row column)) (flat_map cell_slot
         (map (to_cell column) (filter_map (cell_at coefficients column) rows))) → IsNew same_slot (coefficient_slot (place_at row column))
-        (flat_map cell_slot (map (to_cell column) (cons_option (option_map (λ (value : Number). (x, value)) o) (filter_map (cell_at coefficients column) rows))))
+        (flat_map cell_slot (map (to_cell column)
+        (cons_option (option_map (λ (value : Number). (x, value)) o) (filter_map (cell_at coefficients column) rows))))
     by = grind arith
 
 -- the coefficients of a column are in different rows
@@ -112,7 +102,8 @@ column-distinct coefficients column (row ∷ rows) h = let any = list_any (λ la
     by : (o : Option Number) → IsNew same_slot (coefficient_slot (place_at row column))
         (flat_map cell_slot (map (to_cell column) (filter_map (cell_at coefficients column) rows))) → are_distinct same_slot
         (flat_map cell_slot (map (to_cell column) (filter_map (cell_at coefficients column) rows))) ≡ true → are_distinct same_slot
-        (flat_map cell_slot (map (to_cell column) (cons_option (option_map (λ (value : Number). (row, value)) o) (filter_map (cell_at coefficients column) rows)))) ≡ true
+        (flat_map cell_slot (map (to_cell column)
+        (cons_option (option_map (λ (value : Number). (row, value)) o) (filter_map (cell_at coefficients column) rows)))) ≡ true
     by = grind arith
 
 pub any-turned : (q : List ℕ) (names : List (List ℕ)) → list_any (λ later. same_bytes later q) names ≡ is_one_of names q
@@ -163,11 +154,13 @@ columns-apart m (column ∷ columns) h = (
 -- The coefficients of columns of different names fill different slots.
 pub coefficients-distinct : (m : Listing) → IsSoundListing m → (columns : List (List ℕ × Column)) → AreOther columns
     → are_distinct same_slot (flat_map (column_slots m) columns) ≡ true
-coefficients-distinct m h columns other = distinct-flat_map same_slot _ columns (Each-all _ (own-distinct m h) columns) (columns-apart m columns other)
+coefficients-distinct m h columns other =
+    distinct-flat_map same_slot _ columns (Each-all _ (own-distinct m h) columns) (columns-apart m columns other)
 
 -- ---- slots of names are of one kind
 
-pub all-named : (n : ℕ) (make : List ℕ → Slot) → ((name : List ℕ) → rank (make name) ≡ n) → (names : List (List ℕ)) → AllOf n (map make names)
+pub all-named : (n : ℕ) (make : List ℕ → Slot) → ((name : List ℕ) → rank (make name) ≡ n) → (names : List (List ℕ))
+    → AllOf n (map make names)
 all-named n make h [] = tt
 all-named n make h (name ∷ names) = (h name, all-named n make h names)
 
@@ -190,7 +183,8 @@ row_slots-distinct m h = both_so _ _ (so_not _ (no-objective (m.objective ∷ na
 
 -- ---- right-hand sides and ranges
 
-filled-names : (make : List ℕ → Slot) (sides : List Side) → flat_map (λ side. make side.row ∷ []) sides ≡ map make (names_in (flat_map own_side sides))
+filled-names : (make : List ℕ → Slot) (sides : List Side)
+    → flat_map (λ side. make side.row ∷ []) sides ≡ map make (names_in (flat_map own_side sides))
 filled-names make [] = refl
 filled-names make (side ∷ sides) = grind (arith, filled-names make sides)
 
@@ -205,7 +199,8 @@ pub ranges-fill : (m : Listing)
 ranges-fill m = filled-names range_slot _ ∙ ap (λ ranges. map range_slot (names_in ranges)) (ranges-made m.rows)
 
 -- the objective is not a row, so no row declares a right-hand side of its name
-objective-new : (m : Listing) → IsSoundListing m → list_any (λ later. same_bytes later m.objective) (names_in (all_stated side_stated m.rows)) ≡ false
+objective-new : (m : Listing) → IsSoundListing m
+    → list_any (λ later. same_bytes later m.objective) (names_in (all_stated side_stated m.rows)) ≡ false
 objective-new m h = let absent : at_name m.rows m.objective ≡ None = none_there _ (sym (one_of-names m.objective m.rows) ∙ h.no_row) in
     any-turned m.objective _ ∙ one_of-names m.objective _ ∙ ap is_some
     (find-stated bytes_cmp side_stated bytes_total tied_names m.objective m.rows h.rows_sorted ∙ ap (then_stated side_stated) absent)
@@ -214,7 +209,8 @@ pub side_slots-distinct : (m : Listing) → IsSoundListing m → are_distinct sa
 side_slots-distinct m h = distinct-map same_bytes rhs_slot (λ a b. refl) (names_in (side_values m)) ∙ by (value_stated (negated m.constant))
   where
     rows : are_distinct same_bytes (names_in (all_stated side_stated m.rows)) ≡ true
-    rows = distinct-sorted bytes_cmp bytes_total same_bytes same_name (all_stated side_stated m.rows) (sorted-stated bytes_cmp side_stated m.rows h.rows_sorted)
+    rows = distinct-sorted bytes_cmp bytes_total same_bytes same_name (all_stated side_stated m.rows)
+        (sorted-stated bytes_cmp side_stated m.rows h.rows_sorted)
 
     by : (o : Option Number) → are_distinct same_bytes (names_in (stated m.objective o ++ all_stated side_stated m.rows)) ≡ true
     by None = rows
@@ -225,57 +221,30 @@ pub range_slots-distinct : (m : Listing) → IsSoundListing m
 range_slots-distinct m h =
     distinct-names range_slot (λ a b. refl) (all_stated range_stated m.rows) (sorted-stated bytes_cmp range_stated m.rows h.rows_sorted)
 
--- the slots that the bounds of a column fill
-abbrev slots_at : List ℕ → List PrintedBound → List Slot
-slots_at name line_text = flat_map (made_of slots_of bound_decl) (map (to_bound name) line_text)
-
 abbrev pub bound_slots : List ℕ × Column → List Slot
 bound_slots column = flat_map (made_of slots_of bound_decl) (bounds_in column)
 
--- ---- these are the two bounds of the column
-
-each-form : (P : Slot → Type 0) (name : List ℕ) → P (lower_slot name) → P (upper_slot name) → (form : BoundForm) (value : Number)
-    → Each P (flat_map slots_of (decl_at form name value))
-each-form = grind arith
-
-each-slot : (P : Slot → Type 0) (name : List ℕ) → P (lower_slot name) → P (upper_slot name) → (line_text : List PrintedBound)
-    → Each P (slots_at name line_text)
-each-slot P name l u [] = tt
-each-slot P name l u (bound ∷ line_text) = grind (arith, to_bound, each-form, each-slot P name l u line_text)
-
-pub each-bound_slot : (P : Slot → Type 0) (column : List ℕ × Column) → P (lower_slot column.0) → P (upper_slot column.0) → Each P (bound_slots column)
-each-bound_slot = grind arith
-
--- ---- each bound is declared once
-
-sides-once : (name : List ℕ) (kind : Kind) (l u : Limit) → are_distinct same_slot (slots_at name (printed_bounds kind l u)) ≡ true
-sides-once = grind arith
-
 -- ---- and no bound is that of another column
 
-new-of_each : (slot : Slot) (slots : List Slot) → Each (λ later. same_slot later slot ≡ false) slots → IsNew same_slot slot slots
-new-of_each slot [] h = refl
-new-of_each slot (later ∷ slots) h = both_false _ _ h.0 (new-of_each slot slots h.1)
-
-lower-new : (name : List ℕ) (other : List ℕ × Column) → same_bytes other.0 name ≡ false → IsNew same_slot (lower_slot name) (bound_slots other)
+lower-new : (name : List ℕ) (other : List ℕ × Column) → same_bytes other.0 name ≡ false
+    → IsNew same_slot (lower_slot name) (bound_slots other)
 lower-new = grind arith
 
-upper-new : (name : List ℕ) (other : List ℕ × Column) → same_bytes other.0 name ≡ false → IsNew same_slot (upper_slot name) (bound_slots other)
+upper-new : (name : List ℕ) (other : List ℕ × Column) → same_bytes other.0 name ≡ false
+    → IsNew same_slot (upper_slot name) (bound_slots other)
 upper-new = grind arith
 
 bounds-apart : (columns : List (List ℕ × Column)) → AreOther columns → Apart same_slot bound_slots columns
 bounds-apart [] h = tt
 bounds-apart (column ∷ columns) h = (
-  each-bound_slot _ column
-      (Each-weaker _ _ (lower-new column.0) columns h.0)
-      (Each-weaker _ _ (upper-new column.0) columns h.0),
+  (grind (arith, Each-weaker _ _ (lower-new column.0) columns h.0, Each-weaker _ _ (upper-new column.0) columns h.0)),
   bounds-apart columns h.1,
 )
 
 -- The bounds that are declared of different columns fill different slots.
 pub bounds-distinct : (columns : List (List ℕ × Column)) → AreOther columns → are_distinct same_slot (flat_map bound_slots columns) ≡ true
-bounds-distinct columns other = distinct-flat_map same_slot bound_slots columns
-    (Each-all _ (λ column. sides-once column.0 column.1.kind column.1.lower column.1.upper) columns) (bounds-apart columns other)
+bounds-distinct columns other = distinct-flat_map same_slot bound_slots columns (Each-all _ (λ column. (grind arith)) columns)
+    (bounds-apart columns other)
 
 -- ---- sections, each of a higher rank than those before it
 
@@ -299,15 +268,12 @@ none-above low n below (section ∷ sections) h = Each-append _ section _ (Each-
 
 joined-once : (n : ℕ) (sections : List (List Slot)) → Sections n sections → are_distinct same_slot (joined sections) ≡ true
 joined-once n [] h = refl
-joined-once n (section ∷ sections) h = grind (arith, join-ranks, rank, none-above, arith, joined-once (suc n) sections h.1)
+joined-once n (section ∷ sections) h = grind (arith, join-ranks, rank, none-above, joined-once (suc n) sections h.1)
 
 -- ---- OBJSENSE
 
 abbrev sense_slots : Sense → List Slot
 sense_slots sense = flat_map slots_of (sense_decl sense)
-
-sense-section : (sense : Sense) → Section 0 (sense_slots sense)
-sense-section = grind arith
 
 -- ---- COLUMNS: the columns outside the integer block, then those in it
 
@@ -317,19 +283,11 @@ listed_columns m = filter is_plain_column m.columns ++ filter is_integer_column 
 abbrev IsFound : Listing → List ℕ × Column → Type 0
 IsFound m column = at_name m.columns column.0 ≡ Some column.1
 
--- a name has one column, of one type
-kinds_differ : (m : Listing) (x y : List ℕ × Column) → IsFound m x → is_plain_column x ≡ true → IsFound m y → is_integer_column y ≡ true
-    → same_bytes y.0 x.0 ≡ false
-kinds_differ = search (rules, same_name, not_so)
-
 parts-differ : (m : Listing) → IsSoundListing m
     → Each (λ x. Each (λ y. same_bytes y.0 x.0 ≡ false) (filter is_integer_column m.columns)) (filter is_plain_column m.columns)
 parts-differ m h = let own = own-found m.columns h.columns_sorted in
     Each-filter _ is_plain_column m.columns (Each-weaker _ _ (λ x found plain. Each-filter _ is_integer_column m.columns
-    (Each-weaker _ _ (λ y there integer. kinds_differ m x y found plain there integer) m.columns own)) m.columns own)
-
-listed-other : (m : Listing) → IsSoundListing m → AreOther (listed_columns m)
-listed-other = grind (arith, other-append, sorted-other, sorted-kept, parts-differ)
+    (Each-weaker _ _ (λ y there integer. (search (rules, same_name, not_so, found, plain, there, integer))) m.columns own)) m.columns own)
 
 cells-fill : (m : Listing) (marked : Bool) → ((cell : Cell) → made_of slots_of (cell_decl marked) cell ≡ cell_slot cell)
     → (columns : List (List ℕ × Column))
@@ -346,7 +304,7 @@ column-rank = grind (arith, Each-flat_map, Each-all)
 
 columns-section : (m : Listing) → IsSoundListing m → Section 2 (flat_map (column_slots m) (listed_columns m))
 columns-section m h = record {
-  once = coefficients-distinct m h (listed_columns m) (listed-other m h);
+  once = coefficients-distinct m h (listed_columns m) (grind (arith, other-append, sorted-other, sorted-kept, parts-differ, h));
   rank = Each-flat_map (λ slot. rank slot ≡ 2) (column_slots m) (listed_columns m)
       (Each-all (λ column. AllOf 2 (column_slots m column)) (column-rank m) (listed_columns m));
 }
@@ -357,10 +315,11 @@ bounds-section : (m : Listing) → IsSoundListing m → Section 5 (flat_map boun
 bounds-section m h = record {
   once = bounds-distinct m.columns (sorted-other m.columns h.columns_sorted);
   rank = Each-flat_map _ bound_slots m.columns
-      (Each-all _ (λ column. each-bound_slot _ column refl refl) m.columns);
+      (Each-all _ (λ column. (grind arith)) m.columns);
 }
 
-bounds-fill : (columns : List (List ℕ × Column)) → flat_map (made_of slots_of bound_decl) (flat_map bounds_in columns) ≡ flat_map bound_slots columns
+bounds-fill : (columns : List (List ℕ × Column))
+    → flat_map (made_of slots_of bound_decl) (flat_map bounds_in columns) ≡ flat_map bound_slots columns
 bounds-fill columns = flat_map-flat_map _ bounds_in columns
 
 -- ---- all sections
@@ -370,12 +329,14 @@ sections m = sense_slots m.sense ∷ row_slots m ∷ flat_map (column_slots m) (
     ∷ map range_slot (names_in (all_stated range_stated m.rows)) ∷ flat_map bound_slots m.columns ∷ []
 
 sections-once : (m : Listing) → IsSoundListing m → Sections 0 (sections m)
-sections-once m h = let rows : Section 1 (row_slots m) = record { once = row_slots-distinct m h; rank = (refl, all-named 1 row_slot (λ _. refl) (m.objective ∷ names_in m.rows)) } in
+sections-once m h = let rows : Section 1 (row_slots m) =
+    record { once = row_slots-distinct m h; rank = (refl, all-named 1 row_slot (λ _. refl) (m.objective ∷ names_in m.rows)) } in
     let side_names = names_in (side_values m) in
-    let sides : Section 3 (map rhs_slot side_names) = record { once = side_slots-distinct m h; rank = all-named 3 rhs_slot (λ _. refl) side_names } in
+    let sides : Section 3 (map rhs_slot side_names) =
+    record { once = side_slots-distinct m h; rank = all-named 3 rhs_slot (λ _. refl) side_names } in
     let range_names = names_in (all_stated range_stated m.rows) in let ranges : Section 4
     (map range_slot range_names) = record { once = range_slots-distinct m h; rank = all-named 4 range_slot (λ _. refl) range_names } in
-    (sense-section m.sense, (rows, (columns-section m h, (sides, (ranges, (bounds-section m h, tt))))))
+    ((grind arith), (rows, (columns-section m h, (sides, (ranges, (bounds-section m h, tt))))))
 
 sections-fill : (m : Listing) → flat_map slots_of (listed_decl m) ≡ joined (sections m)
 sections-fill m = whole-parts slots_of (whole_of m) ∙ (λ i. sense_slots m.sense ++ ((slots_of (declare_objective m.objective)
@@ -386,4 +347,5 @@ sections-fill m = whole-parts slots_of (whole_of m) ∙ (λ i. sense_slots m.sen
 
 -- The canonical declarations of a well-formed listing fill no slot twice.
 pub filled-once : (m : Listing) → IsSoundListing m → are_distinct same_slot (all_slots (listed_decl m)) ≡ true
-filled-once m h = ap (are_distinct same_slot) (slots-flat (listed_decl m) ∙ sections-fill m) ∙ joined-once 0 (sections m) (sections-once m h)
+filled-once m h = ap (are_distinct same_slot) (slots-flat (listed_decl m) ∙ sections-fill m)
+    ∙ joined-once 0 (sections m) (sections-once m h)

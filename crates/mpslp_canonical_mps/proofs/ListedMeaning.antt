@@ -1,36 +1,35 @@
 -- The canonical declarations of a well-formed listing are consistent, and mean its model.
 use Rattle.mpslp_canonical_mps.proofs.Prelude
-use Prelude.{arith, ◌≡◌, refl, ap, ◌∙◌, List, [], ◌∷◌, ℕ, Bool, true, false, not, cond, map, Option, Some, None, is_some, filter}
-use Prelude.{filter_map, flat_map, cons_option, option_map, first_so, second_so, find, is_sorted, Number, IsDecimal, number-text}
-use Prelude.{same_bytes, marker, bytes_cmp, is_nonempty, Sense, Minimize, Maximize, Each, Each-weaker, Each-map, Each-flat_map, Each-filter}
-use Prelude.{Each-all, Column, CoefficientKey, key_cmp, is_sound_row, is_sound_column, has_integer_kind, Listing, puts, Declaration}
-use Prelude.{declare_objective, Draft, empty_draft, with_declaration, with_declarations, at_name, has_name, flat_map-flat_map, column_part}
-use Prelude.{columns-all, same_key, bytes_total, key_total, tied_names, then_stated, find-kept, found-each, sorted-kept, kept-all}
-use Prelude.{own-found, at-mapped, named, row_named, column_named, no_marker, later_differ, cell_at, printed_coefficients}
-use Prelude.{is_integer_column, is_plain_column, sym, ◌++◌, option_map_or, is_zero, zero_number, negated, is_bounded_decimal, is_lower_side}
-use Prelude.{is_upper_side, Kind, Limit, back, Each-append, Row, by_type, is_free_definition, is_free_row, row_part, rows-all, puts-own}
-use Prelude.{one_of-names, names_sorted, row_sides, row_distance, column_sides, bounded_so, bounded_finite, lower_of, upper_of, none_there}
-use Prelude.{printed_type, printed_rhs, printed_range, PrintedBound, printed_bounds, unwrap_or, ◌&&◌, list_all, eq_by_cmp, is_infinite_size}
-use Prelude.{have_same_value, zero-is, same_decimal, LinearModel, IsSound, listing_of, plain_limits, has_infinite_rhs, equal_from}
-use Prelude.{are_sides, MinusInf, Finite, PlusInf, Free, so_not, Each-both, list_all-from_Each, RowDefinition, declare_sense, declare_row}
-use Prelude.{declare_rhs, declare_range, declare_column, declare_coefficient, declare_lower, declare_upper, declare_marked, declare_semi}
-use Prelude.{Declarations, column_of, constant_of, rhs_or_zero, row_limits, row_entry, row_passes, DraftMeans, row_back, side-stated}
-use Prelude.{column_back, model-back, columns-back, no-negative_upper, binary-within, Stays, stays-all, rules, first_there, stated}
-use Prelude.{column_suited, ◌||◌, list_any, texts_ties, has_bounded_distance, are_distinct, Integer, both_so, or_left, or_right, has_row}
-use Prelude.{has_column, is_integer, is_semi, is_objective, is_known, is_allowed, declares_objective, same_slot, all_slots, AreConsistent}
-use Prelude.{is_semi_kind, itself_named}
-use Rattle.mpslp_canonical_mps.proofs.WholeWalk.{to_row, to_cell, cells_in, group_in, to_side, side_unless_zero, row_side, sides_in}
-use Rattle.mpslp_canonical_mps.proofs.WholeWalk.{row_range, to_bound, bounds_in, sense_decl, AreColumns, whole_of, draft_at_columns}
-use Rattle.mpslp_canonical_mps.proofs.WholeWalk.{IsGoodWhole, draft_at_sides, Whole, whole_decl, form_of}
-use Rattle.mpslp_canonical_mps.proofs.DraftMaps.{place_at, IsSoundListing, plain-only, own_column, from_cells, cells-made, form_stated}
-use Rattle.mpslp_canonical_mps.proofs.DraftMaps.{row_forms, rows-made, coefficients-kept, drafted, rows-drafted, right_side-at, range-at}
-use Rattle.mpslp_canonical_mps.proofs.DraftMaps.{lower-at, upper-at, columns-drafted, marked-at, integers-drafted, binaries-drafted}
-use Rattle.mpslp_canonical_mps.proofs.DraftMaps.{semis-at, sound-listing, value_stated, side_stated, range_stated, column_lower}
-use Rattle.mpslp_canonical_mps.proofs.DraftMaps.{column_upper, each-whole, row-at, listed_decl}
-use Rattle.mpslp_canonical_mps.proofs.SectionWalks.{cell_decl, GoodCell, AreOf, cells_of, IsGroup, AreApart, AreAbsent, Cell, row_decl}
-use Rattle.mpslp_canonical_mps.proofs.SectionWalks.{GoodBound, Side, ReadsAs, BoundForm, fixed, free, no_lower, no_upper, semi_upper}
-use Rattle.mpslp_canonical_mps.proofs.SectionWalks.{decl_at, Bound, bound_decl, RowItem, side_decl, range_decl}
-use Rattle.mpslp_canonical_mps.proofs.PrintableLemmas.{Holds, side-decimal, range-decimal, negated-decimal}
+use Prelude.{AreConsistent, Bool, CoefficientKey, Column, Declaration, Declarations, Draft, DraftMeans, Each, Each-all, Each-append}
+use Prelude.{Each-both, Each-filter, Each-flat_map, Each-map, Each-weaker, Finite, Free, IsDecimal, IsSound, Kind, Limit, LinearModel, List}
+use Prelude.{Listing, Maximize, Minimize, MinusInf, None, Number, Option, PlusInf, PrintedBound, Row, RowDefinition, Sense, Some, Stays, []}
+use Prelude.{all_slots, ap, are_distinct, are_sides, arith, at-mapped, at_name, back, binary-within, both_so, bounded_finite, bounded_so}
+use Prelude.{by_type, bytes_cmp, bytes_total, cell_at, column_back, column_named, column_of, column_part, column_sides, column_suited}
+use Prelude.{columns-all, columns-back, cond, cons_option, constant_of, declare_coefficient, declare_column, declare_lower, declare_marked}
+use Prelude.{declare_objective, declare_range, declare_rhs, declare_row, declare_semi, declare_sense, declare_upper, empty_draft, eq_by_cmp}
+use Prelude.{equal_from, false, filter, filter_map, find, find-kept, first_so, first_there, flat_map, flat_map-flat_map, found-each}
+use Prelude.{has_bounded_distance, has_column, has_infinite_rhs, has_integer_kind, has_name, has_row, have_same_value, is_allowed}
+use Prelude.{is_bounded_decimal, is_free_definition, is_free_row, is_infinite_size, is_integer, is_integer_column, is_known, is_lower_side}
+use Prelude.{is_objective, is_plain_column, is_semi, is_semi_kind, is_some, is_sorted, is_sound_column, is_sound_row, is_upper_side}
+use Prelude.{is_zero, itself_named, kept-all, key_cmp, key_total, later_differ, list_all, list_all-from_Each, listing_of, lower_of, map}
+use Prelude.{marker, model-back, named, names_sorted, negated, no-negative_upper, no_marker, none_there, not, number-text, one_of-names}
+use Prelude.{option_map, option_map_or, or_left, or_right, own-found, plain_limits, printed_bounds, printed_coefficients, printed_range}
+use Prelude.{printed_rhs, printed_type, puts, puts-own, refl, rhs_or_zero, row_back, row_distance, row_entry, row_limits, row_named}
+use Prelude.{row_part, row_passes, row_sides, rows-all, rules, same_bytes, same_decimal, same_key, same_slot, second_so, side-stated}
+use Prelude.{so_not, sorted-kept, stated, stays-all, sym, texts_ties, then_stated, tied_names, true, unwrap_or, upper_of, with_declaration}
+use Prelude.{with_declarations, zero-is, zero_number, ℕ, ◌&&◌, ◌++◌, ◌||◌, ◌∙◌, ◌∷◌, ◌≡◌}
+use Rattle.mpslp_canonical_mps.proofs.DraftMaps.{IsSoundListing, binaries-drafted, cells-made, coefficients-kept, column_lower}
+use Rattle.mpslp_canonical_mps.proofs.DraftMaps.{column_upper, columns-drafted, drafted, each-whole, form_stated, from_cells}
+use Rattle.mpslp_canonical_mps.proofs.DraftMaps.{integers-drafted, listed_decl, lower-at, marked-at, own_column, place_at, plain-only}
+use Rattle.mpslp_canonical_mps.proofs.DraftMaps.{range-at, range_stated, right_side-at, row-at, row_forms, rows-drafted, rows-made}
+use Rattle.mpslp_canonical_mps.proofs.{DraftMaps.{semis-at, side_stated, sound-listing, upper-at, value_stated}, PrintableLemmas.Holds}
+use Rattle.mpslp_canonical_mps.proofs.{PrintableLemmas.{negated-decimal, range-decimal, side-decimal}, SectionWalks.{AreAbsent, AreApart}}
+use Rattle.mpslp_canonical_mps.proofs.SectionWalks.{AreOf, Bound, BoundForm, Cell, GoodBound, GoodCell, IsGroup, ReadsAs, RowItem, Side}
+use Rattle.mpslp_canonical_mps.proofs.SectionWalks.{bound_decl, cell_decl, cells_of, decl_at, fixed, free, no_lower, no_upper, range_decl}
+use Rattle.mpslp_canonical_mps.proofs.{SectionWalks.{row_decl, semi_upper, side_decl}, WholeWalk.{AreColumns, IsGoodWhole, Whole}}
+use Rattle.mpslp_canonical_mps.proofs.WholeWalk.{bounds_in, cells_in, draft_at_columns, draft_at_sides, form_of, group_in, row_range}
+use Rattle.mpslp_canonical_mps.proofs.WholeWalk.{row_side, sense_decl, side_unless_zero, sides_in, to_bound, to_cell, to_row, to_side}
+use Rattle.mpslp_canonical_mps.proofs.WholeWalk.{whole_decl, whole_of}
 use Rattle.mpslp_canonical_mps.proofs.SectionWalks as forms
 
 -- ---- COLUMNS of a well-formed listing: the columns are separate, and each has good lines. The sections of the
@@ -42,15 +41,12 @@ group-own : (name : List ℕ) (cells : List (List ℕ × Number)) → AreOf name
 group-own name [] = tt
 group-own name (cell ∷ cells) = (refl, group-own name cells)
 
-group-some : (name objective : List ℕ) (cells : List (List ℕ × Number))
-    → is_nonempty (map (to_cell name) (printed_coefficients objective cells)) ≡ true
-group-some = grind arith
-
 pub groups-good : (m : Listing) (columns : List (List ℕ × Column)) → Each IsGroup (map (group_in m) columns)
 groups-good m columns = Each-map IsGroup _ columns
-    (Each-all _ (λ column. record { some = group-some column.0 m.objective _; own = group-own column.0 _ }) columns)
+    (Each-all _ (λ column. record { some = (grind arith); own = group-own column.0 _ }) columns)
 
-pub groups-apart : (m : Listing) (columns : List (List ℕ × Column)) → is_sorted bytes_cmp columns ≡ true → AreApart (map (group_in m) columns)
+pub groups-apart : (m : Listing) (columns : List (List ℕ × Column)) → is_sorted bytes_cmp columns ≡ true
+    → AreApart (map (group_in m) columns)
 groups-apart m [] h = tt
 groups-apart m (column ∷ columns) h = (
   Each-map _ _ columns (later_differ column.0 columns (first_so _ _ h)),
@@ -67,7 +63,8 @@ pairs-good coefficients column h [] names = tt
 pairs-good coefficients column h (row ∷ rows) names =
     by (find key_cmp (place_at row column) coefficients) refl (pairs-good coefficients column h rows names.1)
   where
-    by : (o : Option Number) → find key_cmp (place_at row column) coefficients ≡ o → Each IsGoodPair (filter_map (cell_at coefficients column) rows)
+    by : (o : Option Number) → find key_cmp (place_at row column) coefficients ≡ o
+        → Each IsGoodPair (filter_map (cell_at coefficients column) rows)
         → Each IsGoodPair (cons_option (option_map (λ (value : Number). (row, value)) o) (filter_map (cell_at coefficients column) rows))
     by None is more = more
     by (Some d) is more = ((names.0, found-each key_cmp key_total same_key _ coefficients h (place_at row column) d is), more)
@@ -76,7 +73,8 @@ line_text-good : (objective : List ℕ) (cells : List (List ℕ × Number)) → 
     → Each IsGoodPair (printed_coefficients objective cells)
 line_text-good = grind arith
 
-cells-good : (m : Listing) → IsSoundListing m → (column : List ℕ × Column) → is_sound_column column ≡ true → Each GoodCell (cells_in m column)
+cells-good : (m : Listing) → IsSoundListing m → (column : List ℕ × Column) → is_sound_column column ≡ true
+    → Each GoodCell (cells_in m column)
 cells-good m h column sound =
     let names : Each (λ row. same_bytes row marker ≡ false) (m.objective ∷ map (λ row. row.0) m.rows) = (
       no_marker m.objective h.objective,
@@ -176,18 +174,17 @@ reads-ranges m h = Each-flat_map ReadsAs row_range m.rows (Each-weaker _ _ one m
 abbrev KeepsRows : Declaration → Type 0
 KeepsRows d = (all : Draft) → (with_declaration all d).rows ≡ all.rows
 
-rows-made-of : (m : Listing) → (draft_at_columns (whole_of m)).rows ≡ puts bytes_cmp (row_forms m.rows) []
-rows-made-of = grind (arith, sense_decl, row_decl, to_row, rows-all, puts, flat_map-flat_map, row_part, rows-made, row_forms)
-
 columns-keep : (plain integers : List Cell) (all : Draft)
     → (with_declarations all (flat_map (cell_decl false) plain ++ flat_map (cell_decl true) integers)).rows ≡ all.rows
 columns-keep plain integers all = kept-all (λ d. d.rows) _ (Each-append KeepsRows _ _ (Each-flat_map KeepsRows (cell_decl false) plain
-    (Each-all (λ cell. Each KeepsRows (cell_decl false cell)) (λ cell. (λ _. refl, (λ _. refl, tt))) plain)) (Each-flat_map KeepsRows (cell_decl true)
+    (Each-all (λ cell. Each KeepsRows (cell_decl false cell)) (λ cell. (λ _. refl, (λ _. refl, tt))) plain))
+    (Each-flat_map KeepsRows (cell_decl true)
     integers (Each-all (λ cell. Each KeepsRows (cell_decl true cell)) (λ cell. (λ _. refl, (λ _. refl, (λ _. refl, tt)))) integers))) all
 
 rows-at-sides : (m : Listing) → IsSoundListing m → (draft_at_sides (whole_of m)).rows ≡ row_forms m.rows
 rows-at-sides m h = columns-keep (cells_of (whole_of m).plain) (cells_of (whole_of m).integers) (draft_at_columns (whole_of m))
-    ∙ rows-made-of m ∙ puts-own bytes_cmp bytes_total tied_names (row_forms m.rows) (names_sorted form_stated m.rows h.rows_sorted)
+    ∙ (grind (arith, sense_decl, row_decl, to_row, rows-all, puts, flat_map-flat_map, row_part, rows-made, row_forms))
+    ∙ puts-own bytes_cmp bytes_total tied_names (row_forms m.rows) (names_sorted form_stated m.rows h.rows_sorted)
 
 abbrev is_free_in : Option Row → Bool
 is_free_in o = option_map_or is_free_definition (then_stated (λ row. Some (form_stated row)) o) false
@@ -206,7 +203,8 @@ objective-no-row m h = none_there _ (sym (one_of-names m.objective m.rows) ∙ h
 abbrev IsBoundIn : Listing → Side → Type 0
 IsBoundIn m side = is_free_row (draft_at_sides (whole_of m)) side.row ≡ false
 
-sides-bound : (m : Listing) → IsSoundListing m → Each (λ (side : Side). is_free_row (draft_at_sides (whole_of m)) side.row ≡ false) (sides_in m)
+sides-bound : (m : Listing) → IsSoundListing m
+    → Each (λ (side : Side). is_free_row (draft_at_sides (whole_of m)) side.row ≡ false) (sides_in m)
 sides-bound m h = Each-append _ _ _ mine (Each-flat_map _ row_side m.rows (Each-weaker _ _ one m.rows (own-found m.rows h.rows_sorted)))
   where
     mine : Each (IsBoundIn m) (side_unless_zero m.objective (negated m.constant))
@@ -232,13 +230,11 @@ sides-bound m h = Each-append _ _ _ mine (Each-flat_map _ row_side m.rows (Each-
 abbrev IsBounded : PrintedBound → Type 0
 IsBounded bound = Holds (λ d. is_bounded_decimal d ≡ true) bound.value
 
-all-bounded : (kind : Kind) (l u : Limit) → is_lower_side l ≡ true → is_upper_side u ≡ true → Each IsBounded (printed_bounds kind l u)
-all-bounded = grind arith
-
 good-bound : (name : List ℕ) (bound : PrintedBound) → IsBounded bound → GoodBound (to_bound name bound)
 good-bound name bound h = by bound.value h
   where
-    by : (o : Option Number) → Holds (λ d. is_bounded_decimal d ≡ true) o → GoodBound (to_bound name (record { type = bound.type; value = o }))
+    by : (o : Option Number) → Holds (λ d. is_bounded_decimal d ≡ true) o
+        → GoodBound (to_bound name (record { type = bound.type; value = o }))
     by None k = record { text = number-text zero_number refl; finite = refl }
     by (Some d) k = record { text = number-text d (bounded_so d k); finite = bounded_finite d k }
 
@@ -247,8 +243,8 @@ bounds-good m h = Each-flat_map GoodBound bounds_in m.columns (Each-weaker _ _ o
   where
     one : (column : List ℕ × Column) → is_sound_column column ≡ true → Each GoodBound (bounds_in column)
     one column k = let sides = column_sides column k in let line_text = printed_bounds column.1.kind column.1.lower column.1.upper in
-        Each-map GoodBound _ line_text (Each-weaker IsBounded _ (good-bound column.0) line_text (all-bounded column.1.kind column.1.lower
-        column.1.upper (lower_of column.1.lower column.1.upper sides) (upper_of column.1.lower column.1.upper sides)))
+        Each-map GoodBound _ line_text (Each-weaker IsBounded _ (good-bound column.0) line_text
+        (grind (arith, lower_of column.1.lower column.1.upper sides, upper_of column.1.lower column.1.upper sides)))
 
 -- ---- all sections
 
@@ -259,8 +255,6 @@ good-whole m h = record {
   columns = are-columns m h;
   late = record { sides = reads-sides m h; bound = sides-bound m h; ranges = reads-ranges m h; bounds = bounds-good m h };
 }
-
--- ---- the draft of the canonical declarations of a well-formed model means the model
 
 -- ---- what is declared once, or not at all
 
@@ -306,15 +300,13 @@ pub constant-drafted : (m : Listing) → (drafted m).constant ≡ None
 constant-drafted m = stays-all _ None _ (each-kind (Stays (λ d. d.constant) None) (whole_of m)
     (sense-keeps (λ d. d.constant) None m.sense (λ _ all is. is)) (search rules)) empty_draft refl
 
--- from the objective on
-first-named : (name : List ℕ) (s : Sense) (more : Declarations)
-    → Each (Stays (λ d. d.objective) (Some name)) (sense_decl s ++ (declare_objective name ∷ more))
-    → (with_declarations empty_draft (sense_decl s ++ (declare_objective name ∷ more))).objective ≡ Some name
-first-named = grind (arith, stays-all)
-
 pub objective-drafted : (m : Listing) → (drafted m).objective ≡ Some m.objective
-objective-drafted m = first-named m.objective m.sense _ (each-kind (Stays (λ d. d.objective) (Some m.objective)) (whole_of m)
-    (sense-keeps (λ d. d.objective) (Some m.objective) m.sense (λ _ all is. is)) (search rules))
+objective-drafted m = grind (
+  arith,
+  stays-all,
+  (each-kind (Stays (λ d. d.objective) (Some m.objective)) (whole_of m)
+      (sense-keeps (λ d. d.objective) (Some m.objective) m.sense (λ _ all is. is)) (search rules)),
+)
 
 abbrev stated_sense : Sense → Option Sense
 stated_sense Minimize = None
@@ -324,20 +316,11 @@ first-sense : (s : Sense) (more : Declarations) → Each (Stays (λ d. d.sense) 
     → (with_declarations empty_draft (sense_decl s ++ more)).sense ≡ stated_sense s
 first-sense = grind (arith, stays-all)
 
-own_sense : (s : Sense) → Each (Stays (λ d. d.sense) (stated_sense s)) (sense_decl s)
-own_sense = grind arith
-
-sense-back : (s : Sense) → unwrap_or (stated_sense s) Minimize ≡ s
-sense-back = grind arith
-
 pub sense-drafted : (m : Listing) → unwrap_or (drafted m).sense Minimize ≡ m.sense
 sense-drafted m = ap (λ (o : Option Sense). unwrap_or o Minimize) (first-sense m.sense
-    _ (each-kind (Stays (λ d. d.sense) (stated_sense m.sense)) (whole_of m) (own_sense m.sense) (search rules))) ∙ sense-back m.sense
+    _ (each-kind (Stays (λ d. d.sense) (stated_sense m.sense)) (whole_of m) (grind arith) (search rules))) ∙ grind arith
 
 -- ---- the constant
-
-negated-twice : (d : Number) → negated (negated d) ≡ d
-negated-twice = grind arith
 
 stated-own : (q : List ℕ) (o : Option Number) → at_name (stated q o) q ≡ o
 stated-own = grind (arith, bytes_total)
@@ -346,15 +329,27 @@ value-back : (d : Number) → IsDecimal d → unwrap_or (value_stated d) zero_nu
 value-back d h = side-stated d (zero-is d h)
 
 pub constant-back : (m : Listing) → IsSoundListing m → constant_of (drafted m) ≡ m.constant
-constant-back = grind (arith, drafted, objective-drafted, value_stated, right_side-at, first_there, then_stated, side_stated, stated, objective-no-row, stated-own, constant-drafted, value-back, negated-decimal, negated-twice)
+constant-back = grind (
+  arith,
+  drafted,
+  objective-drafted,
+  value_stated,
+  right_side-at,
+  first_there,
+  then_stated,
+  side_stated,
+  stated,
+  objective-no-row,
+  stated-own,
+  constant-drafted,
+  value-back,
+  negated-decimal,
+)
 
 -- ---- rows
 
 stated-other : (q name : List ℕ) (o : Option Number) → eq_by_cmp bytes_cmp q name ≡ false → at_name (stated name o) q ≡ None
 stated-other = grind arith
-
-first_none : {X : Type 0} (o : Option X) → first_there o None ≡ o
-first_none = grind arith
 
 no_some : {X : Type 0} (x : X) → ◌≡◌ {A = Option X} None (Some x) → ⊥
 no_some x e = cc
@@ -364,12 +359,27 @@ pub other-name : (m : Listing) → IsSoundListing m → (row : List ℕ × Row) 
 other-name m h row is = by (eq_by_cmp bytes_cmp row.0 m.objective) refl
   where
     by : (b : Bool) → eq_by_cmp bytes_cmp row.0 m.objective ≡ b → b ≡ false
-    by true e = absurd (no_some row.1 (sym (objective-no-row m h) ∙ ap (at_name m.rows) (sym (tied_names row.0 m.objective (equal_from _ e))) ∙ is))
+    by true e = absurd (no_some row.1 (sym (objective-no-row m h)
+        ∙ ap (at_name m.rows) (sym (tied_names row.0 m.objective (equal_from _ e))) ∙ is))
     by false e = refl
 
 pub side-back : (m : Listing) → IsSoundListing m → (row : List ℕ × Row) → is_sound_row row ≡ true → at_name m.rows row.0 ≡ Some row.1
     → rhs_or_zero (drafted m) row.0 ≡ printed_rhs row.1.lower row.1.upper
-side-back = grind (arith, stated, value_stated, drafted, right_side-at, first_there, then_stated, side_stated, stated-other, other-name, first_none, value-back, side-decimal, row_sides)
+side-back = grind (
+  arith,
+  stated,
+  value_stated,
+  drafted,
+  right_side-at,
+  first_there,
+  then_stated,
+  side_stated,
+  stated-other,
+  other-name,
+  value-back,
+  side-decimal,
+  row_sides,
+)
 
 pub range-back : (m : Listing) → IsSoundListing m → (row : List ℕ × Row) → at_name m.rows row.0 ≡ Some row.1
     → at_name (drafted m).ranges row.0 ≡ printed_range row.1.lower row.1.upper
@@ -414,7 +424,8 @@ finite-lower l a h e = bounded_so a (sym (ap is_lower_side e) ∙ h)
 finite-upper : (u : Limit) (b : Number) → is_upper_side u ≡ true → u ≡ Finite b → IsDecimal b
 finite-upper u b h e = bounded_so b (sym (ap is_upper_side e) ∙ h)
 
-pub bounds-back : (m : Listing) → IsSoundListing m → (column : List ℕ × Column) → IsOwnColumn m column → column_of (drafted m) column.0 ≡ column.1
+pub bounds-back : (m : Listing) → IsSoundListing m → (column : List ℕ × Column) → IsOwnColumn m column
+    → column_of (drafted m) column.0 ≡ column.1
 bounds-back m h column k = let l = column.1.lower in let u = column.1.upper in let sides = column_sides column k.0 in
     let lower_side = lower_of l u sides in let upper_side = upper_of l u sides in column_back have_same_value (drafted m) column.0 column.1
     (lower-at m h column.0 ∙ ap (then_stated column_lower) k.1) (upper-at m h column.0 ∙ ap (then_stated column_upper) k.1)
@@ -428,14 +439,12 @@ each-column_back m h = Each-weaker _ _ (bounds-back m h) m.columns (own-columns 
 
 -- ---- right-hand sides
 
-and_false : (a b : Bool) → a ≡ false → (a && b) ≡ false
-and_false = grind arith
-
 finite_size : (a : Number) → is_bounded_decimal a ≡ true → is_infinite_size a ≡ false
 finite_size = grind arith
 
-finite-side : (l u : Limit) → are_sides l u ≡ true → has_infinite_rhs (by_type (printed_type l u)) (printed_rhs l u) (printed_range l u) ≡ false
-finite-side = grind (arith, and_false, finite_size)
+finite-side : (l u : Limit) → are_sides l u ≡ true
+    → has_infinite_rhs (by_type (printed_type l u)) (printed_rhs l u) (printed_range l u) ≡ false
+finite-side = grind (arith, finite_size)
 
 finite-row : (m : Listing) → IsSoundListing m → (row : List ℕ × Row) → IsOwnRow m row
     → not (row_passes (drafted m) has_infinite_rhs (stated_row row)) ≡ true
@@ -471,20 +480,12 @@ draft-means m sound =
       binary_within = binary-within all listing.columns declared back (binaries-drafted listing);
     }
 
--- ---- the canonical declarations of a well-formed listing are consistent, if no slot is filled twice
-
 -- ---- what exists
 
 column-there : (m : Listing) → IsSoundListing m → (column : List ℕ × Column) → at_name m.columns column.0 ≡ Some column.1
     → has_column (drafted m) column.0 ≡ true
 column-there m h column is = ap (λ es. has_name es column.0) (columns-drafted m h)
     ∙ ap is_some (at-mapped _ column.0 m.columns ∙ ap (then_stated (λ _. Some tt)) is)
-
-objective-there : (m : Listing) → has_row (drafted m) m.objective ≡ true
-objective-there = grind (arith, or_left, drafted, objective-drafted, itself_named)
-
-row-there : (m : Listing) → IsSoundListing m → (row : List ℕ × Row) → at_name m.rows row.0 ≡ Some row.1 → has_row (drafted m) row.0 ≡ true
-row-there = grind (arith, or_right, drafted, row-at, then_stated, form_stated)
 
 -- ---- all that is named is declared
 
@@ -506,18 +507,22 @@ line_text-rows = grind arith
 known-cells : (m : Listing) → IsSoundListing m → (column : List ℕ × Column) → at_name m.columns column.0 ≡ Some column.1
     → Each (KnownCell m) (cells_in m column)
 known-cells m h column is =
-    let rows = line_text-rows _ m.objective _ (objective-there m)
+    let rows = line_text-rows _ m.objective _ (grind (arith, or_left, drafted, objective-drafted, itself_named))
     (rows-of-cells (λ n. has_row (drafted m) n ≡ true) m.coefficients column.0 (m.objective ∷ map (λ row. row.0) m.rows) (
-      objective-there m,
-      Each-map _ _ m.rows (Each-weaker _ _ (λ row k. row-there m h row k.1) m.rows (own-rows m h)),
+      (grind (arith, or_left, drafted, objective-drafted, itself_named)),
+      Each-map _ _ m.rows (Each-weaker _ _ (λ row k. (grind (arith, or_right, drafted, row-at, then_stated, form_stated, h, k.1))) m.rows
+          (own-rows m h)),
     )) in
     Each-map _ _ _
     (Each-weaker _ _ (λ cell k. (k, column-there m h column is)) _ rows)
 
-known-groups : (m : Listing) → IsSoundListing m → (p : List ℕ × Column → Bool) → Each (KnownCell m) (cells_of (map (group_in m) (filter p m.columns)))
-known-groups m h p = Each-flat_map _ _ _ (Each-map _ _ _ (Each-filter _ p m.columns (Each-weaker _ _ (λ column k _. known-cells m h column k.1) m.columns (own-columns m h))))
+known-groups : (m : Listing) → IsSoundListing m → (p : List ℕ × Column → Bool)
+    → Each (KnownCell m) (cells_of (map (group_in m) (filter p m.columns)))
+known-groups m h p = Each-flat_map _ _ _
+    (Each-map _ _ _ (Each-filter _ p m.columns (Each-weaker _ _ (λ column k _. known-cells m h column k.1) m.columns (own-columns m h))))
 
-known-coefficient : (m : Listing) (cell : Cell) → KnownCell m cell → (has_row (drafted m) cell.row && has_column (drafted m) cell.column) ≡ true
+known-coefficient : (m : Listing) (cell : Cell) → KnownCell m cell
+    → (has_row (drafted m) cell.row && has_column (drafted m) cell.column) ≡ true
 known-coefficient m cell k = both_so _ _ k.0 k.1
 
 known-side : (m : Listing) (row : List ℕ) (value : Number) → has_row (drafted m) row ≡ true
@@ -528,20 +533,14 @@ known-range : (m : Listing) (row : List ℕ) (o : Option Number) → has_row (dr
     → Each (λ (side : Side). Each (Known m) (range_decl side)) (option_map_or (λ value. to_side row value ∷ []) o [])
 known-range = grind arith
 
-known-form : (m : Listing) (form : BoundForm) (x : List ℕ) (v : Number) → has_column (drafted m) x ≡ true → Each (Known m) (decl_at form x v)
-known-form = grind arith
-
 known-bounds : (m : Listing) (name : List ℕ) → has_column (drafted m) name ≡ true → (line_text : List PrintedBound)
     → Each (λ (b : Bound). Each (Known m) (bound_decl b)) (map (to_bound name) line_text)
 known-bounds m name k [] = tt
-known-bounds m name k (bound ∷ line_text) = (known-form m _ name _ k, known-bounds m name k line_text)
-
-known-sense : (m : Listing) (s : Sense) → Each (Known m) (sense_decl s)
-known-sense = grind arith
+known-bounds m name k (bound ∷ line_text) = ((grind (arith, k)), known-bounds m name k line_text)
 
 pub all-known : (m : Listing) → IsSoundListing m → list_all (is_known (drafted m)) (listed_decl m) ≡ true
 all-known m h = list_all-from_Each (is_known (drafted m)) (listed_decl m) (each-whole (Known m) (whole_of m) (record {
-  sense = known-sense m m.sense;
+  sense = (grind arith);
   objective = refl;
   rows = Each-all (λ (row : RowItem). Each (Known m) (row_decl row)) (λ row. (refl, tt)) (whole_of m).rows;
   plain = Each-weaker (KnownCell m) (λ (cell : Cell). Each (Known m) (cell_decl false cell))
@@ -549,13 +548,19 @@ all-known m h = list_all-from_Each (is_known (drafted m)) (listed_decl m) (each-
   integers = Each-weaker (KnownCell m) (λ (cell : Cell). Each (Known m) (cell_decl true cell))
       (λ cell k. (refl, (k.1, (known-coefficient m cell k, tt)))) (cells_of (whole_of m).integers) (known-groups m h is_integer_column);
   sides = Each-append (λ (side : Side). Each (Known m) (side_decl side)) (side_unless_zero m.objective (negated m.constant))
-      (flat_map row_side m.rows) (known-side m m.objective (negated m.constant) (objective-there m))
-      (Each-flat_map (λ (side : Side). Each (Known m) (side_decl side)) row_side m.rows
+      (flat_map row_side m.rows) (known-side m m.objective (negated m.constant) (grind (
+        arith,
+        or_left,
+        drafted,
+        objective-drafted,
+        itself_named,
+      ))) (Each-flat_map (λ (side : Side). Each (Known m) (side_decl side)) row_side m.rows
       (Each-weaker (IsOwnRow m) (λ row. Each (λ (side : Side). Each (Known m) (side_decl side)) (row_side row))
-      (λ row k. known-side m row.0 (printed_rhs row.1.lower row.1.upper) (row-there m h row k.1)) m.rows (own-rows m h)));
-  ranges = Each-flat_map (λ (side : Side). Each (Known m) (range_decl side)) row_range m.rows
-      (Each-weaker (IsOwnRow m) (λ row. Each (λ (side : Side). Each (Known m) (range_decl side)) (row_range row))
-      (λ row k. known-range m row.0 (printed_range row.1.lower row.1.upper) (row-there m h row k.1)) m.rows (own-rows m h));
+      (λ row k. known-side m row.0 (printed_rhs row.1.lower row.1.upper)
+      (grind (arith, or_right, drafted, row-at, then_stated, form_stated, h, k.1))) m.rows (own-rows m h)));
+  ranges = Each-flat_map (λ (side : Side). Each (Known m) (range_decl side)) row_range m.rows (Each-weaker (IsOwnRow m)
+      (λ row. Each (λ (side : Side). Each (Known m) (range_decl side)) (row_range row)) (λ row k. known-range m row.0 (printed_range
+      row.1.lower row.1.upper) (grind (arith, or_right, drafted, row-at, then_stated, form_stated, h, k.1))) m.rows (own-rows m h));
   bounds = Each-flat_map (λ (b : Bound). Each (Known m) (bound_decl b)) bounds_in m.columns
       (Each-weaker (IsOwnColumn m) (λ column. Each (λ (b : Bound). Each (Known m) (bound_decl b)) (bounds_in column))
       (λ column k. known-bounds m column.0 (column-there m h column k.1) (printed_bounds column.1.kind column.1.lower column.1.upper))
@@ -575,7 +580,7 @@ range-bounded MinusInf u h = tt
 range-bounded (Finite a) MinusInf h = tt
 range-bounded (Finite a) PlusInf h = tt
 range-bounded PlusInf u h = tt
-range-bounded (Finite a) (Finite b) h = grind (arith)
+range-bounded (Finite a) (Finite b) h = grind arith
 
 no_false : (a b : Bool) → a ≡ false → b ≡ false → not (a || b) ≡ true
 no_false = grind arith
@@ -585,7 +590,8 @@ allowed-range : (m : Listing) → IsSoundListing m → (row : List ℕ × Row) �
 allowed-range m h row k = by (printed_range row.1.lower row.1.upper) refl (range-bounded row.1.lower row.1.upper (row_distance row k.0))
   where
     not_mine : is_objective (drafted m) row.0 ≡ false
-    not_mine = ap (λ o. option_map_or (same_bytes row.0) o false) (objective-drafted m) ∙ texts_ties row.0 m.objective ∙ other-name m h row k.1
+    not_mine = ap (λ o. option_map_or (same_bytes row.0) o false) (objective-drafted m) ∙ texts_ties row.0 m.objective
+        ∙ other-name m h row k.1
 
     not_free : (d : Number) → printed_range row.1.lower row.1.upper ≡ Some d → is_free_row (drafted m) row.0 ≡ false
     not_free d e = ap (λ o. option_map_or is_free_definition o false) (row-at m h row.0 ∙ ap (then_stated (λ r. Some (form_stated r))) k.1)
@@ -602,63 +608,42 @@ own-semi : (m : Listing) → IsSoundListing m → (column : List ℕ × Column) 
     → is_semi (drafted m) column.0 ≡ is_semi_kind column.1.kind
 own-semi = grind (arith, semis-at, column_suited)
 
-own-integer : (m : Listing) → IsSoundListing m → (column : List ℕ × Column) → IsOwnColumn m column
-    → is_integer (drafted m) column.0 ≡ is_integer_column column
-own-integer = grind (arith, marked-at, integers-drafted, binaries-drafted)
-
-integer-not_semi : (kind : Kind) (l u : Limit) → is_integer_column ([], record { kind = kind; lower = l; upper = u }) ≡ true
-    → is_semi_kind kind ≡ false
-integer-not_semi = grind arith
-
 abbrev AllowedCell : Listing → Cell → Type 0
 AllowedCell m cell = Each (Allowed m) (cell_decl true cell)
 
 -- a column of the integer block is not semi-continuous
-allowed-integers : (m : Listing) → IsSoundListing m → Each (AllowedCell m) (cells_of (map (group_in m) (filter is_integer_column m.columns)))
-allowed-integers m h = Each-flat_map _ _ _ (Each-map _ _ _ (Each-filter _ is_integer_column m.columns (Each-weaker _ _ one m.columns (own-columns m h))))
+allowed-integers : (m : Listing) → IsSoundListing m
+    → Each (AllowedCell m) (cells_of (map (group_in m) (filter is_integer_column m.columns)))
+allowed-integers m h = Each-flat_map _ _ _
+    (Each-map _ _ _ (Each-filter _ is_integer_column m.columns (Each-weaker _ _ one m.columns (own-columns m h))))
   where
     one : (column : List ℕ × Column) → IsOwnColumn m column → is_integer_column column ≡ true → Each (AllowedCell m) (cells_in m column)
-    one column k integer = let other = so_not _ (own-semi m h column k ∙ integer-not_semi column.1.kind column.1.lower column.1.upper integer) in
+    one column k integer = let other = so_not _ (own-semi m h column k ∙ grind (arith, integer)) in
         Each-map _ _ _ (Each-all _ (λ cell. (refl, (other, (refl, tt)))) _)
 
 abbrev is_semi_form : BoundForm → Bool
 is_semi_form semi_upper = true
 is_semi_form _ = false
 
-allowed-form : (m : Listing) (form : BoundForm) (x : List ℕ) (v : Number) → (is_semi_form form ≡ true → is_integer (drafted m) x ≡ false)
-    → Each (Allowed m) (decl_at form x v)
-allowed-form = grind arith
-
 allowed-line_text : (m : Listing) (name : List ℕ) (line_text : List PrintedBound)
     → Each (λ (b : PrintedBound). is_semi_form (form_of b.type) ≡ true → is_integer (drafted m) name ≡ false) line_text
     → Each (λ (b : Bound). Each (Allowed m) (bound_decl b)) (map (to_bound name) line_text)
 allowed-line_text m name [] h = tt
-allowed-line_text m name (bound ∷ line_text) h = (allowed-form m _ name _ h.0, allowed-line_text m name line_text h.1)
-
--- a bound that would declare an integer column semi-continuous is not printed
-abbrev HasNoSemi : PrintedBound → Type 0
-HasNoSemi bound = is_semi_form (form_of bound.type) ≡ false
-
-integer-plain : (l u : Limit) → Each HasNoSemi (printed_bounds Integer l u)
-integer-plain = grind arith
+allowed-line_text m name (bound ∷ line_text) h = ((grind (arith, h.0)), allowed-line_text m name line_text h.1)
 
 allowed-bounds : (m : Listing) → IsSoundListing m → (column : List ℕ × Column) → IsOwnColumn m column
     → Each (λ (b : Bound). Each (Allowed m) (bound_decl b)) (bounds_in column)
-allowed-bounds m h column k = allowed-line_text m column.0 _ (by column.1.kind column.1.lower column.1.upper (own-integer m h column k))
+allowed-bounds m h column k = allowed-line_text m column.0 _
+    (by column.1.kind column.1.lower column.1.upper (grind (arith, marked-at, integers-drafted, binaries-drafted, h, k)))
   where
-    silent : (b c : Bool) → b ≡ false → b ≡ true → c ≡ false
-    silent b c e f = cc
-
-    by : (kind : Kind) (l u : Limit) → is_integer (drafted m) column.0 ≡ is_integer_column ([], record { kind = kind; lower = l; upper = u }) → Each
+    by : (kind : Kind) (l u : Limit) → is_integer (drafted m) column.0
+        ≡ is_integer_column ([], record { kind = kind; lower = l; upper = u }) → Each
         (λ (b : PrintedBound). is_semi_form (form_of b.type) ≡ true → is_integer (drafted m) column.0 ≡ false) (printed_bounds kind l u)
     by = grind arith
 
-allowed-sense : (m : Listing) (s : Sense) → Each (Allowed m) (sense_decl s)
-allowed-sense = grind arith
-
 pub all-allowed : (m : Listing) → IsSoundListing m → list_all (is_allowed (drafted m)) (listed_decl m) ≡ true
 all-allowed m h = list_all-from_Each (is_allowed (drafted m)) (listed_decl m) (each-whole (Allowed m) (whole_of m) (record {
-  sense = allowed-sense m m.sense;
+  sense = (grind arith);
   objective = refl;
   rows = Each-all (λ (row : RowItem). Each (Allowed m) (row_decl row)) (λ row. (refl, tt)) (whole_of m).rows;
   plain = Each-all (λ (cell : Cell). Each (Allowed m) (cell_decl false cell)) (λ cell. (refl, (refl, tt))) (cells_of (whole_of m).plain);
@@ -672,9 +657,7 @@ all-allowed m h = list_all-from_Each (is_allowed (drafted m)) (listed_decl m) (e
 
 -- ---- the objective
 
-named-first : (name : List ℕ) (s : Sense) (more : Declarations) → list_any declares_objective (sense_decl s ++ (declare_objective name ∷ more)) ≡ true
-named-first = grind arith
-
 -- The canonical declarations of a well-formed listing are consistent, if no slot is filled twice.
-pub consistent-if_once : (m : Listing) → IsSoundListing m → are_distinct same_slot (all_slots (listed_decl m)) ≡ true → AreConsistent (listed_decl m)
-consistent-if_once = grind (arith, named-first, drafted, constant-drafted, all-known, all-allowed)
+pub consistent-if_once : (m : Listing) → IsSoundListing m → are_distinct same_slot (all_slots (listed_decl m)) ≡ true
+    → AreConsistent (listed_decl m)
+consistent-if_once = grind (arith, drafted, constant-drafted, all-known, all-allowed)

@@ -1,12 +1,12 @@
 -- The canonical text of a well-formed model declares it; the laws of MPS as a format of model files.
 use Rattle.mpslp_canonical_mps.proofs.Prelude
-use Prelude.{◌≡◌, sym, ◌∙◌, Some, Fault, DeclareOneModel, HaveOneFirstFault, ap, subst, [], map, list_all, LinearModel, IsSound, listing_of}
-use Prelude.{empty_draft, Means, AreConsistent, both_so, content_of, is_legal_line, read_lines, declarations_of, DeclaresMps}
-use Prelude.{are_well_formed, lines-declare, lines-good, canonical_mps, IsReadAsPrinted, DeclareTheirModels, DistinguishModels, arith, List}
-use Prelude.{ℕ, Option, None, NameAt, IsFirstMpsFault, model-or_fault}
-use Rattle.mpslp_canonical_mps.proofs.{DraftMaps.{sound-listing, listed_decl}, FilledOnce.filled-once}
-use Rattle.mpslp_canonical_mps.proofs.{ListedMeaning.{good-whole, consistent-if_once, draft-means}, WholeWalk.{whole_of, listed-items}}
-use Rattle.mpslp_canonical_mps.proofs.{WholeWalk.{whole_items, whole-walk}, PrintableLemmas.read-as-line_text, SectionWalks.Walk}
+use Prelude.{AreConsistent, DeclareOneModel, DeclareTheirModels, DeclaresMps, DistinguishModels, Fault, IsFirstMpsFault, IsReadAsPrinted}
+use Prelude.{IsSound, LinearModel, List, Means, NameAt, None, Option, [], ap, are_well_formed, arith, both_so, canonical_mps, content_of}
+use Prelude.{declarations_of, empty_draft, is_legal_line, lines-declare, lines-good, list_all, listing_of, map, model-or_fault, read_lines}
+use Prelude.{subst, sym, ℕ, ◌∙◌, ◌≡◌}
+use Rattle.mpslp_canonical_mps.proofs.{DraftMaps.{listed_decl, sound-listing}, FilledOnce.filled-once, ListedMeaning.consistent-if_once}
+use Rattle.mpslp_canonical_mps.proofs.{ListedMeaning.{draft-means, good-whole}, PrintableLemmas.read-as-line_text, SectionWalks.Walk}
+use Rattle.mpslp_canonical_mps.proofs.WholeWalk.{listed-items, whole-walk, whole_items, whole_of}
 
 -- ---- bytes declare at most one model, and have at most one first error. The canonical text of a well-formed model
 -- declares it
@@ -14,13 +14,8 @@ use Rattle.mpslp_canonical_mps.proofs.{WholeWalk.{whole_items, whole-walk}, Prin
 pub one-model : DeclareOneModel
 one-model = grind arith
 
-one-stated : (a b : Fault) → Some a ≡ Some b → a ≡ b
-one-stated a b e = cc
-
-pub one-fault : HaveOneFirstFault
-one-fault = grind arith
-
-pub canonical-walk : (m : LinearModel) → IsSound m → Walk [] empty_draft (whole_items (whole_of (listing_of m))) (listed_decl (listing_of m))
+pub canonical-walk : (m : LinearModel) → IsSound m
+    → Walk [] empty_draft (whole_items (whole_of (listing_of m))) (listed_decl (listing_of m))
 canonical-walk m sound = whole-walk _ (good-whole _ (sound-listing m sound))
 
 pub canonical-items : (m : LinearModel) → IsSound m → map content_of (read_lines (canonical_mps m)) ≡ whole_items (whole_of (listing_of m))
@@ -44,7 +39,8 @@ declares-if_consistent m sound consistent =
 
 -- The canonical text of a well-formed model declares it.
 pub canonical-declares : DeclareTheirModels
-canonical-declares m sound = declares-if_consistent m sound (consistent-if_once _ (sound-listing m sound) (filled-once _ (sound-listing m sound)))
+canonical-declares m sound = declares-if_consistent m sound
+    (consistent-if_once _ (sound-listing m sound) (filled-once _ (sound-listing m sound)))
 
 -- Well-formed models have the same canonical text if and only if they are equal.
 pub is-injective : DistinguishModels
@@ -78,4 +74,4 @@ no_fault = model-or_fault
 
 -- No bytes have two first errors.
 pub one_fault : (bytes : List ℕ) (fault other : Fault) → IsFirstMpsFault bytes fault → IsFirstMpsFault bytes other → fault ≡ other
-one_fault = one-fault
+one_fault = grind arith

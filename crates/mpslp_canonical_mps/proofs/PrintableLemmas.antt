@@ -1,25 +1,22 @@
 -- Canonical lines can be printed, and are read as they were printed.
 use Rattle.mpslp_canonical_mps.proofs.Prelude
-use Prelude.{◌≡◌, refl, ap, ◌∙◌, List, [], ◌∷◌, ◌++◌, length, ℕ, Bool, true, false, cond, map, arith, ◌<◌, ◌≤◌, ◌*◌, length-append}
-use Prelude.{nat_tests, append-nil, nat_lt, nat_le, ◌==◌, filter, codes, slice_split, list_all, flat_map, lines, is_visible, both_so, Each}
-use Prelude.{Each-weaker, Each-append, list_all-from_Each, Fields, skipped, header, data_line, header_of, content_of, fields, is_blank}
-use Prelude.{is_comment, outside_comment, is_legal_line, is_legal_byte, has_legal_length, MAX_LINE_LEN, IsPlain, lines-with_line_feeds}
-use Prelude.{PrintedLine, heading, short_line, long_line, fields_text, line_text, text_of, content_in, rules, sym, subst, suc, ◌+◌, take}
-use Prelude.{drop, ◌||◌, Ok, list_any, before_first, after_first, position_or_len, first_so, second_so, Number, IsDecimal, is_digit}
-use Prelude.{is_point, is_exponent_mark, without_sign, are_digits, exponent_part, is_literal, number_of, number_text, after-none}
-use Prelude.{number-text, read-short, nor, Each-from_list_all, ltb-true, leb-true, Option, Some, None, filter_map, option_map, Ordering}
-use Prelude.{find, zero_number, negated, is_mps_name, has_name_length, marker, is_lower_side, is_upper_side, are_sides}
-use Prelude.{has_bounded_distance, Sense, Kind, Limit, Finite, RowType, Each-map, Each-flat_map, Each-filter, LinearModel, Row, Column}
-use Prelude.{CoefficientKey, key_cmp, is_sound_row, is_sound_column, IsSound, Listing, listing_of, letter_of, opening_word, closing_word}
-use Prelude.{letters_of, Section, Name, Rows, Columns, Rhs, Ranges, Bounds, EndData, BoundType, printed_rhs, printed_range, PrintedBound}
-use Prelude.{printed_lower, printed_upper, printed_bounds, Lines, header_line, under_header, sense_lines, objective_line, row_line}
-use Prelude.{rows_section, coefficient_line, cell_at, column_coefficients, printed_coefficients, column_lines, is_integer_column}
-use Prelude.{is_plain_column, marker_line, integer_part, columns_section, vector_line, rhs_lines, row_rhs_lines, rhs_section, range_lines}
-use Prelude.{ranges_section, bound_line, column_bound_lines, bounds_section, listed_lines, canonical_lines, bounded_so, row_sides}
-use Prelude.{row_distance, column_sides, Each-all, begins, is_end, canonical_mps, AreReadAsPrinted}
+use Prelude.{AreReadAsPrinted, Bool, CoefficientKey, Column, Each, Each-all, Each-append, Each-filter, Each-flat_map, Each-from_list_all}
+use Prelude.{Each-map, Each-weaker, EndData, Fields, IsDecimal, IsPlain, IsSound, Kind, Limit, LinearModel, Lines, List, Listing, Name}
+use Prelude.{None, Number, Ok, Option, Ordering, PrintedBound, PrintedLine, Row, RowType, Section, Sense, Some, [], after-none, after_first}
+use Prelude.{ap, append-nil, are_digits, are_sides, arith, before_first, begins, both_so, bound_line, bounded_so, bounds_section}
+use Prelude.{canonical_lines, canonical_mps, cell_at, closing_word, codes, coefficient_line, column_bound_lines, column_coefficients}
+use Prelude.{column_lines, column_sides, columns_section, cond, content_in, content_of, drop, exponent_part, false, fields, fields_text}
+use Prelude.{filter, filter_map, find, first_so, flat_map, has_bounded_distance, has_name_length, header, header_line, heading}
+use Prelude.{integer_part, is_blank, is_comment, is_digit, is_end, is_exponent_mark, is_integer_column, is_legal_byte, is_legal_line}
+use Prelude.{is_literal, is_lower_side, is_mps_name, is_plain_column, is_point, is_sound_column, is_sound_row, is_upper_side, is_visible}
+use Prelude.{key_cmp, leb-true, length, length-append, letter_of, line_text, lines, lines-with_line_feeds, list_all, list_all-from_Each}
+use Prelude.{list_any, listed_lines, listing_of, long_line, ltb-true, map, marker, marker_line, nat_le, nat_lt, nat_tests, negated, nor}
+use Prelude.{number-text, number_of, number_text, objective_line, opening_word, option_map, outside_comment, position_or_len}
+use Prelude.{printed_bounds, printed_coefficients, printed_range, printed_rhs, range_lines, ranges_section, read-short, refl, rhs_lines}
+use Prelude.{rhs_section, row_distance, row_line, row_rhs_lines, row_sides, rows_section, rules, second_so, sense_lines, short_line}
+use Prelude.{slice_split, subst, suc, sym, take, text_of, true, under_header, vector_line, without_sign, ℕ, ◌*◌, ◌++◌, ◌+◌, ◌<◌, ◌==◌, ◌||◌}
+use Prelude.{◌∙◌, ◌∷◌, ◌≡◌, ◌≤◌}
 use Rattle.std.specs.Prelude.{not}
-
--- ---- printed lines are read back unchanged
 
 -- ---- fields
 
@@ -49,14 +46,8 @@ split-last (b ∷ bs) h = rw (h.0, split-last bs h.1) refl
 abbrev has_bytes : List ℕ → Bool
 has_bytes run = nat_lt 0 (length run)
 
-keep-word : (w : List ℕ) (more : Fields) → Word w → filter has_bytes (w ∷ more) ≡ w ∷ filter has_bytes more
-keep-word = grind arith
-
-fields-word : (w rest : List ℕ) → Word w → fields (w ++ 32 ∷ rest) ≡ w ∷ fields rest
-fields-word = grind (arith, split-word, solid, keep-word)
-
 fields-last : (w : List ℕ) → Word w → fields w ≡ w ∷ []
-fields-last = grind (arith, split-last, solid, keep-word)
+fields-last = grind (arith, split-last, solid)
 
 -- what is printed after the first field
 abbrev after_first_field : Fields → List ℕ
@@ -64,7 +55,7 @@ after_first_field ws = flat_map (λ w. codes "  " ++ w) ws
 
 fields-from : (w : List ℕ) (ws : Fields) → Word w → Each Word ws → fields (w ++ after_first_field ws) ≡ w ∷ ws
 fields-from w [] h k = ap fields (append-nil w) ∙ fields-last w h
-fields-from w (v ∷ vs) h k = fields-word w _ h ∙ ap (λ x. w ∷ x) (fields-from v vs k.0 k.1)
+fields-from w (v ∷ vs) h k = (grind (arith, split-word, solid, h)) ∙ ap (λ x. w ∷ x) (fields-from v vs k.0 k.1)
 
 pub fields-spaced : (ws : Fields) → Each Word ws → fields (fields_text ws) ≡ ws
 fields-spaced [] h = refl
@@ -83,7 +74,7 @@ pub record Words (ws : Fields) : Type 0 where
   pub each : Each Word ws
 
 not_blank_line : (ws : Fields) → Words ws → list_all is_blank (fields_text ws) ≡ false
-not_blank_line = grind (arith, arith, not_blank, solid)
+not_blank_line = grind (arith, not_blank, solid)
 
 abbrev begins_with_star : List ℕ → Bool
 begins_with_star [] = false
@@ -95,12 +86,8 @@ IsPrintable (heading keyword) = Word keyword × (begins_with_star keyword ≡ fa
 IsPrintable (short_line ws) = Words ws
 IsPrintable (long_line ws) = Words ws
 
-by_tests : (skip is : Bool) (w : List ℕ) → skip ≡ false → is ≡ false
-    → cond skip skipped (cond is (data_line (fields w)) (header_of (fields w))) ≡ header_of (fields w)
-by_tests skip is w p q = rw (p, q) refl
-
 heading_item : (w : List ℕ) → Word w → begins_with_star w ≡ false → content_of w ≡ header w []
-heading_item = grind (arith, arith, visible-solid, by_tests, fields-last)
+heading_item = grind (arith, visible-solid, fields-last)
 
 pub item-line_text : (l : PrintedLine) → IsPrintable l → content_of (line_text l) ≡ content_in l
 item-line_text = grind (arith, heading_item, not_blank_line, fields-spaced)
@@ -140,19 +127,13 @@ bytes-line_text l h = by (is_comment (line_text l))
 
 length-after : (ws : Fields) → Each Word ws → length (after_first_field ws) ≤ 257 * length ws
 length-after [] h = omega arith
-length-after (w ∷ ws) h = grind (arith, arith, length-append, length-after ws h.1)
+length-after (w ∷ ws) h = grind (arith, length-append, length-after ws h.1)
 
 length-spaced : (ws : Fields) → Each Word ws → length (fields_text ws) ≤ 257 * length ws
-length-spaced = grind (arith, arith, length-after, length-append)
-
-at_most : (n : ℕ) → n ≤ 2000 → nat_le n MAX_LINE_LEN ≡ true
-at_most = grind (arith, nat_tests)
-
-length-line_text : (l : PrintedLine) → IsPrintable l → has_legal_length (line_text l) ≡ true
-length-line_text = grind (arith, at_most, arith, length-spaced)
+length-spaced = grind (arith, length-after, length-append)
 
 pub legal-line_text : (l : PrintedLine) → IsPrintable l → is_legal_line (line_text l) ≡ true
-legal-line_text l h = both_so _ _ (length-line_text l h) (bytes-line_text l h)
+legal-line_text l h = both_so _ _ (grind (arith, length-spaced, h)) (bytes-line_text l h)
 
 -- ---- the text
 
@@ -264,17 +245,8 @@ words ws some few each = record { some = ltb-true 0 (length ws) some; few = leb-
 letter-word : (type : RowType) → Word (letter_of type)
 letter-word = grind arith
 
-letters-word : (type : BoundType) → Word (letters_of type)
-letters-word = grind arith
-
-header-printable : (section : Section) → IsPrintable (header_line section)
-header-printable = grind arith
-
 abbrev pub AllPrintable : Lines → Type 0
 AllPrintable lines = Each IsPrintable lines
-
-under-printable : (section : Section) (lines : Lines) → AllPrintable lines → AllPrintable (under_header section lines)
-under-printable = grind arith
 
 -- ---- values that are decimals
 
@@ -282,20 +254,14 @@ abbrev pub Holds : {X : Type 0} → (X → Type 0) → Option X → Type 0
 Holds P None = Unit {0}
 Holds P (Some x) = P x
 
-each-found : {K X : Type 0} (R : K → K → Ordering) (P : X → Type 0) (k : K) (es : List (K × X)) → Each (λ e. P e.1) es → Holds P (find R k es)
+each-found : {K X : Type 0} (R : K → K → Ordering) (P : X → Type 0) (k : K) (es : List (K × X)) → Each (λ e. P e.1) es
+    → Holds P (find R k es)
 each-found R P k [] h = tt
 each-found {K} {X} R P k (e ∷ es) h = grind (arith, each-found R P k es h.1)
 
 each-filter_map : {X Y : Type 0} (P : Y → Type 0) (f : X → Option Y) (xs : List X) → Each (λ x. Holds P (f x)) xs → Each P (filter_map f xs)
 each-filter_map P f [] h = tt
 each-filter_map {X} {Y} P f (x ∷ xs) h = grind (arith, each-filter_map P f xs h.1)
-
-zero-decimal : IsDecimal zero_number
-zero-decimal = refl
-
--- the finite limits or bounds of a row or column
-lower-decimal : (a : Number) → is_lower_side (Finite a) ≡ true → IsDecimal a
-lower-decimal a h = bounded_so a h
 
 pub side-decimal : (lower upper : Limit) → are_sides lower upper ≡ true → IsDecimal (printed_rhs lower upper)
 side-decimal = grind arith
@@ -307,9 +273,6 @@ pub negated-decimal : (d : Number) → IsDecimal d → IsDecimal (negated d)
 negated-decimal = grind arith
 
 -- ---- the lines of each section
-
-sense-printable : (sense : Sense) → AllPrintable (sense_lines sense)
-sense-printable = grind arith
 
 row-printable : (row : List ℕ × Row) → is_sound_row row ≡ true → IsPrintable (row_line row)
 row-printable = grind (arith, words, letter-word, name-word)
@@ -338,10 +301,6 @@ cell-found coefficients column row h w =
     by None k = tt
     by (Some d) k = (w, k)
 
-some-cell : (objective : List ℕ) (cells : List (List ℕ × Number)) → Word objective → Each IsCell cells
-    → Each IsCell (printed_coefficients objective cells)
-some-cell = grind arith
-
 -- what is needed of a listing
 pub record IsListed (m : Listing) : Type 0 where
   pub objective : is_mps_name m.objective ≡ true
@@ -356,13 +315,19 @@ row-name row h = name-word row.0 (first_so _ _ h)
 column-name : (column : List ℕ × Column) → is_sound_column column ≡ true → Word column.0
 column-name column h = name-word column.0 (first_so _ _ h)
 
-column-printable : (m : Listing) → IsListed m → (column : List ℕ × Column) → is_sound_column column ≡ true → AllPrintable (column_lines m column)
+column-printable : (m : Listing) → IsListed m → (column : List ℕ × Column) → is_sound_column column ≡ true
+    → AllPrintable (column_lines m column)
 column-printable m h column sound = let names : Each Word (m.objective ∷ map (λ row. row.0) m.rows)
-    = (name-word m.objective h.objective, Each-map Word (λ row. row.0) m.rows (Each-weaker (λ row. is_sound_row row ≡ true) (λ row. Word row.0) row-name m.rows h.rows)) in
+    = (
+      name-word m.objective h.objective,
+      Each-map Word (λ row. row.0) m.rows
+          (Each-weaker (λ row. is_sound_row row ≡ true) (λ row. Word row.0) row-name m.rows h.rows),
+    ) in
     let found = each-filter_map IsCell (cell_at m.coefficients column.0) (m.objective ∷ map (λ row. row.0) m.rows) (Each-weaker Word
-    (λ row. Holds IsCell (cell_at m.coefficients column.0 row)) (λ row w. cell-found m.coefficients column.0 row h.coefficients w) (m.objective ∷ map (λ row. row.0) m.rows) names) in
+    (λ row. Holds IsCell (cell_at m.coefficients column.0 row)) (λ row w. cell-found m.coefficients column.0 row h.coefficients w)
+    (m.objective ∷ map (λ row. row.0) m.rows) names) in
     cells-printable column.0 (printed_coefficients m.objective (column_coefficients m column.0)) (column-name column sound)
-    (some-cell m.objective (column_coefficients m column.0) (name-word m.objective h.objective) found)
+    (grind (arith, name-word m.objective h.objective, found))
 
 columns-printable : (m : Listing) → IsListed m → (columns : List (List ℕ × Column)) → Each (λ column. is_sound_column column ≡ true) columns
     → AllPrintable (flat_map (column_lines m) columns)
@@ -373,14 +338,17 @@ kept : (p : List ℕ × Column → Bool) (columns : List (List ℕ × Column)) �
 kept p columns h = Each-filter _ p columns (Each-weaker _ _ (λ column k _. k) columns h)
 
 opening-printable : IsPrintable (marker_line opening_word)
-opening-printable = words _ refl refl (code-word _ refl refl refl, (code-word marker refl refl refl, (code-word opening_word refl refl refl, tt)))
+opening-printable = words _ refl refl
+    (code-word _ refl refl refl, (code-word marker refl refl refl, (code-word opening_word refl refl refl, tt)))
 
 closing-printable : IsPrintable (marker_line closing_word)
-closing-printable = words _ refl refl (code-word _ refl refl refl, (code-word marker refl refl refl, (code-word closing_word refl refl refl, tt)))
+closing-printable = words _ refl refl
+    (code-word _ refl refl refl, (code-word marker refl refl refl, (code-word closing_word refl refl refl, tt)))
 
 part-printable : (lines : Lines) → AllPrintable lines → AllPrintable (integer_part lines)
 part-printable [] h = tt
-part-printable (line ∷ lines) h = (opening-printable, Each-append IsPrintable (line ∷ lines) (marker_line closing_word ∷ []) h (closing-printable, tt))
+part-printable (line ∷ lines) h =
+    (opening-printable, Each-append IsPrintable (line ∷ lines) (marker_line closing_word ∷ []) h (closing-printable, tt))
 
 side-printable : (row : List ℕ) (value : Number) → Word row → IsDecimal value → AllPrintable (rhs_lines row value)
 side-printable = grind (arith, value-printable, code-word)
@@ -397,18 +365,12 @@ range-printable = grind (arith, range-decimal, row_distance, value-printable, co
 abbrev IsBound : PrintedBound → Type 0
 IsBound bound = Holds IsDecimal bound.value
 
-lower-bounds : (kind : Kind) (lower : Limit) → is_lower_side lower ≡ true → Each IsBound (printed_lower lower)
-lower-bounds = grind arith
-
-upper-bounds : (kind : Kind) (upper : Limit) → is_upper_side upper ≡ true → Each IsBound (printed_upper kind upper)
-upper-bounds = grind arith
-
 all-bounds : (kind : Kind) (lower upper : Limit) → is_lower_side lower ≡ true → is_upper_side upper ≡ true
     → Each IsBound (printed_bounds kind lower upper)
-all-bounds = grind (arith, bounded_so, lower-bounds, upper-bounds)
+all-bounds = grind (arith, bounded_so)
 
 bound-printable : (column : List ℕ) (bound : PrintedBound) → Word column → IsBound bound → IsPrintable (bound_line column bound)
-bound-printable = grind (arith, words, letters-word, code-word, number-word)
+bound-printable = grind (arith, words, code-word, number-word)
 
 bounds-printable : (column : List ℕ × Column) → is_sound_column column ≡ true → AllPrintable (column_bound_lines column)
 bounds-printable column h = let lower = column.1.lower in let upper = column.1.upper in let sides = column_sides column h in
@@ -422,7 +384,7 @@ in-turn xs ys h k = Each-append IsPrintable xs ys h k
 
 rows-printable : (m : Listing) → IsListed m → AllPrintable (rows_section m)
 rows-printable m h = (
-  header-printable Rows,
+  (grind arith),
   (
     objective-printable m.objective h.objective,
     Each-map IsPrintable row_line m.rows (Each-weaker _ _ row-printable m.rows h.rows),
@@ -431,24 +393,26 @@ rows-printable m h = (
 
 columns_section-printable : (m : Listing) → IsListed m → AllPrintable (columns_section m)
 columns_section-printable m h = (
-  header-printable Columns,
+  (grind arith),
   in-turn _ _
       (columns-printable m h _ (kept is_plain_column m.columns h.columns))
       (part-printable _ (columns-printable m h _ (kept is_integer_column m.columns h.columns))),
 )
 
 rhs_values-printable : (m : Listing) → IsListed m → AllPrintable (rhs_section m)
-rhs_values-printable m h = under-printable Rhs (rhs_lines m.objective (negated m.constant) ++ flat_map row_rhs_lines m.rows)
-    (in-turn (rhs_lines m.objective (negated m.constant)) (flat_map row_rhs_lines m.rows) (side-printable m.objective (negated m.constant)
-    (name-word m.objective h.objective) (negated-decimal m.constant h.constant)) (Each-flat_map IsPrintable row_rhs_lines m.rows
-    (Each-weaker (λ row. is_sound_row row ≡ true) (λ row. AllPrintable (row_rhs_lines row)) row-side-printable m.rows h.rows)))
+rhs_values-printable m h = grind (
+  arith,
+  (in-turn (rhs_lines m.objective (negated m.constant)) (flat_map row_rhs_lines m.rows) (side-printable m.objective (negated m.constant)
+      (name-word m.objective h.objective) (negated-decimal m.constant h.constant)) (Each-flat_map IsPrintable row_rhs_lines m.rows
+      (Each-weaker (λ row. is_sound_row row ≡ true) (λ row. AllPrintable (row_rhs_lines row)) row-side-printable m.rows h.rows))),
+)
 
 ranges-printable : (m : Listing) → IsListed m → AllPrintable (ranges_section m)
-ranges-printable m h = under-printable Ranges _ (Each-flat_map IsPrintable range_lines m.rows (Each-weaker _ _ range-printable m.rows h.rows))
+ranges-printable m h = grind (arith, Each-flat_map IsPrintable range_lines m.rows (Each-weaker _ _ range-printable m.rows h.rows))
 
 bounds_section-printable : (m : Listing) → IsListed m → AllPrintable (bounds_section m)
 bounds_section-printable m h =
-    under-printable Bounds _ (Each-flat_map IsPrintable column_bound_lines m.columns (Each-weaker _ _ bounds-printable m.columns h.columns))
+    grind (arith, Each-flat_map IsPrintable column_bound_lines m.columns (Each-weaker _ _ bounds-printable m.columns h.columns))
 
 listed-printable : (m : Listing) → IsListed m → AllPrintable (listed_lines m)
 listed-printable m h =
@@ -458,13 +422,13 @@ listed-printable m h =
     let sides_on = rhs_section m ++ ranges_on in
     let columns_on = columns_section m ++ sides_on in
     let rows_on = rows_section m ++ columns_on in (
-      header-printable Name,
-      in-turn _ rows_on (sense-printable m.sense)
+      (grind arith),
+      in-turn _ rows_on (grind arith)
           (in-turn (rows_section m) columns_on (rows-printable m h)
           (in-turn (columns_section m) sides_on (columns_section-printable m h)
           (in-turn _ ranges_on (rhs_values-printable m h)
           (in-turn _ bounds_on (ranges-printable m h)
-          (in-turn _ ending (bounds_section-printable m h) (header-printable EndData, tt)))))),
+          (in-turn _ ending (bounds_section-printable m h) ((grind arith), tt)))))),
     )
 
 listed-from_sound : (m : LinearModel) → IsSound m → IsListed (listing_of m)
@@ -482,8 +446,6 @@ listed-from_sound m h =
 pub canonical-printable : (m : LinearModel) → IsSound m → AllPrintable (canonical_lines m)
 canonical-printable m h = listed-printable _ (listed-from_sound m h)
 
--- ---- the canonical text of a well-formed model is read line by line as it was printed, up to ENDATA, its last line
-
 -- ---- only the last line is ENDATA
 
 abbrev pub lines_before_end : Listing → Lines
@@ -496,9 +458,6 @@ lines-assoc (x ∷ xs) ys zs = ap (λ more. x ∷ more) (lines-assoc xs ys zs)
 
 regroup : (a b c d e f g : Lines) → (a ++ (b ++ (c ++ (d ++ (e ++ f))))) ++ g ≡ a ++ (b ++ (c ++ (d ++ (e ++ (f ++ g)))))
 regroup = grind (arith, lines-assoc)
-
-pub lines-end : (m : Listing) → listed_lines m ≡ lines_before_end m ++ header_line EndData ∷ []
-lines-end = search (rules, regroup)
 
 abbrev pub GoesOn : PrintedLine → Type 0
 GoesOn l = begins EndData (content_in l) ≡ false
@@ -541,16 +500,16 @@ before-go = grind (arith, in-turn_read, sense-go, mapped-go, columns-go, part-go
 
 -- ---- so all lines are read
 
-not_end : (l : PrintedLine) → IsPrintable l → GoesOn l → is_end (line_text l) ≡ false
-not_end = grind (arith, item-line_text)
-
 all-read : (ls : Lines) (last : PrintedLine) → Each IsPrintable ls → IsPrintable last → AllGoOn ls → begins EndData (content_in last) ≡ true
     → (take (suc (position_or_len is_end (map line_text (ls ++ last ∷ [])))) (map line_text (ls ++ last ∷ []))
     ≡ map line_text (ls ++ last ∷ [])) × (list_any is_end (map line_text (ls ++ last ∷ [])) ≡ true)
 all-read [] last h p g e = grind (arith, item-line_text)
-all-read (l ∷ ls) last h p g e = let more = all-read ls last h.1 p g.1 e in let here : is_end (line_text l) ≡ false = not_end l h.0 g.0 in
-    let next : (n : ℕ) → 1 + n ≡ suc n = λ n. omega arith in
-    (rw (here, next (position_or_len is_end (map line_text (ls ++ last ∷ [])))) (ap (λ (x : List (List ℕ)). line_text l ∷ x) more.0), rw here more.1)
+all-read (l ∷ ls) last h p g e = let more = all-read ls last h.1 p g.1 e in let here : is_end (line_text l) ≡ false =
+    grind (arith, item-line_text, h.0, g.0) in
+    let next : (n : ℕ) → 1 + n ≡ suc n = λ n. omega arith in (
+      rw (here, next (position_or_len is_end (map line_text (ls ++ last ∷ [])))) (ap (λ (x : List (List ℕ)). line_text l ∷ x) more.0),
+      rw here more.1,
+    )
 
 each-parts : (xs ys : Lines) → Each IsPrintable (xs ++ ys) → Each IsPrintable xs × Each IsPrintable ys
 each-parts [] ys h = (tt, h)
@@ -564,7 +523,7 @@ read-as-line_text m sound =
     let before = lines_before_end (listing_of m) in
     let ending : Lines = header_line EndData ∷ [] in
     let printable = canonical-printable m sound in
-    let whole : canonical_lines m ≡ before ++ ending = lines-end (listing_of m) in
+    let whole : canonical_lines m ≡ before ++ ending = search (rules, regroup) in
     let cut : lines (canonical_mps m) ≡ map line_text (canonical_lines m) = lines-text (canonical_lines m) printable in
     let parts = each-parts before ending (subst (λ (ls : Lines). Each IsPrintable ls) whole printable) in
     let read = all-read before (header_line EndData) parts.0 parts.1.0 (before-go (listing_of m)) refl in

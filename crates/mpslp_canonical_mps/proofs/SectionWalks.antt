@@ -1,18 +1,17 @@
 -- Printed lines of ROWS, COLUMNS, RHS and RANGES, and items one after another: what each declares, and that it is well-formed.
 use Rattle.mpslp_canonical_mps.proofs.Prelude
-use Prelude.{arith, ◌≡◌, refl, sym, ap, subst, ◌∙◌, List, [], ◌∷◌, ◌++◌, true, map, append_assoc, append-nil, flat_map, first_so, second_so}
-use Prelude.{Declarations, Draft, with_declarations, with_declarations-append, is_nonempty, both_so, LineContent, context_of, line_declares}
-use Prelude.{form_faults, declared_items, are_well_formed, subst₂, ℕ, false, Option, Some, is_none, Ok, Number, number_of, is_mps_name}
-use Prelude.{those_of, RowType, Each, Each-append, by_type, declare_row, declare_rhs, declare_range, is_free_row, itself_named, Fields}
-use Prelude.{data_line, letter_of, Section, Rows, Rhs, Ranges, Context, current_section, data_lines, fields_under, vector_set, first_set}
-use Prelude.{set_tests, current_section-push, data_lines-push, name_tests, limit_of, MinusInf, Finite, PlusInf, declare_lower}
-use Prelude.{declare_upper, declare_semi, letters_of, Bounds, bound_set, rules, Bool, cond, filter_map-append, None, ◌&&◌, codes}
-use Prelude.{filter_map, last_or, option_map_or, same_bytes, marker, when, both_false, declare_column, declare_marked, declare_coefficient}
-use Prelude.{has_column, has-put, opening_word, closing_word, Columns, marker_word, in_integer_part, line_column, last_column}
-use Prelude.{last_or-append, FaultTests}
+use Prelude.{Bool, Bounds, Columns, Context, Declarations, Draft, Each, Each-append, FaultTests, Fields, Finite, LineContent, List}
+use Prelude.{MinusInf, None, Number, Ok, Option, PlusInf, Ranges, Rhs, RowType, Rows, Section, Some, [], ap, append-nil, append_assoc}
+use Prelude.{are_well_formed, arith, both_false, both_so, bound_set, by_type, closing_word, codes, cond, context_of, current_section}
+use Prelude.{current_section-push, data_line, data_lines, data_lines-push, declare_coefficient, declare_column, declare_lower}
+use Prelude.{declare_marked, declare_range, declare_rhs, declare_row, declare_semi, declare_upper, declared_items, false, fields_under}
+use Prelude.{filter_map, filter_map-append, first_set, first_so, flat_map, form_faults, has-put, has_column, in_integer_part, is_free_row}
+use Prelude.{is_mps_name, is_none, is_nonempty, itself_named, last_column, last_or, last_or-append, letter_of, letters_of, limit_of}
+use Prelude.{line_declares, map, marker, marker_word, number_of, opening_word, option_map_or, refl, rules, same_bytes, second_so, set_tests}
+use Prelude.{subst, subst₂, sym, those_of, true, vector_set, when, with_declarations, with_declarations-append, ℕ, ◌&&◌, ◌++◌, ◌∙◌, ◌∷◌}
+use Prelude.{◌≡◌}
 use Rattle.std.specs.Prelude.{not}
 use Rattle.mpslp_mps_fields.specs.declared.bound_types.BoundType.TheVariants as bounds
-use Rattle.mpslp_types.specs.declared.faults.FaultKind.TheVariants as kinds
 
 -- ---- items one after another: what they declare, and that they are well-formed. Printed lines of ROWS, RHS and
 -- RANGES: what each declares, and that it is well-formed. Printed lines of BOUNDS: what each declares, and that it is
@@ -54,7 +53,8 @@ pub walk-append : (before : List LineContent) (earlier : Draft) (xs ys : List Li
 walk-append = grind (arith, declared_items-append, declared_items, good-append, are_well_formed)
 
 -- one more item of a section, and what holds after it
-pub record Step {X : Type 0} (item : X → LineContent) (decl : X → Declarations) (Inv : List X → List LineContent → Draft → Type 0) (x : X) (rest : List X) (before : List LineContent) (earlier : Draft) : Type 0 where
+pub record Step {X : Type 0} (item : X → LineContent) (decl : X → Declarations) (Inv : List X → List LineContent → Draft → Type 0) (x : X)
+    (rest : List X) (before : List LineContent) (earlier : Draft) : Type 0 where
   pub says : line_declares (context_of before) earlier (item x) ≡ decl x
   pub good : form_faults (context_of before) earlier (item x) ≡ []
   pub next : Inv rest (before ++ item x ∷ []) (with_declarations earlier (decl x))
@@ -74,9 +74,6 @@ section-walk item decl Inv step (x ∷ xs) before earlier h =
     )
 
 -- ---- fields without an error
-
-pub name-good : (name : List ℕ) → is_mps_name name ≡ true → those_of (name_tests name) ≡ []
-name-good = grind arith
 
 -- each line so far has this set name
 abbrev pub HaveSet : (Fields → Option (List ℕ)) → List ℕ → List Fields → Type 0
@@ -109,17 +106,9 @@ pub record InRows (rest : List RowItem) (before : List LineContent) (earlier : D
   pub objective : is_none earlier.objective ≡ false
   pub names : Each (λ (row : RowItem). is_mps_name row.0 ≡ true) rest
 
-pub row_says : (row : RowItem) (context : Context) (earlier : Draft) → context.section ≡ Some Rows → is_none earlier.objective ≡ false
-    → line_declares context earlier (row_item row) ≡ row_decl row
-row_says = grind arith
-
-pub row_good : (row : RowItem) (context : Context) (earlier : Draft) → context.section ≡ Some Rows → is_mps_name row.0 ≡ true
-    → form_faults context earlier (row_item row) ≡ []
-row_good = grind arith
-
 pub row_step : (row : RowItem) (rest : List RowItem) (before : List LineContent) (earlier : Draft) → InRows (row ∷ rest) before earlier
     → Step row_item row_decl InRows row rest before earlier
-row_step = grind (arith, row_says, row_good, stays)
+row_step = grind (arith, stays)
 
 -- ---- right-hand sides and ranges
 
@@ -264,12 +253,10 @@ pub record InBounds (set : List ℕ) (rest : List Bound) (before : List LineCont
   pub one_set : HaveSet bound_set set (data_lines Bounds before)
   pub good : Each GoodBound rest
 
-pub bound_says : (set : List ℕ) (t : BoundForm) (x text : List ℕ) (v : Number) (context : Context) (earlier : Draft) → context.section ≡ Some Bounds
+pub bound_says : (set : List ℕ) (t : BoundForm) (x text : List ℕ) (v : Number) (context : Context) (earlier : Draft)
+    → context.section ≡ Some Bounds
     → number_of text ≡ Ok v → limit_of v ≡ Finite v → line_declares context earlier (data_line (fields_at set t x text)) ≡ decl_at t x v
 bound_says = grind arith
-
-set_at : (set : List ℕ) (t : BoundForm) (x text : List ℕ) → bound_set (fields_at set t x text) ≡ Some set
-set_at = grind arith
 
 pub bound_good : (set : List ℕ) (t : BoundForm) (x text : List ℕ) (v : Number) (context : Context) (earlier : Draft)
     → context.section ≡ Some Bounds → number_of text ≡ Ok v → those_of (set_tests context.bounds_set set) ≡ []
@@ -286,7 +273,7 @@ bound_step set b rest before earlier h =
       next = record {
         section = stays Bounds (bound_fields set b) before h.section;
         one_set = rw (lines-push Bounds (bound_fields set b) before (Some Bounds) h.section)
-            (Each-append _ (data_lines Bounds before) (bound_fields set b ∷ []) h.one_set (set_at set b.form b.column b.text, tt));
+            (Each-append _ (data_lines Bounds before) (bound_fields set b ∷ []) h.one_set ((grind arith), tt));
         good = h.good.1;
       };
     }
@@ -367,14 +354,12 @@ opens_last words = option_map_or (same_bytes opening_word) (last_or None words) 
 
 part_kept : (cell : Cell) (before : List LineContent) → current_section before ≡ Some Columns → same_bytes cell.row marker ≡ false
     → in_integer_part (before ++ cell_item cell ∷ []) ≡ in_integer_part before
-part_kept cell before s h = ap opens_last (ap (filter_map marker_word) (cell_lines cell before s) ∙ words_kept cell (data_lines Columns before) h)
-
-cell_column : (cell : Cell) → same_bytes cell.row marker ≡ false → line_column (cell_fields cell) ≡ Some cell.column
-cell_column cell h = rw h refl
+part_kept cell before s h = ap opens_last (ap (filter_map marker_word) (cell_lines cell before s)
+    ∙ words_kept cell (data_lines Columns before) h)
 
 column_last : (cell : Cell) (before : List LineContent) → current_section before ≡ Some Columns → same_bytes cell.row marker ≡ false
     → last_column (before ++ cell_item cell ∷ []) ≡ Some cell.column
-column_last = grind (arith, cell_lines, last_push, cell_column)
+column_last = grind (arith, cell_lines, last_push)
 
 pub cell_step : (marked : Bool) (cell : Cell) (rest : List Cell) (before : List LineContent) (earlier : Draft)
     → InCells marked (cell ∷ rest) before earlier → Step cell_item (cell_decl marked) (InCells marked) cell rest before earlier
@@ -393,13 +378,10 @@ marker_lines : (opens : Bool) (before : List LineContent) → current_section be
     → data_lines Columns (before ++ data_line (marker_fields opens) ∷ []) ≡ data_lines Columns before ++ marker_fields opens ∷ []
 marker_lines opens before s = lines-push Columns _ before (Some Columns) s
 
-last_word : (opens : Bool) (lines : List Fields) → opens_last (filter_map marker_word (lines ++ marker_fields opens ∷ [])) ≡ opens
-last_word = grind (arith, filter_map-append, last_push)
-
 pub marker_part : (opens : Bool) (before : List LineContent) → current_section before ≡ Some Columns
     → in_integer_part (before ++ data_line (marker_fields opens) ∷ []) ≡ opens
 marker_part opens before s = ap (λ lines. opens_last (filter_map marker_word lines)) (marker_lines opens before s)
-    ∙ last_word opens (data_lines Columns before)
+    ∙ grind (arith, filter_map-append, last_push)
 
 -- after a marker line no column continues
 pub marker_last : (opens : Bool) (before : List LineContent) → current_section before ≡ Some Columns
@@ -425,10 +407,18 @@ goes_on = grind (arith, itself_named)
 
 -- after a line of a column more lines of it, and then lines that do not split a column after them
 pub unsplit_more : (marked : Bool) (column : List ℕ) (cells rest : List Cell) (earlier : Draft) → AreOf column cells → Unsplit marked
-    (Some column) (with_declarations earlier (flat_map (cell_decl marked) cells)) rest → Unsplit marked (Some column) earlier (cells ++ rest)
+    (Some column) (with_declarations earlier (flat_map (cell_decl marked) cells)) rest
+    → Unsplit marked (Some column) earlier (cells ++ rest)
 unsplit_more marked column [] rest earlier h more = more
 unsplit_more marked column (cell ∷ cells) rest earlier h more =
-    grind (arith, goes_on, with_declarations-append, unsplit_more marked column cells rest (with_declarations earlier (cell_decl marked cell)) h.1 (subst (λ (all : Draft). Unsplit marked (Some column) all rest) (with_declarations-append (cell_decl marked cell) (flat_map (cell_decl marked) cells) earlier) more))
+    grind (
+      arith,
+      goes_on,
+      with_declarations-append,
+      unsplit_more marked column cells rest
+          (with_declarations earlier (cell_decl marked cell)) h.1 (subst (λ (all : Draft). Unsplit marked (Some column) all rest)
+          (with_declarations-append (cell_decl marked cell) (flat_map (cell_decl marked) cells) earlier) more),
+    )
 
 -- a column and its cells
 abbrev pub Group : Type 0
@@ -450,16 +440,16 @@ AreApart (group ∷ groups) = Each (λ later. same_bytes later.0 group.0 ≡ fal
 abbrev pub AreAbsent : Draft → List Group → Type 0
 AreAbsent earlier groups = Each (λ group. has_column earlier group.0 ≡ false) groups
 
--- a cell declares only its own column
-cell-column : (marked : Bool) (cell : Cell) (earlier : Draft) (n : List ℕ) → same_bytes n cell.column ≡ false → has_column earlier n ≡ false
-    → has_column (with_declarations earlier (cell_decl marked cell)) n ≡ false
-cell-column = grind (arith, has-put, both_false)
-
 cells-column : (marked : Bool) (column : List ℕ) (cells : List Cell) (earlier : Draft) (n : List ℕ) → AreOf column cells → same_bytes n
     column ≡ false → has_column earlier n ≡ false → has_column (with_declarations earlier (flat_map (cell_decl marked) cells)) n ≡ false
 cells-column marked column [] earlier n own apart absent = absent
 cells-column marked column (cell ∷ cells) earlier n own apart absent =
-    grind (arith, with_declarations-append, cell-column, cells-column marked column cells (with_declarations earlier (cell_decl marked cell)) n own.1 apart (cell-column marked cell earlier n (ap (same_bytes n) own.0 ∙ apart) absent))
+    grind (
+      arith,
+      with_declarations-append,
+      cells-column marked column cells (with_declarations earlier (cell_decl marked cell)) n own.1
+          apart (grind (arith, has-put, both_false, (ap (same_bytes n) own.0 ∙ apart), absent)),
+    )
 
 still-absent : (marked : Bool) (column : List ℕ) (cells : List Cell) (earlier : Draft) (groups : List Group) → AreOf column cells
     → Each (λ (later : Group). same_bytes later.0 column ≡ false) groups → AreAbsent earlier groups
@@ -473,4 +463,10 @@ pub groups_unsplit : (marked : Bool) (groups : List Group) (last : Option (List 
     → AreApart groups → AreAbsent earlier groups → Unsplit marked last earlier (cells_of groups)
 groups_unsplit marked [] last earlier h apart absent = tt
 groups_unsplit marked (group ∷ groups) last earlier h apart absent =
-    grind (arith, unsplit_more, with_declarations-append, groups_unsplit marked groups (Some group.0) (with_declarations earlier (flat_map (cell_decl marked) group.1)) h.1 apart.1 (still-absent marked group.0 group.1 earlier groups h.0.own apart.0 absent.1))
+    grind (
+      arith,
+      unsplit_more,
+      with_declarations-append,
+      groups_unsplit marked groups (Some group.0) (with_declarations earlier
+          (flat_map (cell_decl marked) group.1)) h.1 apart.1 (still-absent marked group.0 group.1 earlier groups h.0.own apart.0 absent.1),
+    )

@@ -1,26 +1,25 @@
 -- What canonical text declares, section by section, and that its items are well-formed.
 use Rattle.mpslp_canonical_mps.proofs.Prelude
-use Prelude.{arith, ◌≡◌, refl, sym, ap, ◌∙◌, List, [], ◌∷◌, ◌++◌, Bool, true, false, map, Option, Some, None, is_some, is_none, ◌||◌, codes}
-use Prelude.{option_or, declare_sense, Draft, Maximize, nor, LineContent, header, data_line, keyword_of, section_of_header, section_named}
-use Prelude.{begins, is_section, Section, ObjSense, Columns, Context, context_of, current_section, fields_under, data_lines_after}
-use Prelude.{data_lines, is_read, word_due_after, word_due, has_section, line_declares, may_begin, is_out_of_order, form_faults}
-use Prelude.{current_section-push, has_section-append, has_section-cons, or_false, word_due-push, ℕ, cond, map-append, flat_map}
-use Prelude.{option_map_or, Number, is_zero, negated, zero_number, number_text, Row, Column, Listing, BoundType, content_in, printed_type}
-use Prelude.{printed_rhs, printed_range, PrintedBound, printed_bounds, Lines, under_header, row_line, coefficient_line, column_coefficients}
-use Prelude.{printed_coefficients, column_lines, rhs_lines, row_rhs_lines, range_lines, append_assoc, append-nil, Declarations, is_free_row}
-use Prelude.{Each, Rhs, Ranges, Bounds, EndData, data_lines-push, subst, is_mps_name, Sense, Minimize, Free, declare_objective, empty_draft}
-use Prelude.{with_declaration, with_declarations, letter_of, Name, Rows, objname, in_integer_part, last_column, objname-push, named-after}
-use Prelude.{filter, Kind, Limit, sense_lines, is_integer_column, is_plain_column, integer_part, columns_section, bound_line}
-use Prelude.{column_bound_lines, listed_lines, IsDecimal, number-text, same_bytes, marker, those_of, set_tests, DeriveHeaders, DeriveSense}
-use Prelude.{DeriveAllRows, DeriveAllColumns, is_set_of, DeriveRhs, DeriveRanges, DeriveAllBounds}
-use Rattle.mpslp_canonical_mps.proofs.SectionWalks.{Cell, cell_item, Group, cells_of, BoundForm, fixed, lower, upper, free, no_lower}
-use Rattle.mpslp_canonical_mps.proofs.SectionWalks.{no_upper, semi_upper, Bound, RowItem, row_item, Side, side_item, bound_item, bound_decl}
-use Rattle.mpslp_canonical_mps.proofs.SectionWalks.{GoodBound, InBounds, bound_step, Walk, section-walk, side_decl, range_decl, ReadsAs}
-use Rattle.mpslp_canonical_mps.proofs.SectionWalks.{InSides, side_step, InRanges, range_step, cell_decl, GoodCell, InCells, cell_step}
-use Rattle.mpslp_canonical_mps.proofs.SectionWalks.{Unsplit, marker_fields, marker_part, marker_last, marker_says, marker_good, IsGroup}
-use Rattle.mpslp_canonical_mps.proofs.SectionWalks.{AreApart, AreAbsent, groups_unsplit, walk-nil, walk-cons, walk-append, row_decl, InRows}
-use Rattle.mpslp_canonical_mps.proofs.SectionWalks.{row_step, stays, cell_says, cell_good, fields_at, decl_at, bound_says, bound_good}
-use Rattle.mpslp_canonical_mps.proofs.SectionWalks.{side_says, side_good, range_says, range_good}
+use Prelude.{Bool, BoundType, Bounds, Column, Columns, Context, Declarations, DeriveAllBounds, DeriveAllColumns, DeriveAllRows}
+use Prelude.{DeriveHeaders, DeriveRanges, DeriveRhs, DeriveSense, Draft, Each, EndData, Free, IsDecimal, LineContent, Lines, List, Listing}
+use Prelude.{Maximize, Minimize, Name, None, Number, ObjSense, Option, PrintedBound, Ranges, Rhs, Row, Rows, Section, Sense, Some, [], ap}
+use Prelude.{append-nil, append_assoc, arith, begins, codes, coefficient_line, column_bound_lines, column_coefficients, column_lines}
+use Prelude.{columns_section, cond, content_in, context_of, current_section, current_section-push, data_line, data_lines, data_lines-push}
+use Prelude.{data_lines_after, declare_objective, declare_sense, empty_draft, false, fields_under, filter, flat_map, form_faults}
+use Prelude.{has_section, has_section-append, has_section-cons, header, in_integer_part, integer_part, is_free_row, is_integer_column}
+use Prelude.{is_mps_name, is_none, is_plain_column, is_read, is_section, is_some, is_zero, keyword_of, last_column, letter_of}
+use Prelude.{line_declares, listed_lines, map, map-append, marker, may_begin, named-after, negated, nor, number-text, number_text, objname}
+use Prelude.{objname-push, option_map_or, option_or, or_false, printed_bounds, printed_coefficients, printed_range, printed_rhs}
+use Prelude.{printed_type, range_lines, refl, rhs_lines, row_line, row_rhs_lines, same_bytes, section_of_header, subst, sym, true}
+use Prelude.{with_declaration, with_declarations, word_due, word_due-push, word_due_after, zero_number, ℕ, ◌++◌, ◌||◌, ◌∙◌, ◌∷◌, ◌≡◌}
+use Rattle.mpslp_canonical_mps.proofs.SectionWalks.{AreAbsent, AreApart, Bound, BoundForm, Cell, GoodBound, GoodCell, Group, InBounds}
+use Rattle.mpslp_canonical_mps.proofs.SectionWalks.{InCells, InRanges, InRows, InSides, IsGroup, ReadsAs, RowItem, Side, Unsplit, Walk}
+use Rattle.mpslp_canonical_mps.proofs.SectionWalks.{bound_decl, bound_good, bound_item, bound_says, bound_step, cell_decl, cell_good}
+use Rattle.mpslp_canonical_mps.proofs.SectionWalks.{cell_item, cell_says, cell_step, cells_of, decl_at, fields_at, fixed, free}
+use Rattle.mpslp_canonical_mps.proofs.SectionWalks.{groups_unsplit, lower, marker_fields, marker_good, marker_last, marker_part}
+use Rattle.mpslp_canonical_mps.proofs.SectionWalks.{marker_says, no_lower, no_upper, range_decl, range_good, range_says, range_step}
+use Rattle.mpslp_canonical_mps.proofs.SectionWalks.{row_decl, row_item, row_step, section-walk, semi_upper, side_decl, side_good, side_item}
+use Rattle.mpslp_canonical_mps.proofs.SectionWalks.{side_says, side_step, stays, upper, walk-append, walk-cons, walk-nil}
 use Rattle.mpslp_mps_fields.specs.declared.bound_types.BoundType.TheVariants as bounds
 
 -- ---- headers: what each declares, that it is well-formed, and the context after it. The items that are read in
@@ -37,9 +36,6 @@ wants_word before = is_some (word_due before)
 abbrev pub header_item : Section → LineContent
 header_item section = header (keyword_of section) []
 
-section_named-keyword : (section : Section) → section_named (keyword_of section) ≡ Some section
-section_named-keyword = grind arith
-
 -- ---- a header where it is allowed
 
 -- OBJSENSE has its word or has not begun; the section has not begun, and may begin
@@ -47,9 +43,6 @@ pub record MayBegin (section : Section) (before : List LineContent) : Type 0 whe
   pub settled : wants_word before ≡ false
   pub fresh : has_section before section ≡ false
   pub begins : may_begin (context_of before) section ≡ true
-
-in-order : (section : Section) (before : List LineContent) → MayBegin section before → is_out_of_order (context_of before) section ≡ false
-in-order = grind arith
 
 pub header-good : (section : Section) (before : List LineContent) (earlier : Draft) → MayBegin section before → (is_section Columns
     (Some section) ≡ true → is_none earlier.objective ≡ false) → form_faults (context_of before) earlier (header_item section) ≡ []
@@ -61,24 +54,15 @@ pub header-says : (section : Section) (context : Context) (earlier : Draft) → 
 header-says = grind arith
 
 pub current-header : (section : Section) (before : List LineContent) → current_section (before ++ header_item section ∷ []) ≡ Some section
-current-header = grind (arith, current_section-push, section_named-keyword)
-
--- ---- the word of OBJSENSE, on a line of its own
-
-pub word-says : (context : Context) (earlier : Draft) → context.section ≡ Some ObjSense
-    → line_declares context earlier (data_line (codes "MAX" ∷ [])) ≡ declare_sense Maximize ∷ []
-word-says context earlier s = rw s refl
-
-pub word-good : (context : Context) (earlier : Draft) → context.section ≡ Some ObjSense → is_some context.word_due ≡ true
-    → form_faults context earlier (data_line (codes "MAX" ∷ [])) ≡ []
-word-good = grind arith
+current-header = grind (arith, current_section-push)
 
 -- ---- what has not begun
 
 -- lines that are not headers begin no section
 pub has_section-data : {X : Type 0} (section : Section) (item : X → LineContent) → ((x : X) → section_of_header (item x) ≡ None)
     → (xs : List X) (before : List LineContent) → has_section (before ++ map item xs) section ≡ has_section before section
-has_section-data section item none xs before = has_section-append section before _ ∙ ap (λ b. has_section before section || b) (all xs) ∙ or_false _
+has_section-data section item none xs before = has_section-append section before _ ∙ ap (λ b. has_section before section || b) (all xs)
+    ∙ or_false _
   where
     all : (ys : List _) → has_section (map item ys) section ≡ false
     all [] = refl
@@ -148,7 +132,8 @@ cells-grouped m (column ∷ columns) = grind (arith, cells-grouped m columns)
 
 pub column-items : (m : Listing) (columns : List (List ℕ × Column))
     → items_in (flat_map (column_lines m) columns) ≡ map cell_item (cells_of (map (group_in m) columns))
-column-items m columns = flat-items cell_item _ _ (λ column. cell-items column.0 _) columns ∙ ap (map cell_item) (sym (cells-grouped m columns))
+column-items m columns = flat-items cell_item _ _ (λ column. cell-items column.0 _) columns
+    ∙ ap (map cell_item) (sym (cells-grouped m columns))
 
 -- ---- right-hand sides and ranges
 
@@ -178,7 +163,8 @@ sides-items m = map-append content_in (rhs_lines m.objective (negated m.constant
 abbrev pub row_range : List ℕ × Row → List Side
 row_range row = option_map_or (λ value. to_side row.0 value ∷ []) (printed_range row.1.lower row.1.upper) []
 
-pub ranges-items : (rows : List (List ℕ × Row)) → items_in (flat_map range_lines rows) ≡ map (side_item (codes "RNG")) (flat_map row_range rows)
+pub ranges-items : (rows : List (List ℕ × Row))
+    → items_in (flat_map range_lines rows) ≡ map (side_item (codes "RNG")) (flat_map row_range rows)
 ranges-items rows = flat-items _ range_lines row_range one rows
   where
     one : (row : List ℕ × Row) → items_in (range_lines row) ≡ map (side_item (codes "RNG")) (row_range row)
@@ -201,21 +187,12 @@ value_in None = zero_number
 value_in (Some d) = d
 
 abbrev pub to_bound : List ℕ → PrintedBound → Bound
-to_bound column bound = record { form = form_of bound.type; column = column; text = number_text (value_in bound.value); value = value_in bound.value }
-
--- a value is printed for the types that take one; of the others only these three are printed
-abbrev pub is_fit : PrintedBound → Bool
-is_fit bound = fits bound.type bound.value
-  where
-    fits : BoundType → Option Number → Bool
-    fits bounds.Lower (Some d) = true
-    fits bounds.Upper (Some d) = true
-    fits bounds.Fixed (Some d) = true
-    fits bounds.SemiUpper (Some d) = true
-    fits bounds.Free None = true
-    fits bounds.NoLower None = true
-    fits bounds.NoUpper None = true
-    fits _ _ = false
+to_bound column bound = record {
+  form = form_of bound.type;
+  column = column;
+  text = number_text (value_in bound.value);
+  value = value_in bound.value;
+}
 
 abbrev pub bounds_in : List ℕ × Column → List Bound
 bounds_in column = map (to_bound column.0) (printed_bounds column.1.kind column.1.lower column.1.upper)
@@ -227,9 +204,6 @@ abbrev pub under : Section → List LineContent → List LineContent
 under section [] = []
 under section (item ∷ items) = header_item section ∷ item ∷ items
 
-pub under-items : (section : Section) (lines : Lines) → items_in (under_header section lines) ≡ under section (items_in lines)
-under-items = grind arith
-
 -- ---- after COLUMNS: the sections that are printed only if they have lines
 
 -- no word is missing, and COLUMNS has begun
@@ -238,28 +212,24 @@ pub record IsLate (before : List LineContent) (earlier : Draft) : Type 0 where
   pub columns : has_section before Columns ≡ true
   pub objective : is_none earlier.objective ≡ false
 
-or_true : (b : Bool) → (true || b) ≡ true
-or_true b = refl
-
 -- data lines leave no word missing
-pub data-settled : {X : Type 0} (item : X → LineContent) → ((x : X) → is_read (item x) ≡ true) → ((x : X) → is_bare (item x) ≡ false) → (xs : List X) (before : List LineContent)
-    → wants_word before ≡ false → wants_word (before ++ map item xs) ≡ false
+pub data-settled : {X : Type 0} (item : X → LineContent) → ((x : X) → is_read (item x) ≡ true) → ((x : X) → is_bare (item x) ≡ false)
+    → (xs : List X) (before : List LineContent) → wants_word before ≡ false → wants_word (before ++ map item xs) ≡ false
 data-settled item reads bare [] before h = ap wants_word (append-nil before) ∙ h
-data-settled item reads bare (x ∷ xs) before h = grind (arith, wants_word, append_assoc, settled-after, data-settled item reads bare xs (before ++ item x ∷ []) (settled-after before (item x) (reads x) (bare x)))
+data-settled item reads bare (x ∷ xs) before h = grind (
+  arith,
+  wants_word,
+  append_assoc,
+  settled-after,
+  data-settled item reads bare xs
+      (before ++ item x ∷ []) (settled-after before (item x) (reads x) (bare x)),
+)
 
 -- RHS, RANGES or BOUNDS
 pub record IsLateSection (section : Section) : Type 0 where
-  pub may_begin : (before : List LineContent) (earlier : Draft) → IsLate before earlier → has_section before section ≡ false → MayBegin section before
+  pub may_begin : (before : List LineContent) (earlier : Draft) → IsLate before earlier → has_section before section ≡ false
+      → MayBegin section before
   pub bare : is_bare (header_item section) ≡ false
-
-late-rhs : IsLateSection Rhs
-late-rhs = grind arith
-
-late-ranges : IsLateSection Ranges
-late-ranges = grind arith
-
-late-bounds : IsLateSection Bounds
-late-bounds = grind arith
 
 -- A section that is printed only if it has lines: its lines follow its header.
 under-walk : {X : Type 0} (section : Section) → IsLateSection section → (item : X → LineContent) (decl : X → Declarations) (xs : List X)
@@ -277,14 +247,14 @@ pub sides-walk : (set : List ℕ) (sides : List Side) (before : List LineContent
     → Walk before earlier (under Rhs (map (side_item set) sides)) (flat_map side_decl sides)
 sides-walk set sides before earlier h f texts bound = let there = before ++ header_item Rhs ∷ [] in let inside : InSides set sides there
     earlier = record { section = current-header Rhs before; one_set = rw (none-yet Rhs before refl f) tt; texts = texts; bound = bound } in
-    under-walk Rhs late-rhs _ side_decl sides before earlier h f
+    under-walk Rhs (grind arith) _ side_decl sides before earlier h f
     (section-walk (side_item set) side_decl (InSides set) (side_step set) sides there earlier inside).0
 
 pub ranges-walk : (set : List ℕ) (sides : List Side) (before : List LineContent) (earlier : Draft) → IsLate before earlier → has_section
     before Ranges ≡ false → Each ReadsAs sides → Walk before earlier (under Ranges (map (side_item set) sides)) (flat_map range_decl sides)
 ranges-walk set sides before earlier h f texts = let there = before ++ header_item Ranges ∷ [] in let inside : InRanges set sides there
     earlier = record { section = current-header Ranges before; one_set = rw (none-yet Ranges before refl f) tt; texts = texts } in
-    under-walk Ranges late-ranges _ range_decl sides before earlier h f
+    under-walk Ranges (grind arith) _ range_decl sides before earlier h f
     (section-walk (side_item set) range_decl (InRanges set) (range_step set) sides there earlier inside).0
 
 pub bounds-walk : (set : List ℕ) (bounds : List Bound) (before : List LineContent) (earlier : Draft) → IsLate before earlier
@@ -292,7 +262,7 @@ pub bounds-walk : (set : List ℕ) (bounds : List Bound) (before : List LineCont
     → Walk before earlier (under Bounds (map (bound_item set) bounds)) (flat_map bound_decl bounds)
 bounds-walk set bounds before earlier h f good = let there = before ++ header_item Bounds ∷ [] in let inside : InBounds set bounds there
     earlier = record { section = current-header Bounds before; one_set = rw (none-yet Bounds before refl f) tt; good = good } in
-    under-walk Bounds late-bounds _ bound_decl bounds before earlier h f
+    under-walk Bounds (grind arith) _ bound_decl bounds before earlier h f
     (section-walk (bound_item set) bound_decl (InBounds set) (bound_step set) bounds there earlier inside).0
 
 -- the end
@@ -312,17 +282,6 @@ abbrev pub sense_decl : Sense → Declarations
 sense_decl Minimize = []
 sense_decl Maximize = declare_sense Maximize ∷ []
 
-pub start-walk : (sense : Sense) → Walk [] empty_draft (header_item Name ∷ sense_items sense) (sense_decl sense)
-start-walk = grind arith
-
--- ROWS may come next
-pub rows-may : (sense : Sense) → MayBegin Rows (header_item Name ∷ sense_items sense)
-rows-may = grind arith
-
--- and there is no OBJNAME
-pub start-unnamed : (sense : Sense) → objname (header_item Name ∷ sense_items sense) ≡ None
-start-unnamed = grind arith
-
 -- ---- ROWS
 
 abbrev pub objective_item : List ℕ → LineContent
@@ -332,22 +291,23 @@ pub objective-says : (name : List ℕ) (context : Context) (earlier : Draft) →
     → context.objname ≡ None → line_declares context earlier (objective_item name) ≡ declare_objective name ∷ []
 objective-says = grind arith
 
-pub objective-good : (name : List ℕ) (context : Context) (earlier : Draft) → context.section ≡ Some Rows → is_mps_name name ≡ true
-    → form_faults context earlier (objective_item name) ≡ []
-objective-good = grind arith
-
 pub rows-walk : (name : List ℕ) (rows : List RowItem) (before : List LineContent) (earlier : Draft) → MayBegin Rows before → objname before
     ≡ None → is_none earlier.objective ≡ true → is_mps_name name ≡ true → Each (λ (row : RowItem). is_mps_name row.0 ≡ true) rows
     → Walk before earlier (header_item Rows ∷ objective_item name ∷ map row_item rows) (declare_objective name ∷ flat_map row_decl rows)
 rows-walk name rows before earlier may unnamed none legal names = let headed = before ++ header_item Rows ∷ [] in
     let section = current-header Rows before in let there = headed ++ objective_item name ∷ [] in
     let named = with_declaration earlier (declare_objective name) in
-    let inside : InRows rows there named = record { section = stays Rows (letter_of Free ∷ name ∷ []) headed section; objective = refl; names = names } in
+    let inside : InRows rows there named = record {
+      section = stays Rows (letter_of Free ∷ name ∷ []) headed section;
+      objective = refl;
+      names = names;
+    } in
     walk-cons before earlier (header_item Rows) (objective_item name ∷ map row_item rows) [] (declare_objective name
     ∷ flat_map row_decl rows) (header-says Rows (context_of before) earlier (λ e. cc)) (header-good Rows before earlier may (λ e. cc))
     (walk-cons headed earlier (objective_item name) (map row_item rows) (declare_objective name ∷ []) (flat_map row_decl rows)
-    (objective-says name (context_of headed) earlier section none (objname-push before (header_item Rows) ∙ ap (λ (o : Option (List ℕ)). option_or o None) unnamed))
-    (objective-good name (context_of headed) earlier section legal) (section-walk row_item row_decl InRows row_step rows there named inside).0)
+    (objective-says name (context_of headed) earlier section none (objname-push before (header_item Rows)
+    ∙ ap (λ (o : Option (List ℕ)). option_or o None) unnamed))
+    (grind (arith, section, legal)) (section-walk row_item row_decl InRows row_step rows there named inside).0)
 
 -- ---- COLUMNS
 
@@ -359,13 +319,11 @@ abbrev pub part_items : List Cell → List LineContent
 part_items [] = []
 part_items (cell ∷ cells) = marker_item true ∷ (map cell_item (cell ∷ cells) ++ marker_item false ∷ [])
 
-no-part : (before : List LineContent) → data_lines Columns before ≡ [] → in_integer_part before ≡ false
-no-part = grind arith
-
 no-column : (before : List LineContent) → data_lines Columns before ≡ [] → last_column before ≡ None
 no-column = grind arith
 
-part-walk : (cells : List Cell) (before : List LineContent) (earlier : Draft) → current_section before ≡ Some Columns → in_integer_part before ≡ false
+part-walk : (cells : List Cell) (before : List LineContent) (earlier : Draft) → current_section before ≡ Some Columns
+    → in_integer_part before ≡ false
     → Each GoodCell cells → Unsplit true None earlier cells → Walk before earlier (part_items cells) (flat_map (cell_decl true) cells)
 part-walk [] before earlier s p good unsplit = walk-nil before earlier
 part-walk (cell ∷ cells) before earlier s p good unsplit =
@@ -408,7 +366,7 @@ columns-walk plain integers before earlier may named h =
     let lines = none-yet Columns before refl may.fresh in
     let inside : InCells false (cells_of plain) headed earlier = record {
       section = current-header Columns before;
-      part = no-part headed lines;
+      part = (grind (arith, lines));
       good = h.plain_cells;
       unsplit = rw (no-column headed lines) (groups_unsplit false plain None earlier h.plain_groups h.plain_apart h.plain_absent);
     } in
@@ -422,8 +380,6 @@ columns-walk plain integers before earlier may named h =
     (flat_map (cell_decl false) (cells_of plain)) (flat_map (cell_decl true) (cells_of integers)) walked.0
     (part-walk (cells_of integers) after next walked.1.section walked.1.part h.integer_cells
     (groups_unsplit true integers None next h.integer_groups h.integers_apart h.integers_absent)))
-
--- ---- what canonical text declares, all sections one after another
 
 -- ---- what has begun, section by section
 
@@ -445,14 +401,8 @@ under-settled section item b reads bare [] before h = ap wants_word (append-nil 
 under-settled section item b reads bare (x ∷ xs) before h = ap wants_word (sym (append_assoc before _ (map item (x ∷ xs))))
     ∙ data-settled item reads bare (x ∷ xs) (before ++ header_item section ∷ []) (settled-after before _ refl b)
 
-not_none : (o : Option (List ℕ)) → is_some o ≡ true → is_none o ≡ false
-not_none = grind arith
-
-is_named : (o : Option (List ℕ)) → is_none o ≡ false → is_some o ≡ true
-is_named = grind arith
-
 still-named : (ds : Declarations) (all : Draft) → is_none all.objective ≡ false → is_none (with_declarations all ds).objective ≡ false
-still-named ds all h = not_none _ (named-after ds all (is_named all.objective h))
+still-named ds all h = grind (arith, named-after ds all (grind (arith, h)))
 
 -- a late section, and what holds after it
 late-after : {X : Type 0} (section : Section) (item : X → LineContent) (ds : Declarations) → is_bare (header_item section) ≡ false
@@ -496,8 +446,10 @@ late-walk l before earlier h f g b e good = let sides = under Rhs (map (side_ite
     let h1 = late-after Rhs _ (flat_map side_decl l.sides) refl (λ _. refl) (λ _. refl) l.sides before earlier h in
     let h2 = late-after Ranges _ (flat_map range_decl l.ranges) refl (λ _. refl) (λ _. refl) l.ranges first d1 h1 in
     let h3 = late-after Bounds _ (flat_map bound_decl l.bounds) refl (λ _. refl) (λ _. refl) l.bounds second d2 h2 in
-    let g1 = fresh-after Rhs Ranges _ (λ _. refl) refl l.sides before g in let b1 = fresh-after Rhs Bounds _ (λ _. refl) refl l.sides before b in
-    let b2 = fresh-after Ranges Bounds _ (λ _. refl) refl l.ranges first b1 in let e1 = fresh-after Rhs EndData _ (λ _. refl) refl l.sides before e in
+    let g1 = fresh-after Rhs Ranges _ (λ _. refl) refl l.sides before g in let b1 =
+    fresh-after Rhs Bounds _ (λ _. refl) refl l.sides before b in
+    let b2 = fresh-after Ranges Bounds _ (λ _. refl) refl l.ranges first b1 in let e1 =
+    fresh-after Rhs EndData _ (λ _. refl) refl l.sides before e in
     let e2 = fresh-after Ranges EndData _ (λ _. refl) refl l.ranges first e1 in
     let e3 = fresh-after Bounds EndData _ (λ _. refl) refl l.bounds second e2 in
     walk-append before earlier sides _ _ _ (sides-walk _ l.sides before earlier h f good.sides good.bound)
@@ -551,21 +503,16 @@ start-none : (section : Section) (sense : Sense) → begins section (header_item
     → has_section (start_items sense) section ≡ false
 start-none = grind arith
 
-no-objective : (sense : Sense) → is_none (with_declarations empty_draft (sense_decl sense)).objective ≡ true
-no-objective = grind arith
-
-rows-settled : (objective : List ℕ) (rows : List RowItem) (before : List LineContent) → wants_word (before ++ rows_items objective rows) ≡ false
+rows-settled : (objective : List ℕ) (rows : List RowItem) (before : List LineContent)
+    → wants_word (before ++ rows_items objective rows) ≡ false
 rows-settled objective rows before = ap wants_word (sym (append_assoc before _ (map row_item rows)))
     ∙ data-settled row_item (λ _. refl) (λ _. refl) rows (before ++ header_item Rows ∷ objective_item objective ∷ [])
     (ap wants_word (sym (append_assoc before (header_item Rows ∷ []) (objective_item objective ∷ [])))
     ∙ settled-after (before ++ header_item Rows ∷ []) (objective_item objective) refl refl)
 
-part-none : (section : Section) (cells : List Cell) → has_section (part_items cells) section ≡ false
-part-none = grind (arith, has_section-append, cell_item, marker_item, or_false, no-headers)
-
 columns-none : (section : Section) (plain integers : List Group) → begins section (header_item Columns) ≡ false
     → has_section (columns_items plain integers) section ≡ false
-columns-none = grind (arith, has_section-append, cell_item, cells_of, part_items, no-headers, part-none)
+columns-none = grind (arith, has_section-append, cell_item, cells_of, part_items, no-headers)
 
 part-settled : (cells : List Cell) (before : List LineContent) → wants_word before ≡ false → wants_word (before ++ part_items cells) ≡ false
 part-settled [] before h = ap wants_word (append-nil before) ∙ h
@@ -606,10 +553,10 @@ whole-walk w h =
     → begins s (header_item Rows) ≡ false → begins s (header_item Columns) ≡ false → has_section second s ≡ false =
     λ s n o r c. has_section-append s first columns ∙ (λ i. none s n o r i || columns-none s w.plain w.integers c i) in
     walk-append [] empty_draft start (rows ++ (columns ++ late_items w.late)) (sense_decl w.sense)
-    (rows_decl w.objective w.rows ++ (columns_decl w.plain w.integers ++ late_decl w.late)) (start-walk w.sense)
+    (rows_decl w.objective w.rows ++ (columns_decl w.plain w.integers ++ late_decl w.late)) (grind arith)
     (walk-append start d0 rows (columns ++ late_items w.late) (rows_decl w.objective w.rows)
     (columns_decl w.plain w.integers ++ late_decl w.late)
-    (rows-walk w.objective w.rows start d0 (rows-may w.sense) (start-unnamed w.sense) (no-objective w.sense) h.objective h.rows)
+    (rows-walk w.objective w.rows start d0 (grind arith) (grind arith) (grind arith) h.objective h.rows)
     (walk-append first d1 columns (late_items w.late) (columns_decl w.plain w.integers) (late_decl w.late)
     (columns-walk w.plain w.integers first d1 may named h.columns)
     (late-walk w.late second (draft_at_sides w) late (none_after Rhs refl refl refl refl) (none_after Ranges refl refl refl refl)
@@ -618,24 +565,11 @@ whole-walk w h =
     rows_none : (s : Section) → begins s (header_item Rows) ≡ false → has_section (rows_items w.objective w.rows) s ≡ false
     rows_none s r = rw r (no-headers s row_item (λ _. refl) w.rows)
 
--- ---- the items that are read in the canonical lines of a listing are those of all its sections
-
 -- ---- bounds
-
-abbrev AllFit : List PrintedBound → Type 0
-AllFit bs = Each (λ b. is_fit b ≡ true) bs
-
-fit-items : (column : List ℕ) (bs : List PrintedBound) → AllFit bs
-    → items_in (map (bound_line column) bs) ≡ map (bound_item (codes "BND")) (map (to_bound column) bs)
-fit-items column [] h = refl
-fit-items column (b ∷ bs) h = grind (arith, fit-items column bs h.1)
-
-bounds-fit : (kind : Kind) (lower upper : Limit) → AllFit (printed_bounds kind lower upper)
-bounds-fit = grind arith
 
 bounds-items : (columns : List (List ℕ × Column))
     → items_in (flat_map column_bound_lines columns) ≡ map (bound_item (codes "BND")) (flat_map bounds_in columns)
-bounds-items = grind (arith, flat-items, bound_item, bounds_in, fit-items, bounds-fit)
+bounds-items = grind (arith, flat-items, bound_item, bounds_in)
 
 -- ---- all sections
 
@@ -649,9 +583,6 @@ whole_of m = record {
   late = record { sides = sides_in m; ranges = flat_map row_range m.rows; bounds = flat_map bounds_in m.columns };
 }
 
-sense-items : (sense : Sense) → items_in (sense_lines sense) ≡ sense_items sense
-sense-items = grind arith
-
 part-items : (lines : Lines) (cells : List Cell) → items_in lines ≡ map cell_item cells → items_in (integer_part lines) ≡ part_items cells
 part-items = grind (arith, marker_item, map-append)
 
@@ -664,7 +595,7 @@ columns-items : (m : Listing) → items_in (columns_section m) ≡ header_item C
 columns-items = grind (arith, header_item, follow, column-items, part-items, cells_of)
 
 pub listed-items : (m : Listing) → items_in (listed_lines m) ≡ whole_items (whole_of m)
-listed-items = grind (arith, header_item, follow, sense-items, objective_item, row-items, columns-items, under-items, under, sides-items, ranges-items, bounds-items)
+listed-items = grind (arith, header_item, follow, objective_item, row-items, columns-items, under, sides-items, ranges-items, bounds-items)
 
 -- ---- each printed line declares what it was printed from, whatever the lines before it are
 
@@ -688,14 +619,26 @@ columns-derived = grind (arith, good-cell, cell_says, to_cell, cell_good, marker
 
 -- ---- right-hand sides, ranges and bounds
 
-set-derived : (first : Option (List ℕ)) (set : List ℕ) → is_set_of first set ≡ true → those_of (set_tests first set) ≡ []
-set-derived = grind arith
-
 pub rhs-derived : DeriveRhs
-rhs-derived = grind (arith, side_says, to_side, number-text, side_good, set-derived)
+rhs-derived = grind (arith, side_says, to_side, number-text, side_good)
 
 pub ranges-derived : DeriveRanges
-ranges-derived = grind (arith, range_says, to_side, number-text, range_good, set-derived)
+ranges-derived = grind (arith, range_says, to_side, number-text, range_good)
 
 pub bounds-derived : DeriveAllBounds
-bounds-derived = grind (arith, lower, upper, fixed, semi_upper, free, no_lower, no_upper, fields_at, decl_at, bound_says, number-text, form_faults, bound_good, set-derived)
+bounds-derived = grind (
+  arith,
+  lower,
+  upper,
+  fixed,
+  semi_upper,
+  free,
+  no_lower,
+  no_upper,
+  fields_at,
+  decl_at,
+  bound_says,
+  number-text,
+  form_faults,
+  bound_good,
+)

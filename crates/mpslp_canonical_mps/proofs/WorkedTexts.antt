@@ -1,11 +1,9 @@
 -- The canonical texts of worked files, by computation.
-use Rattle.mpslp_canonical_mps.proofs.Prelude
-use Prelude.{refl, codes, Each, lines}
-use Rattle.std.specs.{Fmt.digits, Prelude.{ℕ, List, ◌∷◌, [], take, drop, ◌++◌, map}}
+use Rattle.std.specs.{Fmt.digits, Prelude.{List, [], drop, map, take, ℕ, ◌++◌, ◌∷◌}}
 use Rattle.mpslp_decimal.specs.Decimal.{trailing_zeros}
 use Rattle.mpslp_mps.proofs.WorkedFiles.{text}
-use Rattle.mpslp_canonical_mps.proofs.DraftText.{IsPrinted, each-printed}
 use Prim.Native.String.{String}
+use Rattle.mpslp_canonical_mps.proofs.{DraftText.{IsPrinted, each-printed}, Prelude.{Each, codes, lines, refl}}
 use Rattle.mpslp_mps.proofs.WorkedFiles as files
 
 -- the lines of a text

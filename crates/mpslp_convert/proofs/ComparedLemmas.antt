@@ -1,26 +1,14 @@
 -- The state of a comparing sink, piece by piece.
-use Rattle.std.proofs.Common.{◌≡◌, ℕ, List, [], ◌∷◌, ◌++◌, length, take, drop, Bool, true, false, not, refl, sym, ap, ◌∙◌, subst, append_assoc, append-nil, arith}
-use Rattle.std.specs.Prelude.{◌≢◌, ◌==◌, nat_eq}
-use Rattle.std.specs.Bool.{Decides}
-use Rattle.std.specs.Cmp.Lexicographic.{pointwise, same_text, other_text}
-use Rattle.std.proofs.Math.Seq.{take-append_seam, drop-append_seam, take-length}
-use Rattle.std.proofs.lemmas.Bool.Decides.{Decides-eqb}
-use Rattle.std.proofs.lemmas.List.{append_cancel_left, length-append, take-append-drop}
+use Rattle.std.proofs.Common.{◌≡◌, ℕ, List, [], ◌∷◌, ◌++◌, length, take, drop, Bool, true, false, not, refl, sym, ap, ◌∙◌, subst}
+use Rattle.std.proofs.{Common.{append_assoc, append-nil, arith}, Math.Seq.{take-append_seam, drop-append_seam, take-length}}
+use Rattle.std.proofs.lemmas.{Bool.Decides.{Decides-eqb}, List.{append_cancel_left, length-append, take-append-drop}}
+use Rattle.std.specs.{Prelude.{◌≢◌, ◌==◌, nat_eq}, Bool.{Decides}, Cmp.Lexicographic.{pointwise, same_text, other_text}}
 use Rattle.mpslp_convert.specs.Compared.{IsFront, Compared}
-
--- nothing was written yet
-pub Compared-new : (wanted : List ℕ) → Compared false wanted (length wanted ∷ wanted)
-Compared-new wanted = record {
-  wanted = wanted;
-  written = [];
-  held_is = ap (λ l. length wanted ∷ l) (sym (append-nil wanted));
-  front = refl;
-}
 
 -- what is not a prefix stays so
 stays_other : (rest wanted written piece : List ℕ) → ((more : List ℕ) → wanted ≢ written ++ more)
     → (more : List ℕ) → wanted ≢ (written ++ piece) ++ more
-stays_other rest wanted written piece h = λ more e. h (piece ++ more) (e ∙ append_assoc written piece more)
+stays_other = grind (arith, append_assoc)
 
 -- the next piece is as expected
 IsFront-more : (differs : Bool) (rest wanted written piece : List ℕ) → pointwise nat_eq (take (length piece) rest) piece ≡ true
@@ -29,7 +17,7 @@ IsFront-more false rest wanted written piece same h =
     let piece_is : take (length piece) rest ≡ piece = same_text (take (length piece) rest) piece (sym same) in
     let parts : piece ++ drop (length piece) rest ≡ rest =
     ap (λ l. l ++ drop (length piece) rest) (sym piece_is) ∙ take-append-drop (length piece) rest in
-    h ∙ ap (λ l. written ++ l) (sym parts) ∙ sym (append_assoc written piece (drop (length piece) rest))
+    grind (arith, take-append-drop, append_assoc)
 IsFront-more true rest wanted written piece same h = stays_other rest wanted written piece h
 
 -- the next piece differs
@@ -43,7 +31,7 @@ IsFront-other true rest wanted written piece other h = stays_other rest wanted w
 -- one more piece was written
 more_held : (wanted written piece held : List ℕ) → held ≡ length wanted ∷ (wanted ++ written)
     → held ++ piece ≡ length wanted ∷ (wanted ++ (written ++ piece))
-more_held wanted written piece held e = ap (λ l. l ++ piece) e ∙ ap (λ l. length wanted ∷ l) (append_assoc wanted written piece)
+more_held = grind (arith, append_assoc)
 
 pub Compared-more : (differs : Bool) (rest held piece : List ℕ) → pointwise nat_eq (take (length piece) rest) piece ≡ true
     → Compared differs rest held → Compared differs (drop (length piece) rest) (held ++ piece)
@@ -66,32 +54,27 @@ Compared-other differs rest held piece other h = record {
 -- the same for a write that takes its whole piece
 pub took-more : (differs : Bool) (rest after held piece : List ℕ) → pointwise nat_eq (take (length piece) rest) piece ≡ true
     → after ≡ drop (length piece) rest → Compared differs rest held → Compared differs after (held ++ take (length piece) piece)
-took-more differs rest after held piece same left h =
-    subst (λ l. Compared differs after (held ++ l)) (sym (take-length piece))
-    (subst (λ l. Compared differs l (held ++ piece)) (sym left) (Compared-more differs rest held piece same h))
+took-more = grind (arith, take-length, Compared-more)
 
 pub took-other : (differs : Bool) (rest held piece : List ℕ) → pointwise nat_eq (take (length piece) rest) piece ≡ false
     → Compared differs rest held → Compared true rest (held ++ take (length piece) piece)
-took-other differs rest held piece other h =
-    subst (λ l. Compared true rest (held ++ l)) (sym (take-length piece)) (Compared-other differs rest held piece other h)
+took-other = grind (arith, take-length, Compared-other)
 
 -- two texts with the length of the first in front are equal only if both parts are
 front_of_stated : (a b : List ℕ) (n m : ℕ) (c d : List ℕ) → n ≡ length a → m ≡ length c → n ∷ (a ++ b) ≡ m ∷ (c ++ d) → a ≡ c
 front_of_stated a b n m c d is is' e =
     let same : take (length a) (a ++ b) ≡ take (length c) (c ++ d) = cc in
-    sym (take-append_seam a b) ∙ same ∙ take-append_seam c d
+    grind (arith, take-append_seam)
 
 rest_of_stated : (a b : List ℕ) (n m : ℕ) (c d : List ℕ) → n ≡ length a → m ≡ length c → n ∷ (a ++ b) ≡ m ∷ (c ++ d) → b ≡ d
 rest_of_stated a b n m c d is is' e =
     let same : drop (length a) (a ++ b) ≡ drop (length c) (c ++ d) = cc in
-    sym (drop-append_seam a b) ∙ same ∙ drop-append_seam c d
+    grind (arith, drop-append_seam)
 
 -- the state after the text was written
-pub front_of : (differs : Bool) (rest wanted text : List ℕ) → Compared differs rest (length wanted ∷ (wanted ++ text)) → IsFront differs rest wanted text
-front_of differs rest wanted text h =
-    let wanted_is : h.wanted ≡ wanted = sym (front_of_stated wanted text _ _ h.wanted h.written refl refl h.held_is) in
-    let written_is : h.written ≡ text = sym (rest_of_stated wanted text _ _ h.wanted h.written refl refl h.held_is) in
-    subst (λ l. IsFront differs rest l text) wanted_is (subst (λ l. IsFront differs rest h.wanted l) written_is h.front)
+pub front_of : (differs : Bool) (rest wanted text : List ℕ) → Compared differs rest (length wanted ∷ (wanted ++ text))
+    → IsFront differs rest wanted text
+front_of = grind (arith, front_of_stated, rest_of_stated)
 
 none_of : (rest : List ℕ) → length rest ≡ 0 → rest ≡ []
 none_of [] e = refl
@@ -101,7 +84,8 @@ none_of (byte ∷ rest) e = absurd (omega arith)
 pub stated_by_rest : (differs : Bool) (rest wanted text : List ℕ) (result : Bool) → differs ≡ false → result ≡ (length rest == 0)
     → Compared differs rest (length wanted ∷ (wanted ++ text)) → Decides result (wanted ≡ text)
 stated_by_rest differs rest wanted text result e is h =
-    let outcome : Compared false rest (length wanted ∷ (wanted ++ text)) = subst (λ d. Compared d rest (length wanted ∷ (wanted ++ text))) e h in
+    let outcome : Compared false rest (length wanted ∷ (wanted ++ text)) =
+    subst (λ d. Compared d rest (length wanted ∷ (wanted ++ text))) e h in
     let front : wanted ≡ text ++ rest = front_of false rest wanted text outcome in
     let test = Decides-eqb (length rest) 0 in
     subst (λ r. Decides r (wanted ≡ text)) (sym is) (
@@ -112,6 +96,7 @@ stated_by_rest differs rest wanted text result e is h =
 pub stated_other : (differs : Bool) (rest wanted text : List ℕ) → differs ≡ true → Compared differs rest (length wanted ∷ (wanted ++ text))
     → Decides (not differs) (wanted ≡ text)
 stated_other differs rest wanted text e h =
-    let outcome : Compared true rest (length wanted ∷ (wanted ++ text)) = subst (λ d. Compared d rest (length wanted ∷ (wanted ++ text))) e h in
+    let outcome : Compared true rest (length wanted ∷ (wanted ++ text)) =
+    subst (λ d. Compared d rest (length wanted ∷ (wanted ++ text))) e h in
     let other : (more : List ℕ) → wanted ≢ text ++ more = front_of true rest wanted text outcome in
     subst (λ d. Decides (not d) (wanted ≡ text)) (sym e) (λ yes. absurd (cc), λ same. absurd (other [] (same ∙ sym (append-nil text))))

@@ -9,7 +9,9 @@ ghost use Rattle.mpslp_output.specs.LinesAt.{lines_at};
 ghost use Rattle.mpslp_output.specs.Printing.{Puts};
 ghost use Rattle.mpslp_convert.specs.ShownText.{sense_line, objective_line, counts_line, row_text, rows_text, entry_text, entries_text, column_text, columns_text, shown_text};
 
-use crate::shown_words::{kind_word, put_count, put_limit, put_number, put_word, sense_word};
+use crate::shown_words::{
+    kind_word, put_shown_count, put_shown_limit, put_shown_number, put_shown_word, sense_word,
+};
 use mpslp_model::{Model, Sink, WriteFault};
 use mpslp_output::{Buffer, Output, put_each};
 
@@ -18,7 +20,7 @@ fn put_sense<W: Sink>(model: &Model, output: &mut Output<W>)
     ensures { Puts W.Sink output.old output.new (sense_line model.now) }
 {
     output.put(b"sense");
-    put_word(output, sense_word(model.objective_sense()));
+    put_shown_word(output, sense_word(model.objective_sense()));
     output.put(b"\n");
 }
 
@@ -27,11 +29,11 @@ fn put_objective<W: Sink>(model: &Model, output: &mut Output<W>)
     ensures { Puts W.Sink output.old output.new (objective_line model.now) }
 {
     output.put(b"objective");
-    put_word(output, model.objective_name().as_bytes());
+    put_shown_word(output, model.objective_name().as_bytes());
     output.put(b" constant");
-    put_number(output, model.objective_constant());
+    put_shown_number(output, model.objective_constant());
     output.put(b" offset");
-    put_number(output, model.objective_offset());
+    put_shown_number(output, model.objective_offset());
     output.put(b"\n");
 }
 
@@ -40,11 +42,11 @@ fn put_counts<W: Sink>(model: &Model, output: &mut Output<W>)
     ensures { Puts W.Sink output.old output.new (counts_line model.now) }
 {
     output.put(b"rows");
-    put_count(output, model.num_rows() as u128);
+    put_shown_count(output, model.num_rows() as u128);
     output.put(b" columns");
-    put_count(output, model.num_cols() as u128);
+    put_shown_count(output, model.num_cols() as u128);
     output.put(b" elements");
-    put_count(output, model.num_elements());
+    put_shown_count(output, model.num_elements());
     output.put(b"\n");
 }
 
@@ -57,15 +59,15 @@ fn put_row<W: Sink>(model: &Model, i: usize, output: &mut Output<W>)
     let lower = model.row_lower(i);
     let upper = model.row_upper(i);
     output.put(b"row");
-    put_count(output, i as u128);
-    put_word(output, model.row_name(i).as_bytes());
-    put_word(output, [letter].as_slice());
-    put_limit(output, &lower);
-    put_limit(output, &upper);
+    put_shown_count(output, i as u128);
+    put_shown_word(output, model.row_name(i).as_bytes());
+    put_shown_word(output, [letter].as_slice());
+    put_shown_limit(output, &lower);
+    put_shown_limit(output, &upper);
     output.put(b" rhs");
-    put_number(output, model.right_hand_side(i));
+    put_shown_number(output, model.right_hand_side(i));
     output.put(b" range");
-    put_number(output, model.row_range(i));
+    put_shown_number(output, model.row_range(i));
     output.put(b"\n");
 }
 
@@ -86,9 +88,9 @@ fn put_entry<W: Sink>(model: &Model, j: usize, k: usize, output: &mut Output<W>)
 {
     let (i, value) = model.entry(j, k);
     output.put(b"entry");
-    put_count(output, j as u128);
-    put_count(output, i as u128);
-    put_number(output, value);
+    put_shown_count(output, j as u128);
+    put_shown_count(output, i as u128);
+    put_shown_number(output, value);
     output.put(b"\n");
 }
 
@@ -110,13 +112,13 @@ fn put_column<W: Sink>(model: &Model, j: usize, output: &mut Output<W>)
     let lower = model.col_lower(j);
     let upper = model.col_upper(j);
     output.put(b"column");
-    put_count(output, j as u128);
-    put_word(output, model.column_name(j).as_bytes());
-    put_word(output, kind_word(model.column_kind(j)));
-    put_limit(output, &lower);
-    put_limit(output, &upper);
+    put_shown_count(output, j as u128);
+    put_shown_word(output, model.column_name(j).as_bytes());
+    put_shown_word(output, kind_word(model.column_kind(j)));
+    put_shown_limit(output, &lower);
+    put_shown_limit(output, &upper);
     output.put(b" objective");
-    put_number(output, model.objective_coefficient(j));
+    put_shown_number(output, model.objective_coefficient(j));
     output.put(b"\n");
     put_entries(model, j, output);
 }

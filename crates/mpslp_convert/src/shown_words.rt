@@ -10,7 +10,7 @@ use mpslp_model::{Kind, Limit, Sense, Sink};
 use mpslp_output::Output;
 
 /// Puts a space and a word.
-pub(crate) fn put_word<W: Sink>(output: &mut Output<W>, word: &[u8])
+pub(crate) fn put_shown_word<W: Sink>(output: &mut Output<W>, word: &[u8])
     ensures { Puts W.Sink output.old output.new (codes " " ++ word.now) }
 {
     output.put(b" ");
@@ -18,29 +18,29 @@ pub(crate) fn put_word<W: Sink>(output: &mut Output<W>, word: &[u8])
 }
 
 /// Puts a space and a count or an index.
-pub(crate) fn put_count<W: Sink>(output: &mut Output<W>, count: u128)
+pub(crate) fn put_shown_count<W: Sink>(output: &mut Output<W>, count: u128)
     ensures { Puts W.Sink output.old output.new (codes " " ++ decimal count) }
 {
     let mut digits = itoa::Buffer::new();
-    put_word(output, digits.format(count).as_bytes());
+    put_shown_word(output, digits.format(count).as_bytes());
 }
 
 /// Puts a space and a number.
-pub(crate) fn put_number<W: Sink>(output: &mut Output<W>, value: Decimal)
+pub(crate) fn put_shown_number<W: Sink>(output: &mut Output<W>, value: Decimal)
     ensures { Puts W.Sink output.old output.new (codes " " ++ number_text value) }
 {
     let mut text = DecimalText::new();
-    put_word(output, text.put(value));
+    put_shown_word(output, text.put(value));
 }
 
 /// Puts a space and a limit of a row or a bound of a column.
-pub(crate) fn put_limit<W: Sink>(output: &mut Output<W>, limit: &Limit)
+pub(crate) fn put_shown_limit<W: Sink>(output: &mut Output<W>, limit: &Limit)
     ensures { Puts W.Sink output.old output.new (codes " " ++ limit_text limit.now) }
 {
     match limit {
-        Limit::MinusInf => put_word(output, b"-inf"),
-        Limit::Finite(value) => put_number(output, *value),
-        Limit::PlusInf => put_word(output, b"inf"),
+        Limit::MinusInf => put_shown_word(output, b"-inf"),
+        Limit::Finite(value) => put_shown_number(output, *value),
+        Limit::PlusInf => put_shown_word(output, b"inf"),
     }
 }
 

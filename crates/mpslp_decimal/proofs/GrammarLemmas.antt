@@ -1,44 +1,45 @@
 -- A literal is its mantissa, read from the start, and an exponent part.
-use Rattle.std.proofs.Common.{rules}
-use Rattle.std.proofs.Common.{◌≡◌, refl, sym, ap, subst, ◌∙◌, List, [], ◌∷◌, ◌++◌, length, take, drop, ℕ, suc, Bool, true, false, cond, arith, ◌<◌, ◌≤◌, ◌+◌, append_assoc}
-use Rattle.std.specs.Prelude.{ℤ, pos, Option, Some, None, ◌&&◌, ◌||◌, not, nat_lt}
-use Rattle.std.specs.List.{list_all, list_any, prefix_len, position_or_len, before_first, after_first}
-use Rattle.std.proofs.lemmas.List.{append-nil}
-use Rattle.std.proofs.lemmas.Bool.Decides.{nat_tests}
-use Rattle.mpslp_decimal.specs.Literal.{is_digit, is_sign, is_point, is_exponent_mark, is_minus, without_sign, are_digits, digits_sum, unsigned_part, fraction_digits, mantissa_digits, exponent_part, is_literal}
-use Rattle.mpslp_decimal.specs.Scan.{digits_front, after_digits, after_point, fraction_front, mantissa_front, after_fraction, after_mantissa, exponent_of, exponent_after, capped_exponent, IsSignificandOf, zeros_of, IsScanOf}
-use Rattle.mpslp_decimal.specs.declared.literal.Scan.{Scan}
-use Rattle.mpslp_decimal.proofs.NumberTextLemmas.{are-digits}
-use Rattle.mpslp_decimal.proofs.CutLemmas.{Each, Each-weaker, Each-append, AreDigits, digit-no_mark, digit-no_point}
+use Rattle.std.proofs.Common.{Bool, List, [], ap, append_assoc, arith, cond, drop, false, get_or, length, length-append, length-drop}
+use Rattle.std.proofs.Common.{length-take, lit<, refl, rules, subst, suc, sym, take, true, ℕ, ◌*◌, ◌++◌, ◌+◌, ◌-◌, ◌<◌, ◌^◌, ◌∙◌, ◌∷◌, ◌≡◌}
+use Rattle.std.proofs.{Common.◌≤◌, Math.Nat.pow-le-pow_right, lemmas.{Bool.{ltb-false, ltb-true}, List.{append-nil, take_more}}}
+use Rattle.std.{proofs.lemmas.List.{Folds.list_all_more, Sums.{prefix_len-drop_yes, prefix_len-le-length}}, specs.List.after_first}
+use Rattle.std.specs.{List.{before_first, list_all, list_any, position_or_len, prefix_len}, Prelude.{None, Option, Some, min, nat_lt, not}}
+use Rattle.std.specs.Prelude.{pos, ℤ, ◌&&◌, ◌||◌}
+use Rattle.mpslp_decimal.proofs.{CutLemmas.{AreDigits, Each, Each-append, digits_sum-append, one_more}, NormalLemmas.pow_positive}
+use Rattle.mpslp_decimal.proofs.{NumberTextLemmas.{are-digits, no_mark-digits, no_point-digits}, SpellsLemmas.{digits_sum-small, pow-next}}
+use Rattle.mpslp_decimal.specs.Literal.{are_digits, digits_sum, exponent_part, is_digit, is_exponent_mark, is_literal, is_minus, is_point}
+use Rattle.mpslp_decimal.specs.{Literal.{unsigned_part, without_sign}, Scan.{IsScanOf, IsSignificandOf, after_digits, after_fraction}}
+use Rattle.mpslp_decimal.specs.Scan.{after_mantissa, after_point, capped_exponent, digits_front, exponent_after, exponent_of}
+use Rattle.mpslp_decimal.specs.{Scan.{fraction_front, mantissa_front, zeros_of}, declared.literal.{Scan.Scan, Significand.Significand}}
+use Rattle.mpslp_decimal.specs.declared.literal.Significand.TheVariants.{Short}
 
 -- ---- cuts after a prefix without a cut
 
-one_more : (n : ℕ) → 1 + n ≡ suc n
-one_more n = omega arith
-
-position-more : (p : ℕ → Bool) (front rest : List ℕ) → Each (λ b. p b ≡ false) front → position_or_len p (front ++ rest) ≡ length front + position_or_len p rest
-position-more p [] rest h = grind (arith, arith)
-position-more p (b ∷ bs) rest h = grind (arith, arith, position-more p bs rest h.1)
+position-more : (p : ℕ → Bool) (front rest : List ℕ) → Each (λ b. p b ≡ false) front
+    → position_or_len p (front ++ rest) ≡ length front + position_or_len p rest
+position-more p [] rest h = grind arith
+position-more p (b ∷ bs) rest h = grind (arith, position-more p bs rest h.1)
 
 take-more : (front rest : List ℕ) (k : ℕ) → take (length front + k) (front ++ rest) ≡ front ++ take k rest
-take-more [] rest k = grind (arith, arith)
-take-more (b ∷ bs) rest k = ap (λ (n : ℕ). take n (b ∷ bs ++ rest)) (suc_plus (length bs) k) ∙ ap (λ (x : List ℕ). b ∷ x) (take-more bs rest k)
+take-more [] rest k = grind arith
+take-more (b ∷ bs) rest k = ap (λ n. take n (b ∷ bs ++ rest)) (suc_plus _ k) ∙ ap (λ x. b ∷ x) (take-more bs rest k)
   where
     suc_plus : (n k : ℕ) → suc n + k ≡ suc (n + k)
     suc_plus n k = omega arith
 
 drop-more : (front rest : List ℕ) (k : ℕ) → drop (length front + k) (front ++ rest) ≡ drop k rest
-drop-more [] rest k = grind (arith, arith)
-drop-more (b ∷ bs) rest k = ap (λ (n : ℕ). drop n (b ∷ bs ++ rest)) (suc_plus (length bs) k) ∙ drop-more bs rest k
+drop-more [] rest k = grind arith
+drop-more (b ∷ bs) rest k = ap (λ n. drop n (b ∷ bs ++ rest)) (suc_plus _ k) ∙ drop-more bs rest k
   where
     suc_plus : (n k : ℕ) → suc n + k ≡ suc (n + k)
     suc_plus n k = omega arith
 
-pub before-more : (p : ℕ → Bool) (front rest : List ℕ) → Each (λ b. p b ≡ false) front → before_first p (front ++ rest) ≡ front ++ before_first p rest
-before-more p front rest h = ap (λ (n : ℕ). take n (front ++ rest)) (position-more p front rest h) ∙ take-more front rest (position_or_len p rest)
+pub before-more : (p : ℕ → Bool) (front rest : List ℕ) → Each (λ b. p b ≡ false) front
+    → before_first p (front ++ rest) ≡ front ++ before_first p rest
+before-more = grind (arith, position-more, take-more)
 
 pub after-more : (p : ℕ → Bool) (front rest : List ℕ) → Each (λ b. p b ≡ false) front → after_first p (front ++ rest) ≡ after_first p rest
-after-more p front rest h = grind (arith, position-more, drop-more, arith)
+after-more = grind (arith, position-more, drop-more)
 
 pub any-more : (p : ℕ → Bool) (front rest : List ℕ) → Each (λ b. p b ≡ false) front → list_any p (front ++ rest) ≡ list_any p rest
 any-more p [] rest h = refl
@@ -46,14 +47,11 @@ any-more p (b ∷ bs) rest h = rw (h.0, any-more p bs rest h.1) refl
 
 -- ---- a cut at the first byte
 
-drop_none : (xs : List ℕ) → drop 0 xs ≡ xs
-drop_none v0 = grind arith
-
 pub before-here : (p : ℕ → Bool) (x : ℕ) (xs : List ℕ) → p x ≡ true → before_first p (x ∷ xs) ≡ []
 before-here p x xs h = rw h refl
 
 pub after-here : (p : ℕ → Bool) (x : ℕ) (xs : List ℕ) → p x ≡ true → after_first p (x ∷ xs) ≡ xs
-after-here p x xs h = rw h (drop_none xs)
+after-here p x xs h = rw h (grind arith)
 
 pub any-here : (p : ℕ → Bool) (x : ℕ) (xs : List ℕ) → p x ≡ true → list_any p (x ∷ xs) ≡ true
 any-here p x xs h = rw h refl
@@ -80,7 +78,7 @@ record Front (text digits rest : List ℕ) : Type 0 where
 
 front-of : (text : List ℕ) → Front text (digits_front text) (after_digits text)
 front-of [] = record { whole = refl; digits_only = tt; stops = tt }
-front-of (x ∷ xs) = by (is_digit x) refl (front-of xs)
+front-of (x ∷ xs) = by _ refl (front-of xs)
   where
     taken : is_digit x ≡ true → digits_front (x ∷ xs) ≡ x ∷ digits_front xs
     taken e = rw (e, one_more (prefix_len is_digit xs)) refl
@@ -88,9 +86,10 @@ front-of (x ∷ xs) = by (is_digit x) refl (front-of xs)
     left : is_digit x ≡ true → after_digits (x ∷ xs) ≡ after_digits xs
     left e = rw (e, one_more (prefix_len is_digit xs)) refl
 
-    by : (b : Bool) → is_digit x ≡ b → Front xs (digits_front xs) (after_digits xs) → Front (x ∷ xs) (digits_front (x ∷ xs)) (after_digits (x ∷ xs))
+    by : (b : Bool) → is_digit x ≡ b → Front xs (digits_front xs) (after_digits xs)
+        → Front (x ∷ xs) (digits_front (x ∷ xs)) (after_digits (x ∷ xs))
     by true e f = record {
-      whole = ap (λ (t : List ℕ). x ∷ t) f.whole ∙ (λ i. sym (taken e) i ++ sym (left e) i);
+      whole = ap (λ t. x ∷ t) f.whole ∙ (λ i. sym (taken e) i ++ sym (left e) i);
       digits_only = subst AreDigits (sym (taken e)) (e, f.digits_only);
       stops = subst Stops (sym (left e)) f.stops;
     }
@@ -103,31 +102,13 @@ front-of (x ∷ xs) = by (is_digit x) refl (front-of xs)
 pub digits-whole : (text : List ℕ) → text ≡ digits_front text ++ after_digits text
 digits-whole text = (front-of text).whole
 
-pub digits-only : (text : List ℕ) → AreDigits (digits_front text)
-digits-only text = (front-of text).digits_only
-
 -- ---- the sign is separate
 
-sign-no_mark : (b : ℕ) → is_sign b ≡ true → is_exponent_mark b ≡ false
-sign-no_mark b h = grind (arith, nat_tests)
-
-point-no_mark : (b : ℕ) → is_point b ≡ true → is_exponent_mark b ≡ false
-point-no_mark b h = grind (arith, nat_tests)
-
-sign-off : (b : ℕ) (xs : List ℕ) → is_sign b ≡ true → without_sign (b ∷ xs) ≡ xs
-sign-off b xs h = rw h refl
-
-sign-none : (b : ℕ) (xs : List ℕ) → is_sign b ≡ false → without_sign (b ∷ xs) ≡ b ∷ xs
-sign-none b xs h = rw h refl
-
 unsigned-is : (text : List ℕ) → unsigned_part text ≡ before_first is_exponent_mark (without_sign text)
-unsigned-is v0 = grind arith
+unsigned-is = grind arith
 
 exponent-is : (text : List ℕ) → exponent_part text ≡ after_first is_exponent_mark (without_sign text)
-exponent-is v0 = grind arith
-
-marked-is : (text : List ℕ) → list_any is_exponent_mark text ≡ list_any is_exponent_mark (without_sign text)
-marked-is v0 = grind arith
+exponent-is = grind arith
 
 -- ---- the parts of a text without its sign
 
@@ -153,17 +134,11 @@ abbrev has_good_exponent : List ℕ → Bool
 has_good_exponent text = not (is_marked text) || are_digits (without_sign (after_mark text))
 
 -- after digits
-no_marks : (digits : List ℕ) → AreDigits digits → Each (λ b. is_exponent_mark b ≡ false) digits
-no_marks digits h = Each-weaker (λ b. is_digit b ≡ true) (λ b. is_exponent_mark b ≡ false) digit-no_mark digits h
-
-no_points : (digits : List ℕ) → AreDigits digits → Each (λ b. is_point b ≡ false) digits
-no_points digits h = Each-weaker (λ b. is_digit b ≡ true) (λ b. is_point b ≡ false) digit-no_point digits h
-
 whole-after : (digits rest : List ℕ) → AreDigits digits → whole_part (digits ++ rest) ≡ digits ++ whole_part rest
-whole-after digits rest h = grind (arith, before-more, no_marks, no_points)
+whole-after = grind (arith, before-more, no_mark-digits, no_point-digits)
 
 fraction-after : (digits rest : List ℕ) → AreDigits digits → fraction_part (digits ++ rest) ≡ fraction_part rest
-fraction-after digits rest h = grind (arith, before-more, no_marks, after-more, no_points)
+fraction-after = grind (arith, before-more, no_mark-digits, after-more, no_point-digits)
 
 -- what the parts of a text are
 record Parts (text whole fraction exponent : List ℕ) (marked : Bool) : Type 0 where
@@ -172,22 +147,18 @@ record Parts (text whole fraction exponent : List ℕ) (marked : Bool) : Type 0 
   exponent_is : after_mark text ≡ exponent
   marked_is : is_marked text ≡ marked
 
-parts-after : (digits rest whole fraction exponent : List ℕ) (marked : Bool) → AreDigits digits → Parts rest whole fraction exponent marked → Parts (digits ++ rest) (digits ++ whole) fraction exponent marked
-parts-after digits rest whole fraction exponent marked h p = grind (arith, whole-after, fraction-after, after-more, no_marks, any-more)
-
-parts-empty : Parts [] [] [] [] false
-parts-empty = record { whole_is = refl; fraction_is = refl; exponent_is = refl; marked_is = refl }
-
-parts-marked : (x : ℕ) (xs : List ℕ) → is_exponent_mark x ≡ true → Parts (x ∷ xs) [] [] xs true
-parts-marked x xs h = grind arith
+parts-after : (digits rest whole fraction exponent : List ℕ) (marked : Bool) → AreDigits digits → Parts rest whole fraction exponent marked
+    → Parts (digits ++ rest) (digits ++ whole) fraction exponent marked
+parts-after = grind (arith, whole-after, fraction-after, after-more, no_mark-digits, any-more)
 
 -- a point, and what follows it before the exponent part
-parts-pointed : (x : ℕ) (xs exponent : List ℕ) (marked : Bool) → is_point x ≡ true → after_mark xs ≡ exponent → is_marked xs ≡ marked → Parts (x ∷ xs) [] (before_exponent xs) exponent marked
-parts-pointed x xs exponent marked h e m = grind arith
+parts-pointed : (x : ℕ) (xs exponent : List ℕ) (marked : Bool) → is_point x ≡ true → after_mark xs ≡ exponent → is_marked xs ≡ marked
+    → Parts (x ∷ xs) [] (before_exponent xs) exponent marked
+parts-pointed = grind arith
 
 -- any other byte stays in the mantissa
 whole-other : (x : ℕ) (xs : List ℕ) → is_exponent_mark x ≡ false → is_point x ≡ false → whole_part (x ∷ xs) ≡ x ∷ whole_part xs
-whole-other x xs h k = ap (before_first is_point) (before-past is_exponent_mark x xs h) ∙ before-past is_point x (before_exponent xs) k
+whole-other = grind arith
 
 -- ---- a literal, part by part
 
@@ -195,31 +166,30 @@ abbrev is_number : List ℕ → Bool
 is_number text = are_digits (mantissa_part text) && has_good_exponent text
 
 is_literal-is : (text : List ℕ) → is_literal text ≡ is_number (without_sign text)
-is_literal-is text = grind (arith, unsigned-is, marked-is, exponent-is)
+is_literal-is = grind (arith, unsigned-is, exponent-is)
 
 -- The text without its sign is a number with this exponent, or not a number.
 abbrev Says : List ℕ → Option ℤ → Type 0
 Says text (Some exponent) =
-    (mantissa_part text ≡ mantissa_front text) × (fraction_part text ≡ fraction_front text) × (has_good_exponent text ≡ true) × (exponent ≡ capped_exponent (after_mark text))
+    (mantissa_part text ≡ mantissa_front text) × (fraction_part text ≡ fraction_front text) × (has_good_exponent text ≡ true) × (exponent
+    ≡ capped_exponent (after_mark text))
 Says text None = is_number text ≡ false
-
-and-false : (a : Bool) → (a && false) ≡ false
-and-false v0 = grind arith
 
 no_digits : (front back : List ℕ) (x : ℕ) → is_digit x ≡ false → list_all is_digit (front ++ x ∷ back) ≡ false
 no_digits [] back x h = rw h refl
-no_digits (b ∷ bs) back x h = rw (no_digits bs back x h) (and-false (is_digit b))
+no_digits (b ∷ bs) back x h = rw (no_digits bs back x h) (grind arith)
 
 no_number : (text front back : List ℕ) (x : ℕ) → is_digit x ≡ false → mantissa_part text ≡ front ++ x ∷ back → is_number text ≡ false
-no_number text front back x h e = grind (arith, no_digits, and-false)
+no_number = grind (arith, no_digits)
 
 -- the digits are read, and what follows them is an exponent part or not
-says-parts : (text whole fraction exponent : List ℕ) → Parts text whole fraction exponent true → whole ++ fraction ≡ mantissa_front text → fraction ≡ fraction_front text
-    → Says text (exponent_of exponent)
-says-parts text whole fraction exponent p m f = grind arith
+says-parts : (text whole fraction exponent : List ℕ) → Parts text whole fraction exponent true → whole ++ fraction ≡ mantissa_front text
+    → fraction ≡ fraction_front text → Says text (exponent_of exponent)
+says-parts = grind arith
 
-says-plain : (text whole fraction : List ℕ) → Parts text whole fraction [] false → whole ++ fraction ≡ mantissa_front text → fraction ≡ fraction_front text → Says text (Some (pos 0))
-says-plain text whole fraction p m f = grind arith
+says-plain : (text whole fraction : List ℕ) → Parts text whole fraction [] false → whole ++ fraction ≡ mantissa_front text
+    → fraction ≡ fraction_front text → Says text (Some (pos 0))
+says-plain = grind arith
 
 -- the whole text from its first digits and what follows them
 record Cut (text digits rest : List ℕ) : Type 0 where
@@ -231,35 +201,36 @@ record Cut (text digits rest : List ℕ) : Type 0 where
 cut-of : (text rest : List ℕ) → after_digits text ≡ rest → Cut text (digits_front text) rest
 cut-of text rest e =
     let f = front-of text in
-    record { whole = f.whole ∙ ap (λ (r : List ℕ). digits_front text ++ r) e; digits_only = f.digits_only; front = refl; after = e }
+    record { whole = f.whole ∙ ap (λ r. digits_front text ++ r) e; digits_only = f.digits_only; front = refl; after = e }
 
-parts-cut : (text digits rest whole fraction exponent : List ℕ) (marked : Bool) → Cut text digits rest → Parts rest whole fraction exponent marked → Parts text (digits ++ whole) fraction exponent marked
+parts-cut : (text digits rest whole fraction exponent : List ℕ) (marked : Bool) → Cut text digits rest
+    → Parts rest whole fraction exponent marked → Parts text (digits ++ whole) fraction exponent marked
 parts-cut text digits rest whole fraction exponent marked c p =
-    subst (λ (t : List ℕ). Parts t (digits ++ whole) fraction exponent marked) (sym c.whole) (parts-after digits rest whole fraction exponent marked c.digits_only p)
-
-other-cut : (text digits : List ℕ) (x : ℕ) (xs : List ℕ) → Cut text digits (x ∷ xs) → is_digit x ≡ false → is_exponent_mark x ≡ false → is_point x ≡ false → is_number text ≡ false
-other-cut text digits x xs c d m p = grind (arith, no_number, whole-after, whole-other, append_assoc)
+    subst (λ t. Parts t (digits ++ whole) fraction exponent marked) (sym c.whole)
+    (parts-after digits rest whole fraction exponent marked c.digits_only p)
 
 no_point-front : (text : List ℕ) (x : ℕ) (xs : List ℕ) → after_digits text ≡ x ∷ xs → is_point x ≡ false → fraction_front text ≡ []
-no_point-front text x xs e p = grind arith
+no_point-front = grind arith
 
 point-front : (text : List ℕ) (x : ℕ) (xs : List ℕ) → after_digits text ≡ x ∷ xs → is_point x ≡ true → fraction_front text ≡ digits_front xs
-point-front text x xs e p = grind arith
+point-front = grind arith
 
 -- after a point: the digits of the fraction, and what follows them
-pointed : (text : List ℕ) (x : ℕ) (xs rest : List ℕ) → after_digits text ≡ x ∷ xs → is_point x ≡ true → after_digits xs ≡ rest → Says text (exponent_after rest)
+pointed : (text : List ℕ) (x : ℕ) (xs rest : List ℕ) → after_digits text ≡ x ∷ xs → is_point x ≡ true → after_digits xs ≡ rest
+    → Says text (exponent_after rest)
 pointed text x xs [] e p f =
     let c = cut-of text (x ∷ xs) e in
     let d = cut-of xs [] f in
-    let inner : before_exponent xs ≡ digits_front xs = ap before_exponent d.whole ∙ before-more is_exponent_mark (digits_front xs) [] (no_marks (digits_front xs) d.digits_only) ∙ append-nil (digits_front xs) in
-    let following = parts-after (digits_front xs) [] [] [] [] false d.digits_only parts-empty in
-    let after : after_mark xs ≡ [] = ap after_mark d.whole ∙ following.exponent_is in
-    let marked : is_marked xs ≡ false = ap is_marked d.whole ∙ following.marked_is in
-    let parts = parts-cut text (digits_front text) (x ∷ xs) [] (before_exponent xs) [] false c (parts-pointed x xs [] false p after marked) in
+    let inner = ap before_exponent d.whole ∙ before-more is_exponent_mark _ [] (no_mark-digits (digits_front xs) d.digits_only)
+    ∙ append-nil _ in
+    let following = parts-after (digits_front xs) [] [] [] [] false d.digits_only (grind arith) in
+    let after = ap after_mark d.whole ∙ following.exponent_is in
+    let marked = ap is_marked d.whole ∙ following.marked_is in
+    let parts = parts-cut text _ (x ∷ xs) [] _ [] false c (parts-pointed x xs [] false p after marked) in
     let front = point-front text x xs e p in
-    says-plain text (digits_front text ++ []) (before_exponent xs) parts
+    says-plain text _ _ parts
     ((λ i. append-nil (digits_front text) i ++ (inner ∙ sym front) i)) (inner ∙ sym front)
-pointed text x xs (y ∷ ys) e p f = by (is_exponent_mark y) (is_digit y) refl refl
+pointed text x xs (y ∷ ys) e p f = by _ (is_digit y) refl refl
   where
     stop : is_digit y ≡ false
     stop = let s = (front-of xs).stops in subst Stops f s
@@ -268,25 +239,28 @@ pointed text x xs (y ∷ ys) e p f = by (is_exponent_mark y) (is_digit y) refl r
     by true d m is_d =
         let c = cut-of text (x ∷ xs) e in
         let k = cut-of xs (y ∷ ys) f in
-        let none : before_exponent (y ∷ ys) ≡ [] = before-here is_exponent_mark y ys m in
-        let inner : before_exponent xs ≡ digits_front xs = ap before_exponent k.whole ∙ before-more is_exponent_mark (digits_front xs) (y ∷ ys) (no_marks (digits_front xs) k.digits_only) ∙ ap (λ (t : List ℕ). digits_front xs ++ t) none ∙ append-nil (digits_front xs) in
-        let following = parts-after (digits_front xs) (y ∷ ys) [] [] ys true k.digits_only (parts-marked y ys m) in
-        let after : after_mark xs ≡ ys = ap after_mark k.whole ∙ following.exponent_is in
-        let marked : is_marked xs ≡ true = ap is_marked k.whole ∙ following.marked_is in
-        let parts = parts-cut text (digits_front text) (x ∷ xs) [] (before_exponent xs) ys true c (parts-pointed x xs ys true p after marked) in
+        let none = before-here is_exponent_mark y ys m in
+        let inner = ap before_exponent k.whole ∙ before-more is_exponent_mark _ (y ∷ ys) (no_mark-digits (digits_front xs) k.digits_only)
+        ∙ ap (λ (t : List ℕ). digits_front xs ++ t) none ∙ append-nil (digits_front xs) in
+        let following = parts-after (digits_front xs) (y ∷ ys) [] [] ys true k.digits_only (grind (arith, m)) in
+        let after = ap after_mark k.whole ∙ following.exponent_is in
+        let marked = ap is_marked k.whole ∙ following.marked_is in
+        let parts = parts-cut text _ (x ∷ xs) [] _ ys true c (parts-pointed x xs ys true p after marked) in
         let front = point-front text x xs e p in
-        says-parts text (digits_front text ++ []) (before_exponent xs) ys parts
+        says-parts text _ _ ys parts
         ((λ i. append-nil (digits_front text) i ++ (inner ∙ sym front) i)) (inner ∙ sym front)
     by false d m is_d =
         let c = cut-of text (x ∷ xs) e in
         let k = cut-of xs (y ∷ ys) f in
-        let inner : before_exponent xs ≡ digits_front xs ++ y ∷ before_exponent ys = ap before_exponent k.whole ∙ before-more is_exponent_mark (digits_front xs) (y ∷ ys) (no_marks (digits_front xs) k.digits_only) ∙ ap (λ (t : List ℕ). digits_front xs ++ t) (before-past is_exponent_mark y ys m) in
-        let parts = parts-cut text (digits_front text) (x ∷ xs) [] (before_exponent xs) (after_mark xs) (is_marked xs) c (parts-pointed x xs (after_mark xs) (is_marked xs) p refl refl) in
-        no_number text ((digits_front text ++ []) ++ digits_front xs) (before_exponent ys) y stop
-        ((λ i. parts.whole_is i ++ (parts.fraction_is ∙ inner) i) ∙ sym (append_assoc (digits_front text ++ []) (digits_front xs) (y ∷ before_exponent ys)))
+        let inner = ap before_exponent k.whole ∙ before-more is_exponent_mark _ (y ∷ ys) (no_mark-digits (digits_front xs) k.digits_only)
+        ∙ ap (λ (t : List ℕ). digits_front xs ++ t) (before-past is_exponent_mark y ys m) in
+        let parts = parts-cut text _ (x ∷ xs) [] _ (after_mark xs) (is_marked xs) c
+        (parts-pointed x xs (after_mark xs) (is_marked xs) p refl refl) in
+        no_number text _ _ y stop
+        ((λ i. parts.whole_is i ++ (parts.fraction_is ∙ inner) i) ∙ sym (append_assoc _ (digits_front xs) _))
 
 unpointed : (text : List ℕ) (x : ℕ) (xs : List ℕ) → after_digits text ≡ x ∷ xs → is_point x ≡ false → Says text (exponent_after (x ∷ xs))
-unpointed text x xs e p = by (is_exponent_mark x) refl
+unpointed text x xs e p = by _ refl
   where
     stop : is_digit x ≡ false
     stop = let s = (front-of text).stops in subst Stops e s
@@ -295,47 +269,179 @@ unpointed text x xs e p = by (is_exponent_mark x) refl
     by true m =
         let c = cut-of text (x ∷ xs) e in
         let front = no_point-front text x xs e p in
-        says-parts text (digits_front text ++ []) [] xs (parts-cut text (digits_front text) (x ∷ xs) [] [] xs true c (parts-marked x xs m))
+        says-parts text _ [] xs (parts-cut text _ (x ∷ xs) [] [] xs true c (grind (arith, m)))
         (λ i. append-nil (digits_front text) i ++ sym front i) (sym front)
-    by false m = other-cut text (digits_front text) x xs (cut-of text (x ∷ xs) e) stop m p
+    by false m = grind (arith, no_number, whole-after, whole-other, append_assoc, cut-of text (x ∷ xs) e, stop, m, p)
 
 -- the result for a text without its sign, read from the start
 pub says : (text : List ℕ) → Says text (exponent_after (after_mantissa text))
-says text = by (after_digits text) refl
+says text = by _ refl
   where
-    point : (b : Bool) (x : ℕ) (xs : List ℕ) → after_digits text ≡ x ∷ xs → is_point x ≡ b → Says text (exponent_after (cond b (after_digits xs) (x ∷ xs)))
-    point true x xs e p = pointed text x xs (after_digits xs) e p refl
-    point false x xs e p = unpointed text x xs e p
+    point : (b : Bool) (x : ℕ) (xs : List ℕ) → after_digits text ≡ x ∷ xs → is_point x ≡ b
+        → Says text (exponent_after (cond b (after_digits xs) (x ∷ xs)))
+    point = grind (arith, pointed, unpointed)
 
     by : (rest : List ℕ) → after_digits text ≡ rest → Says text (exponent_after (after_fraction rest))
     by [] e =
-        let none : fraction_front text ≡ [] = ap (λ (r : List ℕ). digits_front (after_point r)) e in
-        says-plain text (digits_front text ++ []) [] (parts-cut text (digits_front text) [] [] [] [] false (cut-of text [] e) parts-empty)
+        let none = ap (λ r. digits_front (after_point r)) e in
+        says-plain text _ [] (parts-cut text _ [] [] [] [] false (cut-of text [] e) (grind arith))
         (λ i. append-nil (digits_front text) i ++ sym none i) (sym none)
-    by (x ∷ xs) e = point (is_point x) x xs e refl
+    by (x ∷ xs) e = point _ x xs e refl
 
 -- ---- the result of a scan
 
-no_digits-number : (text : List ℕ) (exponent : Option ℤ) → Says text exponent → length (mantissa_front text) ≡ 0 → is_number text ≡ false
-no_digits-number text v1 says none = grind arith
-
 -- a text without digits before its exponent part is not a literal
-pub literal-no_digits : (text unsigned : List ℕ) (count : ℕ) → unsigned ≡ without_sign text → count ≡ length (mantissa_front unsigned) → count ≡ 0 → is_literal text ≡ false
+pub literal-no_digits : (text unsigned : List ℕ) (count : ℕ) → unsigned ≡ without_sign text → count ≡ length (mantissa_front unsigned)
+    → count ≡ 0 → is_literal text ≡ false
 literal-no_digits text unsigned count u c none =
-    is_literal-is text ∙ ap is_number (sym u) ∙ no_digits-number unsigned (exponent_after (after_mantissa unsigned)) (says unsigned) (sym c ∙ none)
+    is_literal-is text ∙ ap is_number (sym u) ∙ grind (arith, says unsigned, (sym c ∙ none))
 
 -- what follows the mantissa is not an exponent part
-pub literal-no_exponent : (text unsigned rest : List ℕ) → unsigned ≡ without_sign text → rest ≡ after_mantissa unsigned → exponent_after rest ≡ None → is_literal text ≡ false
-literal-no_exponent text unsigned rest u r none = grind (arith, is_literal-is, says)
+pub literal-no_exponent : (text unsigned rest : List ℕ) → unsigned ≡ without_sign text → rest ≡ after_mantissa unsigned
+    → exponent_after rest ≡ None → is_literal text ≡ false
+literal-no_exponent = grind (arith, is_literal-is, says)
 
 front_digits : (text : List ℕ) → AreDigits (mantissa_front text)
 front_digits text =
-    Each-append (λ b. is_digit b ≡ true) (digits_front text) (fraction_front text) (front-of text).digits_only (front-of (after_point (after_digits text))).digits_only
+    Each-append (λ b. is_digit b ≡ true) (digits_front text) (fraction_front text) (front-of text).digits_only
+    (front-of (after_point (after_digits text))).digits_only
 
-length-unsigned : (text unsigned : List ℕ) → unsigned ≡ without_sign text → length unsigned ≤ length text
-length-unsigned text unsigned u = grind arith
+pub scanned : (scan : Scan) (text unsigned rest : List ℕ) (exponent : ℤ) (count : ℕ) → unsigned ≡ without_sign text
+    → rest ≡ after_mantissa unsigned → exponent_after rest ≡ Some exponent
+    → IsSignificandOf scan.significand (digits_sum (mantissa_front unsigned)) → count ≡ length (mantissa_front unsigned) → 0 < count
+    → scan.places ≡ length (fraction_front unsigned)
+    → scan.exponent ≡ exponent → scan.is_negative ≡ is_minus text → count ≤ length unsigned → zeros_of scan.significand ≤ length unsigned
+    → scan.places ≤ length unsigned → IsScanOf scan text
+scanned = grind (arith, says, unsigned-is, exponent-is, are-digits, front_digits, is_literal-is)
 
-pub scanned : (scan : Scan) (text unsigned rest : List ℕ) (exponent : ℤ) (count : ℕ) → unsigned ≡ without_sign text → rest ≡ after_mantissa unsigned → exponent_after rest ≡ Some exponent
-    → IsSignificandOf scan.significand (digits_sum (mantissa_front unsigned)) → count ≡ length (mantissa_front unsigned) → 0 < count → scan.places ≡ length (fraction_front unsigned)
-    → scan.exponent ≡ exponent → scan.is_negative ≡ is_minus text → count ≤ length unsigned → zeros_of scan.significand ≤ length unsigned → scan.places ≤ length unsigned → IsScanOf scan text
-scanned scan text unsigned rest exponent count u r e s c some p x minus within zeros_within places_within = grind (arith, says, unsigned-is, exponent-is, length-unsigned, are-digits, front_digits, arith, is_literal-is)
+-- ---- The significand of digits before and after a point.
+
+-- before the first digit
+pub no-digits : IsSignificandOf (Short 0 0) 0
+no-digits = (record { value = refl; ends = λ h. absurd (omega arith) }, lit< tt)
+
+-- the digits before the point, read first
+pub first-digits : (text : List ℕ) (whole : Significand) → ((n : ℕ) → IsSignificandOf (Short 0 0) n
+    → IsSignificandOf whole (n * 10 ^ length (digits_front text) + digits_sum (digits_front text)))
+    → IsSignificandOf whole (digits_sum (digits_front text))
+first-digits text whole h = subst (IsSignificandOf whole) (omega arith) (h 0 no-digits)
+
+-- those after it, read after them
+pub all-digits : (text fraction : List ℕ) (whole result : Significand)
+    → ((n : ℕ) → IsSignificandOf (Short 0 0) n
+    → IsSignificandOf whole (n * 10 ^ length (digits_front text) + digits_sum (digits_front text)))
+    → ((n : ℕ) → IsSignificandOf whole n
+    → IsSignificandOf result (n * 10 ^ length (digits_front fraction) + digits_sum (digits_front fraction)))
+    → fraction_front text ≡ digits_front fraction → IsSignificandOf result (digits_sum (mantissa_front text))
+all-digits = grind (arith, digits_sum-append, first-digits)
+
+-- if there is no point
+pub only-digits : (text : List ℕ) (whole : Significand) → fraction_front text ≡ []
+    → ((n : ℕ) → IsSignificandOf (Short 0 0) n → IsSignificandOf whole
+    (n * 10 ^ length (digits_front text) + digits_sum (digits_front text))) → IsSignificandOf whole (digits_sum (mantissa_front text))
+only-digits = grind (arith, append-nil, first-digits)
+
+-- what follows the point, as the pattern of a slice cuts it
+pub fraction-cut : (text rest : List ℕ) → rest ≡ after_digits text → 1 ≤ length rest → get_or rest 0 0 ≡ 46
+    → fraction_front text ≡ digits_front (take (length rest - 1) (drop 1 rest))
+fraction-cut text rest e some point = ap (λ r. digits_front (after_point r)) (sym e) ∙ following rest some point
+  where
+    all : (xs : List ℕ) → take (length xs) xs ≡ xs
+    all [] = refl
+    all (x ∷ xs) = ap (λ t. x ∷ t) (all xs)
+
+    none : (xs : List ℕ) → drop 0 xs ≡ xs
+    none = grind arith
+
+    less_one : (n : ℕ) → suc n - 1 ≡ n
+    less_one n = omega arith
+
+    following : (r : List ℕ) → 1 ≤ length r → get_or r 0 0 ≡ 46
+        → digits_front (after_point r) ≡ digits_front (take (length r - 1) (drop 1 r))
+    following = grind (arith, less_one, none, all)
+
+-- no more zeros than bytes
+pub zeros-front : (text : List ℕ) (count : ℕ) → count ≤ 0 + prefix_len is_digit text → count ≤ length text
+zeros-front text count h = omega (arith, prefix_len-le-length is_digit text)
+
+pub zeros-after : (text rest : List ℕ) (whole count : ℕ) → rest ≡ after_digits text → 1 ≤ length rest → whole ≤ 0 + prefix_len is_digit text
+    → count ≤ whole + prefix_len is_digit (take (length rest - 1) (drop 1 rest)) → count ≤ length text
+zeros-after text rest whole count e some first more = search (rules, length-drop, prefix_len-le-length, arith)
+
+-- ---- The step of a loop over digits.
+
+-- the digits before the index and the one at it
+pub digits_sum-more : (xs : List ℕ) (i : ℕ) → i < length xs
+    → digits_sum (take (i + 1) xs) ≡ digits_sum (take i xs) * 10 + (get_or xs i 0 - 48)
+digits_sum-more xs i h =
+    ap digits_sum (take_more xs i 0 h) ∙ digits_sum-append (take i xs) _ ∙ omega arith
+
+pub count-more : (xs : List ℕ) (i : ℕ) → i < length xs → is_digit (get_or xs i 0) ≡ true
+    → i + prefix_len is_digit (drop i xs) ≡ prefix_len is_digit xs → i + 1 + prefix_len is_digit (drop (i + 1) xs) ≡ prefix_len is_digit xs
+count-more = grind (arith, prefix_len-drop_yes)
+
+regroup : (n p s d : ℕ) → (n * p + s) * 10 + d ≡ n * (p * 10) + (s * 10 + d)
+regroup = grind arith
+
+pub value-more : (xs : List ℕ) (i n : ℕ) → i < length xs
+    → (n * 10 ^ i + digits_sum (take i xs)) * 10 + (get_or xs i 0 - 48) ≡ n * 10 ^ (i + 1) + digits_sum (take (i + 1) xs)
+value-more xs i n h = search (rules, regroup, pow-next, digits_sum-more)
+
+pub all-more : (xs : List ℕ) (i : ℕ) → i < length xs → list_all is_digit (take i xs) ≡ true → is_digit (get_or xs i 0) ≡ true
+    → list_all is_digit (take (i + 1) xs) ≡ true
+all-more xs i h before here = list_all_more is_digit xs i 0 h ∙ (λ j. before j && here j)
+
+pub capped-digit : (xs : List ℕ) (i size d result cap : ℕ) → i < length xs → size ≡ min (digits_sum (take i xs)) cap
+    → d ≡ get_or xs i 0 - 48 → result ≡ min (size * 10 + d) cap → result ≡ min (digits_sum (take (i + 1) xs)) cap
+capped-digit = grind (arith, digits_sum-more)
+
+-- ---- The significand of a mantissa that was read as one number.
+
+none : (p s : ℕ) → 0 * p + s ≡ s
+none p s = omega arith
+
+-- the number of the digits before the point and of those after it
+pub all-number : (text fraction : List ℕ) (whole number : ℕ) → whole ≡ 0 * 10 ^ length (digits_front text) + digits_sum (digits_front text)
+    → number ≡ whole * 10 ^ length (digits_front fraction) + digits_sum (digits_front fraction)
+    → fraction_front text ≡ digits_front fraction → number ≡ digits_sum (mantissa_front text)
+all-number = grind (arith, none, digits_sum-append)
+
+-- if there is no point
+pub only-number : (text : List ℕ) (whole : ℕ) → whole ≡ 0 * 10 ^ length (digits_front text) + digits_sum (digits_front text)
+    → fraction_front text ≡ [] → whole ≡ digits_sum (mantissa_front text)
+only-number = grind (arith, none, append-nil)
+
+digits-within : (text : List ℕ) → length (digits_front text) ≤ length text
+digits-within text = omega (arith, length-take (prefix_len is_digit text) text)
+
+point-within : (text : List ℕ) → length (after_point text) ≤ length text
+point-within = grind arith
+
+within : (text : List ℕ) → length (mantissa_front text) ≤ length text
+within text =
+    let whole = ap length (digits-whole text) ∙ length-append (digits_front text) _ in
+    omega (
+      arith,
+      whole,
+      length-append (digits_front text) (fraction_front text),
+      point-within (after_digits text),
+      digits-within
+          (after_point (after_digits text)),
+    )
+
+few : (zeros n len : ℕ) → 10 ^ zeros ≤ n + 1 → n < 10 ^ len → zeros ≤ len
+few zeros n len h small = by _ refl
+  where
+    by : (b : Bool) → nat_lt len zeros ≡ b → zeros ≤ len
+    by false e = ltb-false len zeros e
+    by true e =
+        let more : len + 1 ≤ zeros = (let l = ltb-true len zeros e in omega (arith, l)) in
+        let p : 10 ^ (len + 1) ≤ 10 ^ zeros = pow-le-pow_right (lit< tt) more in
+        let q = pow-next len in
+        let some = pow_positive len in
+        absurd (omega (arith, h, small, p, q, some))
+
+-- no more zeros than bytes
+pub short-zeros : (text : List ℕ) (significand : Significand) (number : ℕ) → number ≡ digits_sum (mantissa_front text)
+    → 10 ^ zeros_of significand ≤ number + 1 → zeros_of significand ≤ length text
+short-zeros = grind (arith, digits_sum-small, front_digits, few, within)

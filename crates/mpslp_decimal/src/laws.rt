@@ -18,7 +18,7 @@ pub fn each_value_is_a_decimal(value: Decimal)
 }
 
 /// Decimals with the same value have the same mantissa and exponent.
-pub fn one_form()
+pub fn one_form_of_a_decimal()
     ensures { (a b : Number) → IsDecimal a → IsDecimal b → HasSameValue a b → a ≡ b }
 {}
 
@@ -40,23 +40,23 @@ pub fn exponents_are_judged_by_value()
 {}
 
 /// The canonical text of a decimal is a literal that is read as this decimal.
-pub fn text_is_read_back()
+pub fn decimal_text_is_read_back()
     ensures { (d : Number) → IsDecimal d → number_of (number_text d) ≡ Ok d }
 {}
 
 /// Decimals with the same text are equal.
-pub fn one_text()
+pub fn one_text_of_a_decimal()
     ensures { (a b : Number) → IsDecimal a → IsDecimal b → number_text a ≡ number_text b → a ≡ b }
 {}
 
 /// A decimal is less than another one if and only if its mantissa is less when both are written with the smaller of their
 /// exponents.
-pub fn order_is_by_value()
+pub fn decimal_order_is_by_value()
     ensures { (a b : Number) → IsDecimal a → IsDecimal b → (order_of a b ≡ Ordering.Less) ↔ IsBelow a b }
 {}
 
 /// A decimal is the sum of two others if and only if it has as many units of the least exponent as both of them together. If
 /// there is no such decimal, there is no sum.
-pub fn sums_are_exact()
+pub fn decimal_sums_are_exact()
     ensures { (a b d : Number) → (sum_of a b ≡ Some d) ↔ (IsDecimal d × (scaled d ≡ scaled a +ℤ scaled b)) }
 {}

@@ -1,8 +1,8 @@
 -- The least kind of failing tests in the order of kinds is that of the first one.
-use Rattle.mpslp_lines.proofs.Prelude
-use Prelude.{◌≡◌, refl, ap, ◌∙◌, ℕ, List, [], ◌∷◌, ◌++◌, Bool, true, false, cond, arith, nat_le, nat_lt, Option, Some, None, list_all}
-use Prelude.{option_map_or, first_so, second_so, nat_tests, those_of, kind_rank, least_kind, FaultKind, FaultTests, first_held}
-use Rattle.std.specs.Prelude.{◌&&◌}
+use Rattle.std.proofs.{Common.{Bool, List, [], ap, arith, cond, false, refl, true, ℕ, ◌++◌, ◌∙◌, ◌∷◌, ◌≡◌}, lemmas.Bool.Decides.nat_tests}
+use Rattle.std.specs.{Cmp.{first_so, second_so}, List.list_all, Option.option_map_or, Prelude.{None, Option, Some, nat_le, nat_lt, ◌&&◌}}
+use Rattle.mpslp_types.specs.{FaultOrder.{kind_rank, least_kind}, Lists.those_of, declared.faults.FaultKind.FaultKind}
+use Rattle.mpslp_lines.specs.FaultTests.{FaultTests, first_held}
 
 -- not before the kind, in the order of kinds
 abbrev pub is_from : FaultKind → FaultKind → Bool
@@ -16,7 +16,8 @@ are_rising (test ∷ more) = list_all (λ later. is_from test.1 later.1) more &&
 not_less : (a b : ℕ) → nat_le a b ≡ true → nat_lt b a ≡ false
 not_less = grind (arith, nat_tests)
 
-held-from : (kind : FaultKind) (tests : FaultTests) → list_all (λ later. is_from kind later.1) tests ≡ true → option_map_or (is_from kind) (first_held tests) true ≡ true
+held-from : (kind : FaultKind) (tests : FaultTests) → list_all (λ later. is_from kind later.1) tests ≡ true
+    → option_map_or (is_from kind) (first_held tests) true ≡ true
 held-from kind [] h = refl
 held-from kind (test ∷ more) h =
     elim test.0 as (λ b. option_map_or (is_from kind) (cond b (Some test.1) (first_held more)) true ≡ true) [
@@ -29,8 +30,7 @@ abbrev pub lesser : FaultKind → Option FaultKind → FaultKind
 lesser kind o = elim o as (λ _. FaultKind) [ None ↦ kind | Some other ↦ cond (nat_lt (kind_rank other) (kind_rank kind)) other kind ]
 
 pub stays-least : (kind : FaultKind) (o : Option FaultKind) → option_map_or (is_from kind) o true ≡ true → lesser kind o ≡ kind
-stays-least kind None h = refl
-stays-least kind (Some other) h = ap (λ b. cond b other kind) (not_less _ _ h)
+stays-least = grind (arith, not_less)
 
 pub least-those_of : (tests : FaultTests) → are_rising tests ≡ true → least_kind (those_of tests) ≡ first_held tests
 least-those_of [] h = refl
@@ -56,20 +56,12 @@ three_not : (a b c : ℕ) → nat_lt b a ≡ false → nat_lt c b ≡ false → 
 three_not = grind (arith, nat_tests)
 
 lesser-both : (kind : FaultKind) (o p : Option FaultKind) → lesser kind (earlier_of o p) ≡ lesser (lesser kind o) p
-lesser-both kind None p = refl
-lesser-both kind (Some a) None = refl
-lesser-both kind (Some a) (Some b) = by (nat_lt (kind_rank a) (kind_rank kind)) (nat_lt (kind_rank b) (kind_rank a)) refl refl
-  where
-    by : (x y : Bool) → nat_lt (kind_rank a) (kind_rank kind) ≡ x → nat_lt (kind_rank b) (kind_rank a) ≡ y
-        → cond (nat_lt (kind_rank (cond y b a)) (kind_rank kind)) (cond y b a) kind ≡ cond (nat_lt (kind_rank b) (kind_rank (cond x a kind))) b (cond x a kind)
-    by true true p q = rw (q, three (kind_rank kind) (kind_rank a) (kind_rank b) p q) refl
-    by true false p q = rw (p, q) refl
-    by false true p q = refl
-    by false false p q = rw (p, three_not (kind_rank kind) (kind_rank a) (kind_rank b) p q) refl
+lesser-both kind (Some a) (Some b) = grind (arith, three, three_not)
+lesser-both kind _ _ = refl
 
 pub least-append : (xs ys : List FaultKind) → least_kind (xs ++ ys) ≡ earlier_of (least_kind xs) (least_kind ys)
 least-append [] ys = refl
-least-append (x ∷ xs) ys = ap (λ o. Some (lesser x o)) (least-append xs ys) ∙ ap (λ kind. Some kind) (lesser-both x (least_kind xs) (least_kind ys))
+least-append (x ∷ xs) ys = ap (λ o. Some (lesser x o)) (least-append xs ys) ∙ ap (λ kind. Some kind) (lesser-both x (least_kind xs) _)
 
 -- ---- no kind at all
 

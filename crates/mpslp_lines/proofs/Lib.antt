@@ -1,4 +1,3 @@
-pub mod Prelude
 pub mod LegalLemmas
 pub mod LeastLemmas
 pub mod HeldLemmas
@@ -13,5 +12,4 @@ pub mod UnchangedLemmas
 pub mod LineLemmas
 pub mod LineEndLemmas
 pub mod PieceLemmas
-pub mod ReadLinesLemmas
 pub mod WrittenLineLemmas

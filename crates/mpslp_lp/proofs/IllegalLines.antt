@@ -6,7 +6,7 @@ use Prelude.{is_letter, is_lp_symbol, is_legal_byte, is_blank, begins_comment, b
 use Prelude.{operator_kind, kind_of, Front, longest_within, longest_token, token_at, Token, tokens_from, tokens, has_legal_bytes, is_known}
 use Prelude.{front-kind, TokenKind, map, Err, if◌then◌else◌, least_kind, BuildFault, FaultKind, LineTooLong, BadByte, Declarations}
 use Prelude.{first_held, has_legal_length, LineError, Fault, Terminal, terminal_of, as_terminal, terminals, Other, AfterToken}
-use Prelude.{take_after_declarations, Goes, Refuses, begin, begin_after, take_after_lone_number, take as take_illegal, TakesToken, Decimal}
+use Prelude.{take_after_declarations, Goes, Refuses, begin, begin_phrase_after, take_after_lone_number, take as take_illegal, TakesToken, Decimal}
 use Prelude.{Context, Place, State, take_all, token_faults, take_tokens, take_line, rules}
 use Rattle.std.proofs.{Common.take, lemmas.Bool.Decides.nat_tests}
 use Rattle.mpslp_decimal.{proofs.GrammarLemmas.before-here, specs.Literal.{is_digit, is_point, is_sign, is_exponent_mark}}
@@ -189,8 +189,16 @@ legal-from (b ∷ bs) place zero h = by (begins_comment b) (is_blank b) refl ref
 
     by : (comment blank : Bool) → begins_comment b ≡ comment → is_blank b ≡ blank
         → ((taken : ℕ) → list_all plain (take taken bs) ≡ true → has_legal_bytes bs ≡ all_known (tokens_from (place + 1) taken bs))
-        → has_legal_bytes (b ∷ bs) ≡ all_known (elim comment as (λ _. List Token)
-        [ true ↦ [] | false ↦ elim blank as (λ _. List Token) [ true ↦ tokens_from (place + 1) zero bs | false ↦ record { kind = (token_at (b ∷ bs)).kind; start = place; text = take (token_at (b ∷ bs)).size (b ∷ bs) } ∷ tokens_from (place + 1) ((token_at (b ∷ bs)).size - 1) bs ] ])
+        → has_legal_bytes (b ∷ bs) ≡ all_known (elim comment as (λ _. List Token) [
+          | true ↦ []
+          | false ↦
+              elim blank as (λ _. List Token) [
+                | true ↦ tokens_from (place + 1) zero bs
+                | false ↦
+                    record { kind = (token_at (b ∷ bs)).kind; start = place; text = take (token_at (b ∷ bs)).size (b ∷ bs) }
+                    ∷ tokens_from (place + 1) ((token_at (b ∷ bs)).size - 1) bs
+              ]
+        ])
     by true blank c k more = grind (arith, before-here)
     by false true c k more = grind (arith, legal-plain, blank-plain, take_none)
     by false false c k more = known (is_known _) (token_at (b ∷ bs)).size refl refl (stated b bs k)
@@ -222,7 +230,7 @@ after-declarations : (context : Context) (refusals : List BuildFault) (made : De
     → IsRefused (take_after_declarations context Other refusals made next)
 after-declarations = grind arith
 
-begun-after : (context : Context) (made : Declarations) (place : Place) → IsRefused (begin_after context made place Other)
+begun-after : (context : Context) (made : Declarations) (place : Place) → IsRefused (begin_phrase_after context made place Other)
 begun-after = grind arith
 
 lone-other : (context : Context) (owner : ItemOwner) (value : Decimal) → IsRefused (take_after_lone_number context owner value Other)

@@ -44,7 +44,8 @@ text-fine (token ∷ tokens) zero point sound h =
     by (phrase_at point token _) (phrase_at-fine _ _ _ h sound.0 _ sound.1) (λ after more s. text-fine tokens more _ sound.1 s)
   where
     by : (reading : Parsed Fault Follows) → Holds (IsFine point.context.builder) reading
-        → ((after : Point) (more : ℕ) → IsSoundPoint after → IsFineText after.context.builder (made_by phrase_at after more tokens) (phrases phrase_at after more tokens))
+        → ((after : Point) (more : ℕ) → IsSoundPoint after
+        → IsFineText after.context.builder (made_by phrase_at after more tokens) (phrases phrase_at after more tokens))
         → IsFineText point.context.builder (elim reading as (λ _. Declarations) [
           | Reads (Goes after made) more ↦ made ++ made_by phrase_at after more tokens
           | Reads (Ends whole) more ↦ []

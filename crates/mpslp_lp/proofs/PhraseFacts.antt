@@ -16,13 +16,12 @@ use Prelude.{objective_from, objective, default_row, without_terms, row_item, ro
 use Prelude.{row_named, row, fits_left, row_limits, row_declared, row_whole, row_end, bound_sides, no_limits, bound_right, bound_after}
 use Prelude.{bound_column, bound_left, bound, second_side, line_end, opened_by, last_word, semi_from, section_start, section_from}
 use Prelude.{may_begin_section, name_in_section, phrase, phrase_at, Relation}
-use Rattle.std.proofs.Math.Nat.{min-le_right}
-use Rattle.mpslp_types.{proofs.NameLemmas.mps_name-from_lp, specs.Limit.is_given}
-use Rattle.mpslp_lp_grammar.{proofs.NumberedNames.numbered-name, specs.{Items.Item.{Term, Lone}, Rules.AfterPhrase.Goes}}
-use Rattle.mpslp_lp_grammar.specs.declared.states.LastWord.{LastWord, TheVariants.Continuous}
-use Rattle.mpslp_lp_tokens.specs.declared.words.{Section.TheVariants.Objective, SectionWord.SectionWord}
 use Rattle.mpslp_lp.proofs.SoundTokens.{Holds, Gives, passed, then-gives, IsSoundToken, next-gives, ahead-gives, AreSound, IsSoundTerminal}
-use Rattle.mpslp_types.specs.declared.kinds.Sense.TheVariants as senses
+use Rattle.std.proofs.Math.Nat.{min-le_right}
+use Rattle.mpslp_types.{proofs.NameLemmas.{mps_name-from_lp}, specs.Limit.{is_given}}
+use Rattle.mpslp_lp_grammar.{proofs.NumberedNames.{numbered-name}, specs.{Items.Item.{Term, Lone}, Rules.AfterPhrase.{Goes}}}
+use Rattle.mpslp_lp_grammar.specs.declared.states.LastWord.{LastWord, TheVariants.{Continuous}}
+use Rattle.mpslp_lp_tokens.specs.declared.words.{Section.TheVariants.{Objective}, SectionWord.{SectionWord}}
 use Rattle.mpslp_lp_tokens.specs.declared.words.SectionWord.TheVariants as words
 
 -- ---- legal declarations, with LP names
@@ -187,7 +186,8 @@ terms-legal _ [] h = refl
 terms-legal row (term ∷ terms) h = list_all-append is_lp_legal (term_declared row term) (flat_map (term_declared row) terms)
     ∙ both_so _ _ (term-legal row term (first_so _ (list_all is_sound_term terms) h)) (terms-legal row terms (second_so _ _ h))
 
-row_item-fine : (context : Context) (row : PartialRow) (item : Item) → IsNamed context → IsSoundRow row → IsSoundItem item → Fine context (row_item context row item)
+row_item-fine : (context : Context) (row : PartialRow) (item : Item) → IsNamed context → IsSoundRow row → IsSoundItem item
+    → Fine context (row_item context row item)
 row_item-fine context row (Term value column token) named r h =
     let more : PartialRow = record row { terms = row.terms ++ (column, value) ∷ [] } in either-fine context (list_any (λ term.
     same_bytes column term.0) row.terms) _ _ (λ tokens sound. tt) (nothing-fine context (InRow more) named (in_row-plain more (record {

@@ -12,8 +12,7 @@ use Prelude.{take_bound, listed_at, kind_declared, name_taken, BeginsWithSide, B
 use Prelude.{BeginsWithTerm, row_of_term, rules}
 use Rattle.mpslp_decimal.specs.Decimal.{trailing_zeros}
 use Rattle.mpslp_lines.proofs.LeastLemmas.{least-append}
-use Rattle.mpslp_lp_grammar.{proofs.TokenAnswers.one-parsed, specs.declared.states.{ListSection.ListSection, SideOwner.SideOwner}}
-use Rattle.mpslp_lp_grammar.specs.declared.states.ListSection.TheVariants as lists
+use Rattle.mpslp_lp_grammar.{proofs.TokenAnswers.{one-parsed}, specs.declared.states.{ListSection.{ListSection}, SideOwner.{SideOwner}}}
 
 -- ---- tokens of a line, taken one after another, with the least of their lexical errors
 
@@ -75,7 +74,8 @@ record BeforeName (context : Context) (start : State) (found following : List To
   comes : take_tokens context start found ≡ take_tokens context state following
   takes : take context state (Name column) ≡ result
 
-module _ (context : Context) (start : State) (taken : Decimal → AfterToken) (found more : List Token) (sign : SignOf) (literal column : List ℕ) (p : IsPlainTerm found sign literal column more) (way : LeadsTo context start sign column taken) where
+module _ (context : Context) (start : State) (taken : Decimal → AfterToken) (found more : List Token) (sign : SignOf)
+    (literal column : List ℕ) (p : IsPlainTerm found sign literal column more) (way : LeadsTo context start sign column taken) where
   -- up to the number, and up to the name
   after-sign : take_tokens context start found ≡ take_tokens context way.signs p.after_sign
   after-sign = grind arith
@@ -405,8 +405,11 @@ pub first-taken : (context : Context) (name : List ℕ) (found more : List Token
 first-taken context name found more value column begins =
     let reached = λ (given : Decimal). take_tokens context (Between (InRow (row_of_term name column given))) more in
     let fewer = column-fewer _ _ _ _ begins.term in
-    elim begins.signed as (λ _. TakesSome context (RowLabel name) found (Ok more) context (Between (InRow (row_of_term name column value))))
-    [ inl sign ↦ let shorter = begins-fewer _ _ _ sign in (sym (step _ _ _ _ _ _ _ sign refl ∙ from-sign _ _ _ _ _ _ _ _ begins.term (λ given. refl) refl ∙ ap reached (sym begins.gives)), omega (arith, fewer, shorter)) | inr unsigned ↦ let same = ap length unsigned.1 in (sym (ap (take_tokens context (RowLabel name)) (sym unsigned.1) ∙ from-sign _ _ _ _ _ _ _ _ begins.term (λ given. refl) refl ∙ ap reached (sym (begins.gives ∙ ap (λ sign. apply_sign sign begins.size) unsigned.0))), omega (arith, fewer, same)) ]
+    elim begins.signed as (λ _. TakesSome context (RowLabel name) found (Ok more) context (Between (InRow (row_of_term name column value)))) [
+      | inl sign ↦ let shorter = begins-fewer _ _ _ sign in
+          (sym (step _ _ _ _ _ _ _ sign refl ∙ from-sign _ _ _ _ _ _ _ _ begins.term (λ given. refl) refl ∙ ap reached (sym begins.gives)), omega (arith, fewer, shorter))
+      | inr unsigned ↦ let same = ap length unsigned.1 in (sym (ap (take_tokens context (RowLabel name)) (sym unsigned.1) ∙ from-sign _ _ _ _ _ _ _ _ begins.term (λ given. refl) refl ∙ ap reached (sym (begins.gives ∙ ap (λ sign. apply_sign sign begins.size) unsigned.0))), omega (arith, fewer, same))
+    ]
 
 -- ---- the row that it begins
 

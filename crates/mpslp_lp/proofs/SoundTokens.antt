@@ -8,10 +8,9 @@ use Prelude.{token_fault, lexical_fault, Name, Number, sound_terminals, TokenKin
 use Prelude.{after_taking, next, ahead, Reads, Unfinished, PhraseRule, arith}
 use Rattle.std.proofs.Common.{not}
 use Rattle.mpslp_types.specs.declared.faults.Fault.{Fault}
-use Rattle.mpslp_lp_grammar.{proofs.LpWords.name-without_fault, specs.Rules.Parsed.Refuses}
+use Rattle.mpslp_lp_grammar.{proofs.LpWords.{name-without_fault}, specs.Rules.Parsed.{Refuses}}
 use Rattle.mpslp_lp_tokens.specs.declared.words.WordClass.{WordClass}
 use Rattle.mpslp_lp_tokens.specs.declared.words.WordClass.TheVariants as meanings
-use Rattle.mpslp_lp_tokens.specs.declared.tokens.TokenKind.TheVariants as kinds
 
 -- A word that is a name and has no fault is a name in LP.
 pub lp-name : (text : List ℕ) → is_word text ≡ true → class_of text ≡ meanings.Name → name_fault text ≡ None → is_lp_name text ≡ true

@@ -3,7 +3,7 @@ use Rattle.mpslp_lp.proofs.Prelude
 use Prelude.{◌≡◌, refl, ℤ, Option, None, codes, list_all, flat_map, zero_number, CoefficientKey, Row, Column, LinearModel, Draft}
 use Prelude.{empty_draft, draft_of, refusals_in_turn, is_legal, model_of, file_fault, Sense, Limit, MinusInf, Finite, PlusInf}
 use Prelude.{means-from_none, is_lp_text, declarations_of, DeclaresLp, BuildFault, map, Bool}
-use Rattle.std.specs.{Fmt.digits, Prelude.{ℕ, pos, negsuc, List, ◌∷◌, [], ◌++◌, true}}
+use Rattle.std.specs.{Fmt.{digits}, Prelude.{ℕ, pos, negsuc, List, ◌∷◌, [], ◌++◌, true}}
 use Rattle.mpslp_decimal.specs.Decimal.{trailing_zeros, Number}
 use Rattle.mpslp_types.specs.declared.kinds.{Kind.{Kind, TheVariants.{Continuous, Integer, Semi}}, Sense.TheVariants.{Minimize, Maximize}}
 use Rattle.mpslp_types.specs.declared.faults.Fault.{Fault}

@@ -72,6 +72,9 @@ pub(crate) fn take_rest_of_row<'a>(
     ensures { TakesSome context.old state.old tokens.entry result context.new state.new }
 {
     let left = take_terms(context, state, tokens)?;
+    if left.bytes_left().is_empty() {
+        return Ok(left);
+    }
     match state {
         State::Between(Place::InRow(_)) => take_right_side(context, state, left),
         _ => Ok(left),

@@ -1,14 +1,11 @@
 -- Names without an error, and names of which each byte may be in an LP name.
-use Rattle.std.proofs.Common.{◌≡◌, refl, sym, ap, ◌∙◌, ℕ, List, [], ◌∷◌, Bool, true, false, not}
-use Rattle.std.specs.Prelude.{None, ◌&&◌}
-use Rattle.std.specs.List.{list_all}
-use Rattle.std.specs.Cmp.{first_so, second_so}
+use Rattle.std.proofs.Common.{arith, ◌≡◌, refl, ℕ, List, [], ◌∷◌, Bool, true, not}
+use Rattle.std.specs.{Prelude.{None, ◌&&◌}, List.{list_all}, Cmp.{first_so, second_so}}
 use Rattle.mpslp_types.specs.Name.{has_name_length, is_visible, is_mps_name, is_lp_byte, is_like_exponent, same_bytes, marker}
-use Rattle.mpslp_types.specs.declared.faults.FaultKind.TheVariants as faults
-use Rattle.mpslp_types.proofs.BoolLemmas.{both_so}
-use Rattle.mpslp_types.proofs.NameLemmas.{mps_name-from_lp}
+use Rattle.mpslp_types.proofs.{BoolLemmas.{both_so}, NameLemmas.{mps_name-from_lp}}
 use Rattle.mpslp_lines.specs.FaultTests.{first_held}
 use Rattle.mpslp_lp_grammar.specs.Terminal.{name_fault}
+use Rattle.mpslp_types.specs.declared.faults.FaultKind.TheVariants as faults
 
 -- ---- what a name without an error is
 
@@ -17,15 +14,7 @@ pub record HasNoFault (name : List ℕ) : Type 0 where
   pub no_exponent : not (is_like_exponent name) ≡ true
 
 pub name-without_fault : (name : List ℕ) → name_fault name ≡ None → HasNoFault name
-name-without_fault name h = by (has_name_length name) (list_all is_visible name) (same_bytes name marker) (is_like_exponent name) refl refl refl refl h
-  where
-    by : (a b c d : Bool) → has_name_length name ≡ a → list_all is_visible name ≡ b → same_bytes name marker ≡ c → is_like_exponent name ≡ d
-        → first_held ((not a, faults.NameLength) ∷ (not b, faults.NameByte) ∷ (c, faults.NameMarker) ∷ (d, faults.NameLikeExponent) ∷ []) ≡ None → HasNoFault name
-    by true true false false p q r e h = record { legal = rw (p, q, r) refl; no_exponent = ap not e }
-    by true true false true p q r e h = cc
-    by true true true d p q r e h = cc
-    by true false c d p q r e h = cc
-    by false b c d p q r e h = cc
+name-without_fault = grind arith
 
 -- ---- bytes of LP names
 
@@ -42,6 +31,7 @@ visible-bytes (byte ∷ bytes) h =
     (visible-bytes bytes (second_so (is_lp_byte byte) (list_all is_lp_byte bytes) h))
 
 -- the error of such a name, by the tests that are left
-pub fault-of_lp_bytes : (name : List ℕ) (long marked like : Bool) → has_name_length name ≡ long → same_bytes name marker ≡ marked → is_like_exponent name ≡ like → list_all is_lp_byte name ≡ true
+pub fault-of_lp_bytes : (name : List ℕ) (long marked like : Bool) → has_name_length name ≡ long → same_bytes name marker ≡ marked
+    → is_like_exponent name ≡ like → list_all is_lp_byte name ≡ true
     → first_held ((not long, faults.NameLength) ∷ (marked, faults.NameMarker) ∷ (like, faults.NameLikeExponent) ∷ []) ≡ name_fault name
-fault-of_lp_bytes name long marked like p q r h = sym (rw (p, visible-bytes name h, q, r) refl)
+fault-of_lp_bytes = grind (arith, visible-bytes)

@@ -30,8 +30,8 @@ use Rattle.mpslp_lp_grammar.specs.FirstToken.{begin_row, begin}
 -- ---- a token that completes what is before it, and is taken at the place that follows
 
 -- after declarations that the token completes
-abbrev pub begin_after : Context → Declarations → Place → Terminal → AfterToken
-begin_after context made place terminal =
+abbrev pub begin_phrase_after : Context → Declarations → Place → Terminal → AfterToken
+begin_phrase_after context made place terminal =
     take_after_declarations context terminal (refusals_in_turn context.builder made) made (begin place (with_made context made) terminal)
 
 -- a number in a row that no name follows
@@ -45,8 +45,8 @@ refuse_constant context terminal = elim terminal as (λ _. AfterToken) [
 -- a number that no name follows
 abbrev pub take_after_lone_number : Context → ItemOwner → Decimal → Terminal → AfterToken
 take_after_lone_number context (OfObjective name) value terminal = elim terminal as (λ _. AfterToken) [
-  | Terminal.Sign sign ↦ begin_after context (declare_constant value ∷ []) (InObjective name) terminal
-  | Terminal.Opens word ↦ begin_after context (declare_constant value ∷ []) (InObjective name) terminal
+  | Terminal.Sign sign ↦ begin_phrase_after context (declare_constant value ∷ []) (InObjective name) terminal
+  | Terminal.Opens word ↦ begin_phrase_after context (declare_constant value ∷ []) (InObjective name) terminal
   | _ ↦ refuse context terminal BadToken
 ]
 take_after_lone_number context (OfRow row) value terminal = refuse_constant context terminal
@@ -55,11 +55,11 @@ abbrev pub take : Context → State → Terminal → AfterToken
 take context (Between place) terminal = begin place context terminal
 take context (AtObjective sense) terminal = elim terminal as (λ _. AfterToken) [
   | Terminal.Name name ↦ Goes context (ObjectiveName sense name)
-  | _ ↦ begin_after context (objective_declared sense default_objective) (BeforeItems default_objective) terminal
+  | _ ↦ begin_phrase_after context (objective_declared sense default_objective) (BeforeItems default_objective) terminal
 ]
 take context (ObjectiveName sense name) terminal = elim terminal as (λ _. AfterToken) [
   | Terminal.Colon ↦ declare_at context terminal (BeforeItems name) (objective_declared sense name)
-  | _ ↦ begin_after context (first_item_declared sense name) (InObjective default_objective) terminal
+  | _ ↦ begin_phrase_after context (first_item_declared sense name) (InObjective default_objective) terminal
 ]
 take context (AtLastWord wanted) terminal = elim terminal as (λ _. AfterToken) [
   | Terminal.Name word ↦ if is_last_word wanted word then Goes (with_made context []) (Between (opened_by wanted)) else refuse context terminal BadToken

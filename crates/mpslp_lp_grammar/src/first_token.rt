@@ -213,7 +213,7 @@ pub(crate) fn begin(
 }
 
 /// Takes the first token of a phrase after the declarations of the phrase before it, which this token completes.
-pub(crate) fn begin_after(
+pub(crate) fn begin_phrase_after(
     context: &mut Context,
     answer: Result<(), LineError>,
     place: Place,

@@ -11,7 +11,7 @@ ghost use Rattle.mpslp_lp_grammar.specs.declared.states.State.{State};
 use crate::answers::{at_place, refuse};
 use crate::bounds::{take_bound_column, take_free, take_side_value};
 use crate::context::Context;
-use crate::first_token::{begin, begin_after};
+use crate::first_token::{begin, begin_phrase_after};
 use crate::given_limit::GivenLimit;
 use crate::items::{begin_item, one, take_after_signs, take_term};
 use crate::relations::Relation;
@@ -41,7 +41,7 @@ fn take_at_objective(
             let name = context.builder.default_objective()?;
             let objective = context.builder.default_objective()?;
             let answer = context.builder.declare_objective(sense, name);
-            begin_after(context, answer, Place::BeforeItems(objective), token)
+            begin_phrase_after(context, answer, Place::BeforeItems(objective), token)
         }
     }
 }
@@ -74,7 +74,7 @@ fn take_after_objective_name(
             each_name_is_legal(&name);
             let objective = context.builder.default_objective()?;
             let answer = context.builder.declare_first_item(sense, name.as_bytes());
-            begin_after(context, answer, Place::InObjective(objective), token)
+            begin_phrase_after(context, answer, Place::InObjective(objective), token)
         }
     }
 }
@@ -123,7 +123,7 @@ fn take_constant(
     match token.kind {
         TerminalKind::Sign(_) | TerminalKind::Opens(_) => {
             let answer = context.builder.declare_constant(value);
-            begin_after(context, answer, Place::InObjective(objective), token)
+            begin_phrase_after(context, answer, Place::InObjective(objective), token)
         }
         _ => refuse(context, token, FaultKind::BadToken),
     }

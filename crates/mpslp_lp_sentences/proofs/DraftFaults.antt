@@ -6,23 +6,23 @@ use Prelude.{not, unwrap_or, if◌then◌else◌, list_all, flat_map, cons_optio
 use Prelude.{Decimal, is_plus_infinite, is_minus_infinite, bytes_cmp, BuildFault, FaultKind, Limit, Sense, both_so, or_left, or_right}
 use Prelude.{so_not, either, those_of, Declaration, Declarations, Draft, with_declaration, with_declarations, declare_constant, declare_rhs}
 use Prelude.{declare_column, declare_lower, declare_upper, declare_marked, declare_integer, declare_binary, declare_semi, bounds_declared}
-use Prelude.{has_name, has_column, is_integer, is_semi, has_constant, refusals_in_turn, itself_named, has-put, same_name}
-use Prelude.{kind_of_build_fault, Objective, Bounds, Generals, Binaries, SemiContinuous, SectionWord, Context, Relation, SignOf, ItemOwner}
+use Prelude.{has_name, has_column, is_integer, is_semi, refusals_in_turn, itself_named, has-put, same_name}
+use Prelude.{kind_of_build_fault, Objective, Bounds, Generals, Binaries, SemiContinuous, SectionWord, Context, Relation, ItemOwner}
 use Prelude.{OfObjective, OfRow, Place, AtStart, BeforeItems, InObjective, BetweenRows, InBounds, InGenerals, InBinaries, InSemis}
 use Prelude.{SideOwner, SideOfRow, SideOfBound, State, Between, AtObjective, ObjectiveName, AtSemi, Signs, ItemNumber, RowLabel, BoundName}
 use Prelude.{BoundLeftRelation, AtSide, SideSign, AfterToken, Goes, Refuses, refuse, with_made, declare_unless_refused}
-use Prelude.{take_after_declarations, declare_at, take_term, take_after_signs, begin_item, take_bound, take_side, no_limits, open_section}
-use Prelude.{begin_row, take_second_relation, begin_phrase, begin, one, Limits, limits_by, flip, term_declared, objective_declared}
-use Prelude.{default_objective, first_item_declared, row_limits, row_declared, PartialRow, start, Terminal, Opens, Name, Number, Sign}
-use Prelude.{Compares, Colon, Infinity, Free, new_column, begin_after, take_after_lone_number, take, IsInWords, is_section, current_section}
+use Prelude.{take_after_declarations, declare_at, take_term, begin_item, take_bound, take_side, no_limits, open_section}
+use Prelude.{begin_row, take_second_relation, begin_phrase, begin, Limits, limits_by, flip, term_declared, objective_declared}
+use Prelude.{default_objective, first_item_declared, row_limits, row_declared, PartialRow, start, Terminal, Opens, Name, Sign}
+use Prelude.{Compares, Colon, Free, new_column, begin_phrase_after, take_after_lone_number, take, IsInWords, is_section, current_section}
 use Prelude.{is_under, is_named, collected, names_again, ends_in_number, ends_in_sign, may_follow_constant, completes_constant}
-use Prelude.{has_constant_before, repeats_constant, gives_lower, gives_upper, last_name, last_relation, column_before, after_sign}
+use Prelude.{has_constant_before, repeats_constant, gives_lower, gives_upper, last_name, column_before, after_sign}
 use Prelude.{completed, completes_bound, repeats_bound, names_integer, names_semi, changes_kind}
 use Rattle.mpslp_lp_sentences.proofs.FaultedTokens.{in-words, refuses, first-refused, terms-refuse, signs-by, item-by, limit-by, listed-by}
 use Rattle.mpslp_lp_sentences.proofs.FaultedTokens.{lone-by, bound_name-by, bound_column-by, side-by, begin-by, objective-by}
 use Rattle.mpslp_lp_sentences.proofs.FaultedTokens.{objective_name-by, item_number-by, semi-by}
-use Rattle.mpslp_lp_sentences.proofs.RowShapes.{PlaceShape, RelatedTo, SideShape, SignedSideShape, NumberShape, Shape, Shaped, shaped-later}
-use Rattle.mpslp_lp_sentences.proofs.SectionFaults.{section_at_place, section_of_item, section_of_side, section_at}
+use Rattle.mpslp_lp_sentences.proofs.RowShapes.{SideShape, SignedSideShape, NumberShape, Shape, Shaped, shaped-later}
+use Rattle.mpslp_lp_sentences.proofs.SectionFaults.{section_of_item, section_of_side, section_at}
 use Rattle.mpslp_types.specs.declared.faults.BuildFault.TheVariants as builds
 use Rattle.mpslp_types.specs.declared.faults.FaultKind.TheVariants as kinds
 
@@ -55,7 +55,8 @@ named-put name new value entries names old here h = search (rules, has-put, same
 
 -- ---- one declaration more
 
-shown-one : (d : Declaration) (all : Draft) (earlier : List Terminal) → Shown earlier all → is_shown earlier d ≡ true → Shown earlier (with_declaration all d)
+shown-one : (d : Declaration) (all : Draft) (earlier : List Terminal) → Shown earlier all → is_shown earlier d ≡ true
+    → Shown earlier (with_declaration all d)
 shown-one (declare_rhs row value) all earlier h k = absurd cc
 shown-one (declare_lower column limit) all earlier h k = grind (arith, named-put)
 shown-one (declare_upper column limit) all earlier h k = grind (arith, named-put)
@@ -77,7 +78,8 @@ shown-all (d ∷ ds) all earlier h k = grind (
 
 -- ---- one token more
 
-named-more : (name : List ℕ) (new : Option (List ℕ)) (names : List (List ℕ)) → is_named name names ≡ true → is_named name (cons_option new names) ≡ true
+named-more : (name : List ℕ) (new : Option (List ℕ)) (names : List (List ℕ)) → is_named name names ≡ true
+    → is_named name (cons_option new names) ≡ true
 named-more = grind arith
 
 -- a name that the last token names
@@ -118,12 +120,9 @@ refused context earlier (Opens word) kind h = by _ _
     by = grind arith
 refused _ _ _ _ h = h
 
-bad : (context : Context) (earlier : List Terminal) (all : Draft) (token : Terminal) → Steps earlier all token (refuse context token kinds.BadToken)
+bad : (context : Context) (earlier : List Terminal) (all : Draft) (token : Terminal)
+    → Steps earlier all token (refuse context token kinds.BadToken)
 bad context earlier all token n = grind arith
-
-branch : (earlier : List Terminal) (token : Terminal) (b : Bool) (x y : AfterToken)
-    → KeepsShown earlier token x → KeepsShown earlier token y → KeepsShown earlier token (if b then x else y)
-branch = grind arith
 
 -- ---- declarations
 
@@ -164,7 +163,8 @@ term : (context : Context) (owner : ItemOwner) (column : List ℕ) (value : Deci
     → Steps earlier context.builder (Name column) (take_term context owner column value (Name column))
 term context owner column value earlier n = grind arith
 
-terms-shown : (earlier : List Terminal) (name : List ℕ) (terms : List (List ℕ × Decimal)) → list_all (is_shown earlier) (flat_map (term_declared name) terms) ≡ true
+terms-shown : (earlier : List Terminal) (name : List ℕ) (terms : List (List ℕ × Decimal))
+    → list_all (is_shown earlier) (flat_map (term_declared name) terms) ≡ true
 terms-shown _ _ [] = refl
 terms-shown earlier _ (term ∷ terms) = terms-shown earlier _ terms
 
@@ -237,13 +237,6 @@ bound context is_new column limits earlier token place shown h = by (not (has_co
         (token ∷ earlier) (shown-later token earlier context.builder shown) (list_all-append (is_shown (token ∷ earlier)) (new_column is_new
         column) (bounds_declared column limits.lower limits.upper) ∙ both_so _ _ (fine is_new) (bounds-shown earlier token column limits h))
 
--- the relation of a bound gives the limits
-gives-lower : (relation : Relation) (l : Limit) → is_some (limits_by relation l).lower ≡ true → gives_lower relation ≡ true
-gives-lower = grind arith
-
-gives-upper : (relation : Relation) (l : Limit) → is_some (limits_by relation l).upper ≡ true → gives_upper relation ≡ true
-gives-upper = grind arith
-
 within : (gives : Relation → Bool) (earlier : List Terminal) (token : Terminal) (column : List ℕ) → current_section earlier ≡ Some Bounds
     → completed gives earlier token ≡ Some column → completes_bound gives earlier token ≡ Some column
 within = grind arith
@@ -251,20 +244,6 @@ within = grind arith
 free-completes : (earlier : List Terminal) (column : List ℕ)
     → current_section earlier ≡ Some Bounds → last_name earlier ≡ Some column → Completes earlier Free column no_limits
 free-completes = grind arith
-
-name-completes : (earlier : List Terminal) (relation : Relation) (l : Limit) (column : List ℕ) → current_section earlier ≡ Some Bounds
-    → last_relation earlier ≡ Some relation → Completes earlier (Name column) column (limits_by (flip relation) l)
-name-completes = grind arith
-
--- a side without a sign, or with one
-side-completed : (gives : Relation → Bool) (earlier : List Terminal) (relation : Relation) (column : List ℕ)
-    → RelatedTo column relation earlier → gives relation ≡ true → after_sign (column_before gives) earlier ≡ Some column
-side-completed = grind arith
-
-signed-completed : (gives : Relation → Bool) (earlier : List Terminal) (is_new : Bool) (relation : Relation) (column : List ℕ)
-    → SignedSideShape (SideOfBound is_new column relation) earlier
-    → gives relation ≡ true → after_sign (column_before gives) earlier ≡ Some column
-signed-completed = grind arith
 
 -- a number or an infinity
 abbrev IsValue : Terminal → Type 0
@@ -274,8 +253,8 @@ side-completes : (earlier : List Terminal) (token : Terminal) (relation : Relati
     → IsValue token → current_section earlier ≡ Some Bounds → ((gives : Relation → Bool) → gives relation ≡ true
     → after_sign (column_before gives) earlier ≡ Some column) → Completes earlier token column (limits_by relation l)
 side-completes earlier token _ l _ value here h = record {
-  lower = λ e. within gives_lower earlier token _ here (value gives_lower earlier ∙ h gives_lower (gives-lower _ l e));
-  upper = λ e. within gives_upper earlier token _ here (value gives_upper earlier ∙ h gives_upper (gives-upper _ l e));
+  lower = λ e. within gives_lower earlier token _ here (value gives_lower earlier ∙ h gives_lower (grind arith));
+  upper = λ e. within gives_upper earlier token _ here (value gives_upper earlier ∙ h gives_upper (grind arith));
 }
 
 -- ---- names in Generals, Binaries and among the semi-continuous columns
@@ -326,17 +305,10 @@ constant-completes : (earlier : List Terminal) (token : Terminal) → current_se
     → ends_in_number earlier ≡ true → may_follow_constant token ≡ true → completes_constant earlier token ≡ true
 constant-completes = grind arith
 
-constant-there : (earlier : List Terminal) (all : Draft) → Shown earlier all → has_constant all ≡ true → has_constant_before earlier ≡ true
-constant-there = grind arith
-
 -- ---- the first token of a phrase
 
 opened : (context : Context) (earlier : List Terminal) (word : SectionWord) → Steps earlier context.builder (Opens word) (open_section context word)
 opened context earlier word n = grind arith
-
-signs : (context : Context) (owner : ItemOwner) (sign : SignOf) (earlier : List Terminal) (token : Terminal)
-    → Steps earlier context.builder token (take_after_signs context owner sign token)
-signs = grind (arith, signs-by, bad, term)
 
 item : (context : Context) (owner : ItemOwner) (earlier : List Terminal) (token : Terminal) → Steps earlier context.builder token (begin_item context owner token)
 item = grind (arith, item-by, bad, term)
@@ -371,7 +343,7 @@ phrase _ context earlier h token = grind arith
 
 first : (place : Place) (context : Context) (earlier : List Terminal)
     → Listed place earlier context.builder → (token : Terminal) → Steps earlier context.builder token (begin place context token)
-first = grind (arith, begin-by, branch, opened, bad, phrase)
+first = grind (arith, begin-by, opened, bad, phrase)
 
 lone : (context : Context) (owner : ItemOwner) (value : Decimal) (earlier : List Terminal)
     → Shown earlier context.builder → current_section earlier ≡ section_of_item owner → NumberShape owner earlier
@@ -380,10 +352,10 @@ lone context (OfObjective objective) value earlier shown here last token = lone-
     (bad context earlier context.builder) (λ sign. complete (Sign sign) refl) (λ word. complete (Opens word) refl) token
   where
     complete : (t : Terminal) → may_follow_constant t ≡ true
-        → Steps earlier context.builder t (begin_after context (declare_constant value ∷ []) (InObjective objective) t)
+        → Steps earlier context.builder t (begin_phrase_after context (declare_constant value ∷ []) (InObjective objective) t)
     complete t may = let now = constant-completes _ t here last may in
         declared-before _ _ t (declare_constant _ ∷ []) _ (both_so _ _ (or_left _ _ now) refl)
-        (record { bound = λ e. absurd cc; semi = λ e. absurd cc; rhs = λ e. both_so _ _ now (constant-there _ _ shown (only _ e)) })
+        (record { bound = λ e. absurd cc; semi = λ e. absurd cc; rhs = λ e. both_so _ _ now (grind arith) })
         (first (InObjective objective) _ _ tt t)
 lone context (OfRow partial) value earlier shown here last token = grind arith
 
@@ -392,7 +364,7 @@ lone context (OfRow partial) value earlier shown here last token = grind arith
 -- the declarations at the start of the objective
 started : (context : Context) (earlier : List Terminal) (made : Declarations) (place : Place)
     → Listed place earlier (with_declarations context.builder made) → (token : Terminal) → list_all (is_shown (token ∷ earlier)) made ≡ true
-    → Refused earlier token context.builder made → Steps earlier context.builder token (begin_after context made place token)
+    → Refused earlier token context.builder made → Steps earlier context.builder token (begin_phrase_after context made place token)
 started = grind (arith, declared-before, first)
 
 nothing-refused : (earlier : List Terminal) (token : Terminal) (all : Draft) (sense : Sense) (label : List ℕ) → Refused earlier token all (objective_declared sense label)
@@ -402,32 +374,23 @@ first-refused_none : (earlier : List Terminal) (token : Terminal) (all : Draft) 
     → Refused earlier token all (first_item_declared sense column)
 first-refused_none = grind arith
 
-listed-at : (place : Place) (earlier : List Terminal) (all : Draft)
-    → Shown earlier all → current_section earlier ≡ section_at_place place → PlaceShape place earlier → Listed place earlier all
-listed-at = grind arith
-
-number-value : (value : Decimal) → IsValue (Number value)
-number-value _ _ _ = refl
-
-infinite-value : IsValue Infinity
-infinite-value _ _ = refl
-
 side : (context : Context) (sided : SideOwner) (l : Limit) (earlier : List Terminal) (token : Terminal)
     → Shown earlier context.builder → current_section earlier ≡ section_of_side sided
     → SideShape sided earlier → IsValue token → Steps earlier context.builder token (take_side context sided l token)
 side context (SideOfRow partial relation) l _ _ _ _ _ _ = row_side context partial relation l _ _
-side _ (SideOfBound _ _ _) l _ _ shown here shape value = λ n. bound _ _ _ _ _ _ _ shown (side-completes _ _ _ l _ value here (λ gives k. side-completed _ _ _ _ shape k))
+side _ (SideOfBound _ _ _) l _ _ shown here shape value =
+    λ n. bound _ _ _ _ _ _ _ shown (side-completes _ _ _ l _ value here (λ gives k. grind arith))
 
 signed_side : (context : Context) (sided : SideOwner) (l : Limit) (earlier : List Terminal) (token : Terminal)
     → Shown earlier context.builder → current_section earlier ≡ section_of_side sided
     → SignedSideShape sided earlier → IsValue token → Steps earlier context.builder token (take_side context sided l token)
 signed_side context (SideOfRow partial relation) l _ _ _ _ _ _ = row_side context partial relation l _ _
 signed_side _ (SideOfBound is_new _ _) l _ _ shown here shape value =
-    λ n. bound _ _ _ _ _ _ _ shown (side-completes _ _ _ l _ value here (λ gives k. signed-completed _ _ is_new _ _ shape k))
+    λ n. bound _ _ _ _ _ _ _ shown (side-completes _ _ _ l _ value here (λ gives k. grind arith))
 
 step : (context : Context) (state : State) (earlier : List Terminal) → Shown earlier context.builder → current_section earlier
     ≡ section_at state → Shape state earlier → (token : Terminal) → Steps earlier context.builder token (take context state token)
-step _ (Between _) _ shown here shape _ = first _ _ _ (listed-at _ _ _ shown here shape) _
+step _ (Between _) _ shown here shape _ = first _ _ _ (grind arith) _
 step context (AtObjective sense) earlier _ _ _ _ = objective-by (Steps earlier context.builder) _ _
     (λ name n. n) (λ t. started context _ _ (BeforeItems default_objective) tt t refl (nothing-refused _ t _ sense default_objective)) _
 step context (ObjectiveName sense label) earlier _ _ _ _ = objective_name-by (Steps earlier context.builder) context sense label
@@ -435,16 +398,16 @@ step context (ObjectiveName sense label) earlier _ _ _ _ = objective_name-by (St
     (λ t. started context earlier _ (InObjective default_objective) tt t refl (first-refused_none _ t _ _ _)) _
 step context AtSemi earlier shown here shape token =
     semi-by (Steps earlier context.builder) context (λ n. n) (first InSemis (with_made context []) earlier (here, shown, shape)) token
-step _ (Signs _ _) _ _ _ _ token = signs _ _ _ _ token
+step _ (Signs _ _) _ _ _ _ token = (grind (arith, signs-by, bad, term))
 step context (ItemNumber owner sign value) earlier shown here shape token = grind (arith, item_number-by, term, lone)
 step context (RowLabel label) earlier _ _ _ token = row context label earlier token
 step context (BoundName column) earlier shown here shape token = bound_name-by (Steps earlier context.builder) context column (bad context
     earlier context.builder) (λ n. bound context true _ _ _ _ (InBounds None) shown (free-completes _ _ here shape)) (λ relation n. n) token
-step context (BoundLeftRelation l relation) earlier shown here shape token = bound_column-by (Steps earlier context.builder)
-    context l relation (bad context earlier context.builder) (λ name n. bound context true name (limits_by (flip relation) l) earlier
-    (Name name) (InBounds (Some (name, relation))) shown (name-completes earlier relation l name here shape)) token
-step context (AtSide sided) earlier shown here shape token = grind (arith, side-by, bad, side, number-value, infinite-value)
-step context (SideSign sided sign) earlier shown here shape token = grind (arith, limit-by, bad, signed_side, number-value, infinite-value)
+step context (BoundLeftRelation l relation) earlier shown here shape token = bound_column-by (Steps earlier context.builder) context l
+    relation (bad context earlier context.builder) (λ name n. bound context true name (limits_by (flip relation) l) earlier (Name name)
+    (InBounds (Some (name, relation))) shown (grind arith)) token
+step context (AtSide sided) earlier shown here shape token = grind (arith, side-by, bad, side)
+step context (SideSign sided sign) earlier shown here shape token = grind (arith, limit-by, bad, signed_side)
 step context _ earlier shown here shape token = grind arith
 
 -- ---- the laws

@@ -5,20 +5,20 @@ use Prelude.{◌&&◌, unwrap_or, if◌then◌else◌, list_any, flat_map, appen
 use Prelude.{FaultKind, Limit, Sense, MinusInf, PlusInf, or_left, or_right, those_of, RowDefinition, Declaration, Declarations, Draft}
 use Prelude.{by_limits, empty_draft, with_declaration, with_declarations, declare_row, declare_column, declare_semi, bounds_declared}
 use Prelude.{has_name, has_coefficient, has_row, have_infinite_side, refusals_in_turn, itself_named, has-put, has-put_key, same_name}
-use Prelude.{kind_of_build_fault, Section, Objective, Rows, SectionWord, Context, Relation, SignOf, ItemOwner, OfObjective, OfRow, Place}
+use Prelude.{kind_of_build_fault, Objective, Rows, SectionWord, Context, Relation, SignOf, ItemOwner, OfObjective, OfRow, Place}
 use Prelude.{AtStart, BeforeItems, InObjective, BetweenRows, InRow, InBounds, InSemis, SideOwner, SideOfRow, SideOfBound, State, Between}
 use Prelude.{AtObjective, ObjectiveName, AtSemi, Signs, ItemNumber, RowLeftRelation, BoundName, BoundLeftRelation, AtSide, SideSign}
 use Prelude.{AfterEnd, AfterToken, Goes, Refuses, refuse, with_made, declare_unless_refused, take_after_declarations, declare_at, take_term}
-use Prelude.{take_after_signs, begin_item, take_bound, take_side, no_limits, may_begin_section, open_section, begin_row}
+use Prelude.{begin_item, take_bound, take_side, no_limits, may_begin_section, open_section, begin_row}
 use Prelude.{take_second_relation, name_taken, begin_phrase, begin, one, apply_sign, infinity, Limits, limits_by, flip, term_declared}
-use Prelude.{objective_declared, default_objective, first_item_declared, without_terms, row_limits, row_declared, PartialRow, start}
+use Prelude.{objective_declared, default_objective, first_item_declared, without_terms, row_limits, row_declared, PartialRow}
 use Prelude.{Terminal, Opens, Name, Number, Sign, Compares, Colon, Infinity, Free, new_column, take_after_lone_number, take, AreNew}
-use Prelude.{IsInWords, is_section, current_section, is_under, is_named, last_name, ends_in_first_word, term_columns, repeats_entry}
+use Prelude.{IsInWords, current_section, is_under, is_named, last_name, term_columns, repeats_entry}
 use Rattle.mpslp_model_core.specs.Model.{CoefficientKey}
 use Rattle.mpslp_builder.specs.Declaration.{is_objective}
 use Rattle.mpslp_lp_sentences.proofs.FaultedTokens.{in-words, refuses, first-refused, signs-by, item-by, limit-by, listed-by, bound_name-by}
 use Rattle.mpslp_lp_sentences.proofs.FaultedTokens.{bound_column-by, side-by, begin-by, objective-by, objective_name-by, item_number-by}
-use Rattle.mpslp_lp_sentences.proofs.{FaultedTokens.semi-by, RowShapes.{PlaceShape, SignsShape, NumberShape, Shape, HasTerms}}
+use Rattle.mpslp_lp_sentences.proofs.{FaultedTokens.semi-by, RowShapes.{PlaceShape, Shape, HasTerms}}
 use Rattle.mpslp_lp_sentences.proofs.RowNames.{ObjectiveAt, Known, known-later}
 use Rattle.mpslp_lp_sentences.proofs.SectionFaults.{section_at_place, section_of_item, section_at}
 use Rattle.mpslp_types.specs.declared.faults.BuildFault.TheVariants as builds
@@ -146,9 +146,6 @@ known-terms : (name : List ℕ) (terms : List Pair) (all : Draft)
 known-terms _ [] _ known _ = known
 known-terms _ (term ∷ terms) all known there = known-terms _ terms _ (known-more all _ _ _ known there) there
 
-known-row : (all : Draft) (name : List ℕ) (form : RowDefinition) → AreKnown all → AreKnown (with_declaration all (declare_row name form))
-known-row all name form known k h = grind (arith, has-put, or_right)
-
 -- the columns of a row that has no coefficients yet are new
 terms-unrefused : (name : List ℕ) (terms seen : List Pair) (all : Draft) → AreNew seen terms
     → ((column : List ℕ) → has_coefficient all (key name column) ≡ true → list_any (λ (term : Pair). same_bytes column term.0) seen ≡ true)
@@ -179,7 +176,7 @@ row_ended context row relation l earlier token known new = by (has_row context.b
     after : has_row context.builder row.name ≡ false → (refusals : List BuildFault)
         → refusals_in_turn all (flat_map (term_declared row.name) row.terms) ≡ refusals → KeepsEntries earlier token
         (declare_unless_refused context token refusals BetweenRows (row_declared row (row_limits row.left relation l)))
-    after e [] k = (known-terms row.name row.terms all (known-row context.builder row.name form known) there, tt)
+    after e [] k = (known-terms row.name row.terms all (grind (arith, has-put, or_right)) there, tt)
     after e (first ∷ more) k = refused context earlier token (kind_of_build_fault first) (says-by earlier token all
         (flat_map (term_declared row.name) row.terms) (λ m. never (terms-unrefused row.name row.terms [] all new (λ column n. never e
         (known (key row.name column) n))) m) first (first-refused (flat_map (term_declared row.name) row.terms) all first more k))
@@ -190,9 +187,6 @@ row_ended context row relation l earlier token known new = by (has_row context.b
     by = grind (arith, refused, after, all)
 
 -- ---- items
-
-objective-no_word : (earlier : Tokens) → current_section earlier ≡ Some Objective → ends_in_first_word earlier ≡ false
-objective-no_word = grind arith
 
 new-more : (terms seen : List Pair) (column : List ℕ) (value : Decimal) → AreNew seen terms
     → list_any (λ (t : Pair). same_bytes column t.0) (seen ++ terms) ≡ false → AreNew seen (terms ++ (column, value) ∷ [])
@@ -214,16 +208,11 @@ repeats : (earlier : Tokens) (column : List ℕ) → (is_under Objective earlier
     → is_named column (term_columns earlier) ≡ true → repeats_entry earlier (Name column) ≡ true
 repeats = grind arith
 
-under-owner : (section : Section) → (is_section Objective section || is_section Rows section) ≡ true
-    → (earlier : Tokens) → current_section earlier ≡ Some section → (is_under Objective earlier || is_under Rows earlier) ≡ true
-under-owner = grind arith
-
 term : (context : Context) (owner : ItemOwner) (column : List ℕ) (value : Decimal) (earlier : Tokens) → AreKnown context.builder
     → Owned owner earlier context.builder → KeepsEntries earlier (Name column) (take_term context owner column value (Name column))
-term context (OfObjective name) column value earlier known h =
-    grind (arith, declared, repeats, under-owner, known-more, or_left, objective-no_word, has-put_key, or_right)
-term context (OfRow _) column _ earlier known h = branch _ _ _ _ _ (λ e. refused context earlier (Name column) kinds.DuplicateEntry
-    (repeats earlier column (under-owner _ refl earlier h.2) (h.1 _ e))) (λ e. (known, new-more _ _ _ _ h.0 e))
+term context (OfObjective name) column value earlier known h = grind (arith, declared, repeats, known-more, or_left, has-put_key, or_right)
+term context (OfRow _) column _ earlier known h = branch _ _ _ _ _ (λ e. refused context earlier (Name column) kinds.DuplicateEntry (repeats
+    earlier column (grind arith) (h.1 _ e))) (λ e. (known, new-more _ _ _ _ h.0 e))
 
 owner-signed : (owner : ItemOwner) (sign : SignOf) (earlier : Tokens) (all : Draft) → OwnerEntries owner earlier all → OwnerEntries owner (Sign sign ∷ earlier) all
 owner-signed = grind arith
@@ -233,10 +222,6 @@ owner-numbered = grind arith
 
 owner-entries : (owner : ItemOwner) (earlier : Tokens) (all : Draft) → Owned owner earlier all → OwnerEntries owner earlier all
 owner-entries = grind arith
-
-signs : (context : Context) (owner : ItemOwner) (sign : SignOf) (earlier : Tokens) → AreKnown context.builder
-    → Owned owner earlier context.builder → (token : Terminal) → KeepsEntries earlier token (take_after_signs context owner sign token)
-signs = grind (arith, owner-entries, signs-by, bad, owner-signed, term, owner-numbered)
 
 item : (context : Context) (owner : ItemOwner) (earlier : Tokens) → AreKnown context.builder
     → Owned owner earlier context.builder → (token : Terminal) → KeepsEntries earlier token (begin_item context owner token)
@@ -329,14 +314,6 @@ named_objective context sense label earlier none last here token = objective_nam
 
 -- ---- each state
 
-owned : (owner : ItemOwner) (earlier : Tokens) (all : Draft)
-    → OwnerEntries owner earlier all → SignsShape owner earlier → current_section earlier ≡ section_of_item owner → Owned owner earlier all
-owned = grind arith
-
-owned-number : (owner : ItemOwner) (earlier : Tokens) (all : Draft)
-    → OwnerEntries owner earlier all → NumberShape owner earlier → current_section earlier ≡ section_of_item owner → Owned owner earlier all
-owned-number = grind arith
-
 side : (context : Context) (sided : SideOwner) (l : Limit) (earlier : Tokens) (token : Terminal)
     → AreKnown context.builder → SideEntries sided → KeepsEntries earlier token (take_side context sided l token)
 side _ (SideOfRow row _) l _ _ known h = row_ended _ row _ l _ _ known h
@@ -350,8 +327,9 @@ step context (AtObjective sense) earlier known h o shape here token = grind (ari
 step _ (ObjectiveName _ _) _ _ h o _ here _ = named_objective _ _ _ _ o.0.none o.1 here _
 step context AtSemi earlier known h o shape here token =
     semi-by (KeepsEntries earlier) context (known, tt) (first InSemis (with_made context []) earlier known tt shape here) token
-step context (Signs owner sign) earlier known h o shape here token = grind (arith, signs, owned)
-step context (ItemNumber owner sign value) earlier known h o shape here token = grind (arith, item_number-by, term, owned-number, lone)
+step context (Signs owner sign) earlier known h o shape here token =
+    grind (arith, owner-entries, signs-by, bad, owner-signed, term, owner-numbered)
+step context (ItemNumber owner sign value) earlier known h o shape here token = grind (arith, item_number-by, term, lone)
 step context (RowLeftRelation partial) earlier known h o shape here token = grind (arith, item)
 step context (BoundName column) earlier known h o _ _ token = bound_name-by (KeepsEntries earlier) context column
     (bad context earlier) (bound context true column no_limits earlier Free None known) (λ relation. (known, tt)) token
@@ -372,9 +350,6 @@ record Entered (earlier : Tokens) (context : Context) (state : State) : Type 0 w
   known : AreKnown context.builder
   entries : EntriesAt state earlier context.builder
 
-none-entered : Entered [] start.context (Between AtStart)
-none-entered = grind arith
-
 taken : (earlier : Tokens) (context : Context) (state : State) (token : Terminal) → Entered earlier context state → KeepsEntries earlier token (take context state token)
 taken = grind (arith, step, opened)
 
@@ -383,9 +358,5 @@ entered-later : (earlier : Tokens) (context : Context) (state : State) (token : 
 entered-later earlier _ _ token _ _ h e = let parts = subst (λ answer. KeepsEntries earlier token answer) e (taken _ _ _ _ h) in
     record { rows = known-later _ _ _ _ _ _ h.rows e; known = parts.0; entries = parts.1 }
 
-repeated : (earlier : Tokens) (context : Context) (state : State) (token : Terminal)
-    → Entered earlier context state → take context state token ≡ Refuses kinds.DuplicateEntry → repeats_entry earlier token ≡ true
-repeated = grind (arith, taken)
-
 pub duplicate-entry : IsInWords kinds.DuplicateEntry repeats_entry
-duplicate-entry = in-words _ _ _ (record { at_start = none-entered; goes = entered-later; refuses = repeated }) refl refl
+duplicate-entry = in-words _ _ _ (record { at_start = grind arith; goes = entered-later; refuses = (grind (arith, taken)) }) refl refl

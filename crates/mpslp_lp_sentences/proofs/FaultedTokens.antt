@@ -3,24 +3,24 @@ use Rattle.mpslp_lp_sentences.proofs.Prelude
 use Prelude.{arith, ◌≡◌, refl, sym, ap, ◌∙◌, List, [], ◌∷◌, ℕ, Bool, true, false, Option, Some, None, not, nat_le, filter_map}
 use Prelude.{if◌then◌else◌, list_any, list_all, cons_option, option_map, option_map_or, second_so, Fault, FaultKind, is_nonempty, head_of}
 use Prelude.{Draft, is_kind, number_fault, FaultTests, first_held, has_legal_length, is_legal_byte, outside_comment, Token, tokens}
-use Prelude.{name_fault, word_fault, token_fault, lexical_fault, subst, ◌++◌, append_assoc, suc, ◌+◌, ◌-◌, ◌^◌, reverse, is_none, min}
+use Prelude.{name_fault, word_fault, token_fault, lexical_fault, subst, ◌++◌, append_assoc, ◌+◌, ◌-◌, ◌^◌, reverse, is_none, min}
 use Prelude.{length, flat_map, enumerate_from, append-nil, reverse-append, both_so, fault_on_line, Outcome, Finished, Refused, Open}
 use Prelude.{Terminal, terminals, start, AfterToken, Goes, Refuses, take, Context, AtStart, State, Between, outcome, fault_of, IsAtToken}
 use Prelude.{IsInWords, false≢true, cond, map, ◌||◌, map-append, list_any-append, Decimal, BuildFault, true_from, those_of, Declarations}
 use Prelude.{with_declaration, refusal_tests, refusals_in_turn, kind_of_build_fault, term_declared, limit_of, Limit, PlusInf, Sense}
-use Prelude.{Declaration, declare_column, declare_constant, SectionWord, Relation, SignOf, Plus, Minus, ItemOwner, OfObjective, OfRow}
-use Prelude.{LastWord, Continuous, Place, BeforeItems, InObjective, InRow, InBounds, InSemis, SideOwner, SideOfRow, SideOfBound}
-use Prelude.{AtObjective, ObjectiveName, AtLastWord, AtSemi, Signs, ItemNumber, RowSign, RowNumber, RowLeft, BoundName, BoundLeftRelation}
+use Prelude.{Declaration, declare_column, declare_constant, SectionWord, Relation, SignOf, Plus, Minus, ItemOwner, OfObjective}
+use Prelude.{LastWord, Continuous, Place, BeforeItems, InObjective, InBounds, InSemis, SideOwner, SideOfBound}
+use Prelude.{AtObjective, ObjectiveName, AtLastWord, AtSemi, Signs, ItemNumber, BoundName, BoundLeftRelation}
 use Prelude.{AtSide, SideSign, refuse, with_made, declare_at, take_term, take_after_signs, begin_item, take_bound, take_side}
 use Prelude.{take_side_value, no_limits, opened_by, may_begin_section, is_last_word, open_section, name_taken, begin_phrase, begin, one}
 use Prelude.{product, apply_sign, infinity, limits_by, flip, objective_declared, default_objective, first_item_declared, default_row}
-use Prelude.{without_terms, fits_left, PartialRow, Opens, Name, Number, Sign, Compares, Colon, Infinity, Free, begin_after}
+use Prelude.{PartialRow, Opens, Name, Number, Sign, Compares, Colon, Infinity, Free, begin_phrase_after}
 use Prelude.{take_after_lone_number}
 use Rattle.std.proofs.{lemmas.Grind.reverse_onto, Math.Dec.eqb_refl}
 use Rattle.mpslp_types.specs.FaultOrder.{kind_rank, least_kind}
 use Rattle.mpslp_builder.specs.FileFault.{named_kinds, whole_fault, names_with, named_faults, file_fault}
 use Rattle.mpslp_lp.{specs.LineByLine.{take_all, take_line, read_from}, proofs.LineReaderLemmas.outcome-read}
-use Rattle.mpslp_lp_tokens.specs.declared.{tokens.TokenKind.TokenKind, words.WordClass.{WordClass, TheVariants.Sos}}
+use Rattle.mpslp_lp_tokens.specs.declared.{words.WordClass.{WordClass}}
 use Rattle.mpslp_types.specs.declared.faults.FaultKind.TheVariants as kinds
 
 -- ---- a line by itself
@@ -46,12 +46,9 @@ name-lexical = grind arith
 word-lexical : (text : List ℕ) (word_class : WordClass) → AreLexical (word_fault text word_class)
 word-lexical = grind (arith, name-lexical)
 
-token-lexical : (kind : TokenKind) (text : List ℕ) → AreLexical (token_fault kind text)
-token-lexical = grind (arith, word-lexical, number-lexical)
-
 tokens-lexical : (found : List Token) → AreLexical (least_kind (filter_map (λ (token : Token). token_fault token.kind token.text) found))
 tokens-lexical [] = refl
-tokens-lexical (token ∷ found) = by _ (token-lexical token.kind token.text) (tokens-lexical found)
+tokens-lexical (token ∷ found) = by _ (grind (arith, word-lexical, number-lexical)) (tokens-lexical found)
   where
     rest : List FaultKind
     rest = filter_map (λ token. token_fault token.kind token.text) found
@@ -132,9 +129,6 @@ record OnLine
 abbrev the_refused : Fault → Outcome Fault Draft
 the_refused fault = Refused fault
 
-one_fault : (a b : Fault) → the_refused a ≡ the_refused b → a ≡ b
-one_fault a b e = cc
-
 module _ (kind : FaultKind) (is_such : List Terminal → Terminal → Bool) (Knows : List Terminal → Context → State → Type 0) (knowing : Knowing kind is_such Knows) where
   -- ---- the tokens of a line
 
@@ -142,22 +136,19 @@ module _ (kind : FaultKind) (is_such : List Terminal → Terminal → Bool) (Kno
   IsAfter earlier xs (Goes after next) = Knows (reverse xs ++ earlier) after next
   IsAfter earlier xs (Refuses other) = other ≡ kind → OnToken is_such earlier xs
 
-  turned : (x : Terminal) (xs earlier : List Terminal) → reverse xs ++ (x ∷ earlier) ≡ reverse (x ∷ xs) ++ earlier
-  turned = grind (arith, reverse_onto, append_assoc, reverse)
-
   tokens-taken : (xs earlier : List Terminal) (context : Context) (state : State) → Knows earlier context state → IsAfter earlier xs (take_all context state xs)
   tokens-taken [] _ _ _ known = known
   tokens-taken (x ∷ xs) earlier context state known =
       by (take context state x) refl (λ after next k. tokens-taken xs (x ∷ earlier) after next k)
     where
       later : (taken : AfterToken) → IsAfter (x ∷ earlier) xs taken → IsAfter earlier (x ∷ xs) taken
-      later (Goes after next) k = subst (λ (ys : List Terminal). Knows ys after next) (turned x xs earlier) k
+      later (Goes after next) k = subst (λ (ys : List Terminal). Knows ys after next) (grind (arith, reverse_onto, append_assoc, reverse)) k
       later (Refuses _) k = λ e. let found = k e in record {
         front = x ∷ found.front;
         token = found.token;
         back = found.back;
         parted = ap (λ (ys : List Terminal). x ∷ ys) found.parted;
-        such = ap (λ (ys : List Terminal). is_such ys found.token) (sym (turned x found.front earlier)) ∙ found.such;
+        such = ap (λ (ys : List Terminal). is_such ys found.token) (sym (grind (arith, reverse_onto, append_assoc, reverse))) ∙ found.such;
       }
 
       by : (taken : AfterToken) → take context state x ≡ taken → ((after : Context) (next : State)
@@ -174,15 +165,6 @@ module _ (kind : FaultKind) (is_such : List Terminal → Terminal → Bool) (Kno
 
   -- ---- the lines
 
-  one-less : (m n : ℕ) → m + (n + 1) ≡ suc m + n
-  one-less m n = omega arith
-
-  none-before : (n : ℕ) → n ≡ 0 + n
-  none-before n = omega arith
-
-  joined : (xs ys earlier : List Terminal) → reverse ys ++ (reverse xs ++ earlier) ≡ reverse (xs ++ ys) ++ earlier
-  joined = grind (arith, reverse-append, append_assoc, reverse)
-
   -- the lines after this one
   abbrev Rest : List (List ℕ) → ℕ → List ℕ → List Terminal → Fault → Type 0
   Rest ls n l earlier fault = (after : Context) (next : State) → Knows (reverse (terminals l) ++ earlier) after next → read_from after next
@@ -191,7 +173,7 @@ module _ (kind : FaultKind) (is_such : List Terminal → Terminal → Bool) (Kno
   lines-read : (ls : List (List ℕ)) (n : ℕ) (earlier : List Terminal) (context : Context) (state : State) (fault : Fault)
       → is_lexical kind ≡ false → fault.kind ≡ kind
       → Knows earlier context state → read_from context state (enumerate_from n ls) ≡ Refused fault → OnLine is_such earlier ls n fault
-  lines-read [] n earlier context state fault own k known h = grind (arith)
+  lines-read [] n earlier context state fault own k known h = grind arith
   lines-read (l ∷ ls) n earlier context state fault own k known h = by (λ after next more e. lines-read ls _ _ _ _ _ own k more e) _ h
     where
       -- the line is read, and the error is on a later one
@@ -203,14 +185,14 @@ module _ (kind : FaultKind) (is_such : List Terminal → Terminal → Bool) (Kno
         line = found.line;
         later = found.later;
         text = ap (λ more. l ∷ more) found.text;
-        number = found.number ∙ ap (λ m. min m (2 ^ 64 - 1)) (one-less _ n);
+        number = found.number ∙ ap (λ m. min m (2 ^ 64 - 1)) (omega arith);
         sound = both_so _ _ (ap is_none fine) found.sound;
         front = found.front;
         token = found.token;
         back = found.back;
         tokens = found.tokens;
         such = ap (λ ys. is_such ys found.token) (ap (λ ys. reverse ys ++ earlier) (append_assoc (terminals l) _ _)
-            ∙ sym (joined (terminals l) (flat_map _ found.before ++ found.front) _)) ∙ found.such;
+            ∙ sym (grind (arith, reverse-append, append_assoc, reverse))) ∙ found.such;
       }
 
       this_line : lexical_fault l ≡ None → OnToken is_such earlier (terminals l) → fault_on_line n fault.kind ≡ fault → OnLine is_such earlier (l ∷ ls) n fault
@@ -219,7 +201,7 @@ module _ (kind : FaultKind) (is_such : List Terminal → Terminal → Bool) (Kno
         line = l;
         later = ls;
         text = refl;
-        number = sym (ap (λ f. f.line) e) ∙ ap (λ m. min m (2 ^ 64 - 1)) (none-before n);
+        number = sym (ap (λ f. f.line) e) ∙ ap (λ m. min m (2 ^ 64 - 1)) (omega arith);
         sound = both_so _ _ (ap is_none fine) refl;
         front = found.front;
         token = found.token;
@@ -232,13 +214,13 @@ module _ (kind : FaultKind) (is_such : List Terminal → Terminal → Bool) (Kno
           → lexical_fault l ≡ None → IsAfter earlier (terminals l) answer → elim answer as (λ _. Outcome Fault Draft)
           [ Goes after next ↦ read_from after next (enumerate_from (n + 1) ls) | Refuses other ↦ Refused (fault_on_line n other) ]
           ≡ Refused fault → OnLine is_such earlier (l ∷ ls) n fault
-      taken = grind (arith, later_line, one_fault, this_line)
+      taken = grind (arith, later_line, this_line)
 
       own_fault : Rest ls n l earlier fault → (o : Option FaultKind) → lexical_fault l ≡ o → elim (elim o as (λ _. AfterToken)
           [ Some other ↦ Refuses other | None ↦ take_all context state (terminals l) ]) as (λ _. Outcome Fault Draft)
           [ Goes after next ↦ read_from after next (enumerate_from (n + 1) ls) | Refuses other ↦ Refused (fault_on_line n other) ]
           ≡ Refused fault → OnLine is_such earlier (l ∷ ls) n fault
-      own_fault rest (Some other) e f = grind (arith, one_fault, is_lexical, lexical-kind)
+      own_fault rest (Some other) e f = grind (arith, is_lexical, lexical-kind)
       own_fault rest None e f = taken rest _ e (tokens-taken _ _ _ _ known) f
 
       by : Rest ls n l earlier fault → (b : Bool) → elim b as (λ _. Outcome Fault Draft) [
@@ -347,16 +329,10 @@ module _ (P : Terminal → AfterToken → Type 0) (context : Context) where
       (Name name) place (declare_column name ∷ kind_declared name ∷ []))) → (t : Terminal) → P t (name_taken place kind_declared context t)
   listed-by = grind arith
 
-  -- after a term of a row
-  pub in_row-by : (partial : PartialRow) → Bad → ((sign : SignOf) → P (Sign sign) (Goes context (Signs (OfRow partial) sign)))
-      → ((relation : Relation) → P (Compares relation) (if fits_left partial.left relation then Goes context (AtSide (SideOfRow partial
-      relation)) else refuse context (Compares relation) kinds.MixedSenses)) → (t : Terminal) → P t (begin_phrase (InRow partial) context t)
-  in_row-by = grind arith
-
   -- after a number of the objective that no name follows
   pub lone-by : (objective : List ℕ) (number : Decimal) → Bad
-      → ((sign : SignOf) → P (Sign sign) (begin_after context (declare_constant number ∷ []) (InObjective objective) (Sign sign)))
-      → ((word : SectionWord) → P (Opens word) (begin_after context (declare_constant number ∷ []) (InObjective objective) (Opens word)))
+      → ((sign : SignOf) → P (Sign sign) (begin_phrase_after context (declare_constant number ∷ []) (InObjective objective) (Sign sign)))
+      → ((word : SectionWord) → P (Opens word) (begin_phrase_after context (declare_constant number ∷ []) (InObjective objective) (Opens word)))
       → (t : Terminal) → P t (take_after_lone_number context (OfObjective objective) number t)
   lone-by = grind arith
 
@@ -392,13 +368,13 @@ module _ (P : Terminal → AfterToken → Type 0) (context : Context) where
 
   -- the first token of the objective
   pub objective-by : (sense : Sense) → ((name : List ℕ) → P (Name name) (Goes context (ObjectiveName sense name)))
-      → ((t : Terminal) → P t (begin_after context (objective_declared sense default_objective) (BeforeItems default_objective) t))
+      → ((t : Terminal) → P t (begin_phrase_after context (objective_declared sense default_objective) (BeforeItems default_objective) t))
       → (t : Terminal) → P t (take context (AtObjective sense) t)
   objective-by = grind arith
 
   -- after the first name of the objective
   pub objective_name-by : (sense : Sense) (label : List ℕ) → (P Colon (declare_at context Colon (BeforeItems label) (objective_declared
-      sense label))) → ((t : Terminal) → P t (begin_after context (first_item_declared sense label) (InObjective default_objective) t))
+      sense label))) → ((t : Terminal) → P t (begin_phrase_after context (first_item_declared sense label) (InObjective default_objective) t))
       → (t : Terminal) → P t (take context (ObjectiveName sense label) t)
   objective_name-by = grind arith
 
@@ -407,13 +383,6 @@ module _ (P : Terminal → AfterToken → Type 0) (context : Context) where
       → P (Name name) (take_term context owner name (apply_sign before number) (Name name))) → ((t : Terminal) → P t (take_after_lone_number
       context owner (apply_sign before number) t)) → (t : Terminal) → P t (take context (ItemNumber owner before number) t)
   item_number-by = grind arith
-
-  -- after the first sign of a row
-  pub row_sign-by : (label : List ℕ) (before : SignOf) → Bad → (P Infinity (Goes context (RowLeft label (infinity before)))) →
-      ((value : Decimal) → P (Number value) (Goes context (RowNumber label before value))) → ((sign : SignOf) → P (Sign sign) (Goes context
-      (Signs (OfRow (without_terms label None)) (product before sign)))) → ((name : List ℕ) → P (Name name) (take_term context (OfRow
-      (without_terms label None)) name (apply_sign before one) (Name name))) → (t : Terminal) → P t (take context (RowSign label before) t)
-  row_sign-by = grind arith
 
   -- after `semi`
   pub semi-by : P (Sign Minus) (Goes context (AtLastWord Continuous))

@@ -1,16 +1,16 @@
 -- What tokens have to be if a rule reads them: the phrases of the text, from the first token on.
 use Rattle.mpslp_lp_sentences.proofs.Prelude
 use Prelude.{arith, ◌≡◌, refl, sym, ap, subst, ◌∙◌, ℕ, List, [], ◌∷◌, ◌++◌, Option, Some, None, unwrap_or, none-some, Decimal, limit_of}
-use Prelude.{BuildFault, Declarations, with_declarations, SignOf, Plus, Relation, ◌>>=◌, gives, next, ahead, Terminal, TerminalAt, Name}
+use Prelude.{BuildFault, Declarations, with_declarations, SignOf, Plus, Relation, ◌>>=◌, next, ahead, Terminal, TerminalAt, Name}
 use Prelude.{Number, Sign, Compares, Infinity, Point, PhraseRule, Follows, goes_to, unless_refused, Context, Place, SideOf, apply_sign}
-use Prelude.{unsigned_side, side_from, side_rule, next_relation, product, number_item, signed_item, item_from, items, phrase_at, point_at}
+use Prelude.{side_from, side_rule, next_relation, product, number_item, signed_item, item_from, items, phrase_at, point_at}
 use Prelude.{at, Side, side, term, sign_tokens, side_tokens, term_tokens, product_of, signed, coefficient, limit, ◌≤◌, ◌<◌, zero, suc, ◌+◌}
 use Prelude.{Bool, true, false, append_assoc, length, flat_map, list_all, length-append, false≢true, both_so, Limit, Declaration, Draft}
 use Prelude.{declare_column, with_declarations-append, Opens, Free, SectionsSeen, AtMost, AtLeast, InBounds, Limits, limits_by, flip}
 use Prelude.{bound_sides, no_limits, bound_right, bound_after, bound_column, bound_left, name_in_section, SectionWord, Bound, bound}
 use Prelude.{free_bound, turned_bound, bounds_between, bounds_from_above, bound_tokens, bound_declares}
 use Rattle.mpslp_lp_grammar.specs.Items.{Item}
-use Rattle.mpslp_lp_sentences.{specs.Meaning.one, proofs.Whole.{Tokens, whole, listened, listened-gives, listened-one, listened-none}}
+use Rattle.mpslp_lp_sentences.{specs.Meaning.one, proofs.Whole.{Tokens, whole, listened, listened-one, listened-none}}
 use Rattle.mpslp_lp_sentences.proofs.{Whole.heard-later, Hears.{stamped, onward, multiplied, multiplied-value, signed-is, infinity-is}}
 use Rattle.mpslp_lp_sentences.proofs.Hears.{first_of_all, here, limits_declared, by-relation, flipped}
 
@@ -146,8 +146,7 @@ pub item-heard : (x : Terminal)
     (xs : List Terminal) (context : Context) (following : Item → PhraseRule Follows) (line : ℕ → ℕ) (made : Declarations)
     → Heard (item_from context (at (line 0) x) >>= following) (onward line) xs made → AnItem following line (x ∷ xs) made
 item-heard (Sign _) _ context _ _ _ h = sign-heard _ context _ _ _ _ h
-item-heard (Name column) xs _ following line _ h = found_term [] None column xs
-    (line 0) refl (sym (listened-gives (items.Term _ _ (at (line 0) _)) following (all_at (onward line) xs)) ∙ h)
+item-heard (Name column) xs _ following line _ h = found_term [] None column xs (line 0) refl (sym (grind arith) ∙ h)
 item-heard (Number _) _ _ _ _ _ h = first_number-heard _ _ _ _ _ h
 item-heard _ _ _ _ _ _ h = absurd (none-some _ h)
 
@@ -160,10 +159,6 @@ pub record ASide (following : SideOf → PhraseRule Follows) (line : ℕ → ℕ
   pub same : xs ≡ side_tokens part ++ rest
   pub heard : Heard (following (record { limit = limit part; last = last })) (onwards (side_tokens part) line) rest made
 
-limit-heard : (following : SideOf → PhraseRule Follows) (found : SideOf) (line : ℕ → ℕ) (xs : List Terminal) (made : Declarations)
-    → Heard (gives found >>= following) line xs made → Heard (following found) line xs made
-limit-heard = grind arith
-
 pub side_from-heard : (x : Terminal)
     (xs : List Terminal) (context : Context) (following : SideOf → PhraseRule Follows) (line : ℕ → ℕ) (made : Declarations)
     → Heard (side_from context (at (line 0) x) >>= following) (onward line) xs made → ASide following line (x ∷ xs) made
@@ -172,18 +167,17 @@ side_from-heard (Number value) xs _ following line _ h = record {
   rest = xs;
   last = at (line 0) (Number value);
   same = refl;
-  heard = limit-heard following _ (onward line) xs _ h;
+  heard = grind arith;
 }
-side_from-heard Infinity xs _ following line _ h = record { part = side None None; rest = xs; last = at (line 0) Infinity; same = refl; heard = limit-heard following _ (onward line) xs _ h }
+side_from-heard Infinity xs _ following line _ h =
+    record { part = side None None; rest = xs; last = at (line 0) Infinity; same = refl; heard = (grind arith) }
 side_from-heard (Sign sign) (Number value ∷ xs) context following line made h = let token = at (line 1) (Number value) in record {
   part = side (Some sign) (Some value);
   rest = xs;
   last = token;
   same = refl;
   heard = subst (λ v. Heard
-      (following (record { limit = limit_of v; last = token })) (onward (onward line)) xs made) (signed-is sign value) (limit-heard
-      following (record { limit = limit_of (apply_sign sign value); last = token }) (onward (onward line)) xs _ (sym (heard-later
-      (unsigned_side context sign token (all_at (onward (onward line)) xs)) following token (all_at (onward (onward line)) xs)) ∙ h));
+      (following (record { limit = limit_of v; last = token })) (onward (onward line)) xs made) (signed-is sign value) (grind arith);
 }
 side_from-heard (Sign sign) (Infinity ∷ xs) context following line made h = let token = at (line 1) Infinity in record {
   part = side (Some sign) None;
@@ -191,8 +185,7 @@ side_from-heard (Sign sign) (Infinity ∷ xs) context following line made h = le
   last = token;
   same = refl;
   heard = subst (λ v. Heard (following (record { limit = v; last = token })) (onward (onward line)) xs made)
-      (infinity-is sign) (limit-heard following _ (onward (onward line)) xs _ (sym (heard-later
-      (unsigned_side context sign token (all_at (onward (onward line)) xs)) following token (all_at (onward (onward line)) xs)) ∙ h));
+      (infinity-is sign) (grind arith);
 }
 side_from-heard _ _ _ _ _ _ h = absurd (none-some _ h)
 
@@ -357,11 +350,6 @@ NoRelation left xs = is_no_relation (first_of_all xs) ≡ true
 abbrev pub OneBound : SectionsSeen → Draft → (ℕ → ℕ) → List Terminal → Declarations → Type 0
 OneBound seen earlier line xs made = OnePhrase bound_tokens bound_declared any_bound InBounds NoRelation seen earlier line xs made
 
--- after a bound without a left side no relation follows
-pub none-follows : (seen : SectionsSeen) (earlier : Draft) (line : ℕ → ℕ) (xs : List Terminal) (made : Declarations)
-    → Complete (point_at (InBounds None) seen earlier) line xs made → is_no_relation (first_of_all xs) ≡ true
-none-follows = grind arith
-
 -- bounds of a column that were read
 sides-heard : (seen : SectionsSeen) (earlier : Draft) (front : Declarations)
     (column : List ℕ) (limits : Limits) (token : TerminalAt) (place : Place) (line : ℕ → ℕ) (xs : List Terminal) (made : Declarations)
@@ -382,7 +370,7 @@ column-heard seen earlier column line (Free ∷ xs) made h =
       same = refl;
       is = found.is;
       to = None;
-      after = none-follows seen _ (onward (onward line)) xs _ found.rest;
+      after = grind arith;
       heard = found.rest;
       shorter = omega arith;
     }
@@ -402,7 +390,7 @@ column-heard seen earlier column line (Compares relation ∷ xs) made h = let fr
       same = ap (λ (ys : List Terminal). Name column ∷ Compares relation ∷ ys) part.same;
       is = found.is ∙ ap (λ (ds : Declarations). ds ++ found.more) declared;
       to = None;
-      after = none-follows seen _ _ part.rest found.more found.rest;
+      after = grind arith;
       heard = subst (λ (ds : Declarations). Complete (point_at (InBounds None) seen (with_declarations earlier ds))
           (onwards (side_tokens part.part) (onward (onward line))) part.rest found.more) declared found.rest;
       shorter = omega (arith, short);
@@ -507,7 +495,7 @@ both-bound seen earlier line made x tail part AtMost AtMost column ws more same 
           ∙ sym (append_assoc (side_tokens part) middle second.rest);
       is = is ∙ ap (λ ds. front ++ ds) second.is;
       to = None;
-      after = none-follows seen _ _ second.rest _ second.heard;
+      after = grind arith;
       heard = subst (λ l. Complete (point_at (InBounds None) seen (with_declarations earlier (bound_declares (bounds_between
           part column second.part)))) l second.rest second.more) (sym (onwards-append (side_tokens part) middle line)) second.heard;
       shorter = omega (arith, less, short);
@@ -527,7 +515,7 @@ both-bound seen earlier line made x tail part AtLeast AtLeast column ws more sam
           ∙ sym (append_assoc (side_tokens part) middle second.rest);
       is = is ∙ ap (λ (ds : Declarations). front ++ ds) second.is;
       to = None;
-      after = none-follows seen _ _ second.rest second.more second.heard;
+      after = grind arith;
       heard = subst (λ (l : ℕ → ℕ). Complete (point_at (InBounds None) seen (with_declarations earlier (bound_declares (bounds_from_above
           part column second.part)))) l second.rest second.more) (sym (onwards-append (side_tokens part) middle line)) second.heard;
       shorter = omega (arith, less, short);

@@ -15,7 +15,7 @@ use Rattle.mpslp_lp_sentences.proofs.{Whole.heard, Hears.{is_elsewhere, here, on
 use Rattle.mpslp_lp_sentences.proofs.PhrasesHeard.{IsInside, inside-after, is_fresh, after_word, front_tokens, after_rows, objective-rows}
 use Rattle.mpslp_lp_sentences.proofs.Found.{all_at, onwards, onwards-append, Heard, Complete, heard-next, heard-ahead, goes-heard}
 use Rattle.mpslp_lp_sentences.proofs.Found.{ReadsNames, rest-shorter, all-phrases, all_declare, all-flat, name_token, name_declares}
-use Rattle.mpslp_lp_sentences.proofs.Found.{Anything, any_name, one-name, bound_declared, any_bound, NoRelation, none-follows, one-bound}
+use Rattle.mpslp_lp_sentences.proofs.Found.{Anything, any_name, one-name, bound_declared, any_bound, NoRelation, one-bound}
 use Rattle.mpslp_lp_sentences.proofs.FoundItems.{objective-heard, row_declared_at, between_rows, one-row, rows-numbered}
 use Rattle.mpslp_lp_tokens.specs.declared.words.Section.TheVariants as kinds
 use Rattle.mpslp_lp_tokens.specs.declared.words.SectionWord.TheVariants as words
@@ -41,21 +41,12 @@ at-end = grind arith
 
 -- ---- sections that were opened
 
-unseen : (seen : SectionsSeen) (kind : Kind) → section_fault seen kind ≡ None → has_seen seen kind ≡ false
-unseen = grind arith
-
 in-order : (seen : SectionsSeen) (kind : Kind) → section_fault seen kind ≡ None → is_out_of_order seen kind ≡ false
 in-order = grind arith
-
-clash : {b : Bool} → b ≡ true → b ≡ false → ⊥
-clash h k = grind arith
 
 -- no rows come after these sections
 abbrev pub Closed : SectionsSeen → Type 0
 Closed seen = section_fault seen kinds.Rows ≡ None → ⊥
-
-closed-after : (part : Section) (seen : SectionsSeen) → IsInside seen → Closed (with_section seen (kind_of part))
-closed-after part seen inside h = grind arith
 
 abbrev pub is_rows : SectionWord → Bool
 is_rows words.Rows = true
@@ -134,17 +125,13 @@ shorter-tail x front rest xs word same =
     by : length xs ≡ length (x ∷ (front ++ Opens word ∷ rest)) → length (Opens word ∷ rest) ≤ length (front ++ Opens word ∷ rest) → length rest + 1 < length xs
     by e less = omega (arith, e, less)
 
-heading-shorter : (opening front rest xs : List Terminal) (word : SectionWord)
-    → opens_semis opening ≡ true → xs ≡ (opening ++ front) ++ Opens word ∷ rest → length rest + 1 < length xs
-heading-shorter = grind (arith, shorter-tail)
-
 bounds-body : (seen : SectionsSeen) (earlier : Draft) (line : ℕ → ℕ) (xs : List Terminal) (made : Declarations)
     → Heard (goes_to (here (with_section seen kinds.Bounds) earlier) (InBounds None) []) (onward line) xs made
     → SomeBody kinds.Bounds seen line (Opens words.Bounds ∷ xs) made
 bounds-body seen earlier line xs made h = let inside = with_section seen kinds.Bounds in
     let goes = goes-heard (here inside earlier) (InBounds None) [] (onward line) xs made h in
     let all = all-phrases bound_tokens bound_declared any_bound InBounds NoRelation inside (one-bound inside) (length xs) None earlier
-    (onward line) xs goes.more (omega arith) (none-follows inside earlier (onward line) xs goes.more goes.rest) goes.rest in
+    (onward line) xs goes.more (omega arith) (grind arith) goes.rest in
     let flat : all_declare bound_declared earlier all.its ≡ flat_map bound_declares all.its = all-flat bound_declares all.its earlier in
     let whole : Opens words.Bounds ∷ xs ≡ (Opens words.Bounds ∷ flat_map bound_tokens all.its) ++ Opens all.word ∷ all.rest =
     ap (λ (ys : List Terminal). Opens words.Bounds ∷ ys) all.same in record {
@@ -198,21 +185,12 @@ names-found place kind seen reads earlier line xs made h =
           (all_declare (name_declares kind) earlier all.its))) (onwards ys line) (Opens all.word ∷ all.rest) all.more) tokens all.heard;
     }
 
-reads-generals : (seen : SectionsSeen) → ReadsNames InGenerals declare_integer seen
-reads-generals seen earlier n h1 tokens h = grind arith
-
-reads-binaries : (seen : SectionsSeen) → ReadsNames InBinaries declare_binary seen
-reads-binaries seen earlier n h1 tokens h = grind arith
-
-reads-semis : (seen : SectionsSeen) → ReadsNames InSemis declare_semi seen
-reads-semis seen earlier n h1 tokens h = grind arith
-
 generals-body : (seen : SectionsSeen) (earlier : Draft) (line : ℕ → ℕ) (xs : List Terminal) (made : Declarations)
     → Heard (goes_to (here (with_section seen kinds.Generals) earlier) InGenerals []) (onward line) xs made
     → SomeBody kinds.Generals seen line (Opens words.Generals ∷ xs) made
 generals-body seen earlier line xs made h = let inside = with_section seen kinds.Generals in
     let goes = goes-heard (here inside earlier) InGenerals [] (onward line) xs made h in
-    let found = names-found InGenerals declare_integer inside (reads-generals inside) earlier (onward line) xs goes.more goes.rest in
+    let found = names-found InGenerals declare_integer inside (grind arith) earlier (onward line) xs goes.more goes.rest in
     let whole : Opens words.Generals ∷ xs ≡ (Opens words.Generals ∷ name_tokens found.names) ++ Opens found.word ∷ found.rest =
     ap (λ (ys : List Terminal). Opens words.Generals ∷ ys) found.same in record {
       part = generals found.names;
@@ -237,7 +215,7 @@ binaries-body : (seen : SectionsSeen) (earlier : Draft) (line : ℕ → ℕ) (xs
     → SomeBody kinds.Binaries seen line (Opens words.Binaries ∷ xs) made
 binaries-body seen earlier line xs made h = let inside = with_section seen kinds.Binaries in
     let goes = goes-heard (here inside earlier) InBinaries [] (onward line) xs made h in
-    let found = names-found InBinaries declare_binary inside (reads-binaries inside) earlier (onward line) xs goes.more goes.rest in
+    let found = names-found InBinaries declare_binary inside (grind arith) earlier (onward line) xs goes.more goes.rest in
     let whole : Opens words.Binaries ∷ xs ≡ (Opens words.Binaries ∷ name_tokens found.names) ++ Opens found.word ∷ found.rest =
     ap (λ (ys : List Terminal). Opens words.Binaries ∷ ys) found.same in record {
       part = binaries found.names;
@@ -262,7 +240,7 @@ semis-body : (opening : List Terminal) (seen : SectionsSeen) (earlier : Draft) (
     → opens_semis opening ≡ true → Complete (point_at InSemis (with_section seen kinds.SemiContinuous) earlier)
     (onwards opening line) tail made → SomeBody kinds.SemiContinuous seen line (opening ++ tail) made
 semis-body opening seen earlier line tail made ok h = let inside = with_section seen kinds.SemiContinuous in
-    let found = names-found InSemis declare_semi inside (reads-semis inside) earlier (onwards opening line) tail made h in
+    let found = names-found InSemis declare_semi inside (grind arith) earlier (onwards opening line) tail made h in
     let whole : opening ++ tail ≡ (opening ++ name_tokens found.names) ++ Opens found.word ∷ found.rest = ap (λ (ys : List Terminal).
     opening ++ ys) found.same ∙ sym (append_assoc opening (name_tokens found.names) (Opens found.word ∷ found.rest)) in record {
       part = semis opening found.names;
@@ -279,7 +257,7 @@ semis-body opening seen earlier line tail made ok h = let inside = with_section 
         later = found.later;
         heard = subst (λ (l : ℕ → ℕ). Complete (point_at InSemis inside found.later) l (Opens found.word ∷ found.rest) found.more)
             (sym (onwards-append opening (name_tokens found.names) line)) found.heard;
-        shorter = heading-shorter opening (name_tokens found.names) found.rest (opening ++ tail) found.word ok whole;
+        shorter = grind (arith, shorter-tail);
       };
     }
 
@@ -322,7 +300,7 @@ after-section : (kind : Kind) (seen : SectionsSeen) (line : ℕ → ℕ)
     → ((inside : SectionsSeen) → IsInside inside → is_rows some.body.word ≡ false → (place : Place) (later : Draft) (on : ℕ → ℕ)
     → may_begin_section place ≡ true → Complete (point_at place inside later) on (Opens some.body.word ∷ some.body.rest) some.body.more
     → TailFound inside on (Opens some.body.word ∷ some.body.rest) some.body.more) → TailFound seen line xs made
-after-section = grind (arith, kind_of, opened-heard, onwards, heard, section-joined, unseen, inside-after, no-rows, closed-after)
+after-section = grind (arith, kind_of, opened-heard, onwards, heard, section-joined, inside-after, no-rows)
 
 pub sections-found : (n : ℕ) (place : Place) (seen : SectionsSeen) (earlier : Draft) (line : ℕ → ℕ)
     (word : SectionWord) (xs : List Terminal) (made : Declarations) → length xs < n → may_begin_section place ≡ true → IsInside seen
@@ -344,8 +322,8 @@ sections-found (suc n) place seen earlier line word xs made fits may inside plai
         rec after within some.body.word some.body.rest some.body.more none_later there later on begins some.body.shorter k)
 
     by : (first : SectionWord) → is_rows first ≡ false → Opened seen earlier line first xs made → Rest first → TailFound seen line (Opens first ∷ xs) made
-    by words.Minimize _ opened _ = absurd (clash inside.begun (unseen seen kinds.Objective opened.none))
-    by words.Maximize _ opened _ = absurd (clash inside.begun (unseen seen kinds.Objective opened.none))
+    by words.Minimize _ opened _ = absurd (grind arith)
+    by words.Maximize _ opened _ = absurd (grind arith)
     by words.Rows none_later opened rec = absurd cc
     by words.Subject none_later opened rec = absurd cc
     by words.Such none_later opened rec = absurd cc

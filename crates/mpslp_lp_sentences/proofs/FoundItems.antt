@@ -8,18 +8,18 @@ use Prelude.{objective_from, objective_rule, may_begin_section, SectionWord, poi
 use Prelude.{sense_word, item_tokens, label_tokens, objective_tokens, is_signed_item, are_items, is_objective, product_of, signed}
 use Prelude.{item_declares, objective_declares, ◌≤◌, zero, suc, ◌+◌, false, map, if◌then◌else◌, list_any, enumerate_from, append-nil}
 use Prelude.{Decimal, same_bytes, limit_of, Limit, MixedSenses, DuplicateEntry, both_so, by_limits, declare_row, IsSortedDraft}
-use Prelude.{sorted-with_declarations, next, Compares, Infinity, Relation, AtMost, AtLeast, BetweenRows, InRow, PartialRow, refuses}
+use Prelude.{sorted-with_declarations, next, Compares, Infinity, Relation, AtMost, AtLeast, BetweenRows, InRow, refuses}
 use Prelude.{goes_to, side_rule, number_item, colon, default_row, without_terms, row_item, row_first, row_after_left, row_number}
 use Prelude.{row_signed, row_from, row_named, fits_left, row_limits, row_declared, row_whole, row_end, parts-taken, Side, Term, Row, side}
 use Prelude.{row, row_between, row_from_above, side_tokens, term_tokens, terms_tokens, row_tokens, is_signed_term, is_row, coefficient}
 use Prelude.{limit, row_name, row_declares}
-use Rattle.mpslp_lp_sentences.{specs.Phrases.Objective, proofs.Hears.{here, onward, infinity-is, times-plus}}
+use Rattle.mpslp_lp_sentences.{specs.Phrases.Objective, proofs.Hears.{here, onward, infinity-is}}
 use Rattle.mpslp_lp_sentences.proofs.PhrasesHeard.{after_word, Pair, pair, row_at, in_row, terms-declare, declared-is, row-counted}
 use Rattle.mpslp_lp_sentences.proofs.Found.{onwards, Heard, Complete, complete-phrase, heard-next, heard-ahead, unless-heard, AnItem}
 use Rattle.mpslp_lp_sentences.proofs.Found.{found_term, found_lone, constant_tokens, sign-heard, item-heard, rest-shorter, complete-joined}
 use Rattle.mpslp_lp_sentences.proofs.Found.{Reading, all-phrases, all_declare, all-flat, Anything, all_at, onwards-append, number-heard}
 use Rattle.mpslp_lp_sentences.proofs.Found.{item-from_signed, first_number-heard, side-heard, relation-heard, is_no_opening}
-use Rattle.mpslp_lp_sentences.proofs.Whole.{listened-one, listened-none}
+use Rattle.mpslp_lp_sentences.proofs.Whole.{listened-one}
 use Rattle.mpslp_lp_tokens.specs.declared.words.SectionWord.TheVariants as words
 use Rattle.mpslp_lp_grammar.specs.Items as grammar_items
 
@@ -61,10 +61,6 @@ item-found name seen earlier line xs made (found_lone signs value y rest n same 
     by (Opens _) e k = from _ e k
     by _ e k = absurd cc
 
--- an item that begins with a sign has one
-sign-first : (part : Item) (sign : SignOf) (xs rest : List Terminal) → Sign sign ∷ xs ≡ item_tokens part ++ rest → is_signed_item part ≡ true
-sign-first = grind arith
-
 -- an item has a token
 item-shorter : (part : Item) (rest xs : List Terminal) → xs ≡ item_tokens part ++ rest → length rest < length xs
 item-shorter part rest xs same = subst (λ (ys : List Terminal). length rest < length ys) (sym same) (by part)
@@ -93,7 +89,7 @@ one-item name seen _ earlier line (Sign sign) xs _ _ after h =
     let found = item-found _ _ _ _ _ _
     (sign-heard _ (here _ earlier) _ _ _ _ (complete-phrase (point_at (InObjective name) seen earlier) line (Sign sign) xs _ h)) in record {
       it = found.it;
-      good_it = sign-first _ _ _ _ found.same;
+      good_it = grind arith;
       rest = found.rest;
       more = found.more;
       same = found.same;
@@ -299,16 +295,6 @@ record TermFound (seen : SectionsSeen) (earlier : Draft)
   same : xs ≡ term_tokens (term signs number column) ++ rest
   heard : Complete (in_row seen earlier name left ((column, coefficient signs number) ∷ [])) (onwards (term_tokens (term signs number column)) line) rest made
 
--- what goes on and declares nothing
-still : (seen : SectionsSeen) (earlier : Draft) (partial : PartialRow) (line : ℕ → ℕ) (xs : List Terminal) (made : Declarations)
-    → Heard (goes_to (here seen earlier) (InRow partial) []) line xs made → Complete (point_at (InRow partial) seen earlier) line xs made
-still = grind arith
-
--- a number without a name is no term
-no_constant : (seen : SectionsSeen) (earlier : Draft) (partial : PartialRow) (value : Decimal) (y : Terminal) (n : ℕ) (line : ℕ → ℕ)
-    (xs : List Terminal) (made : Declarations) → Heard (row_item (here seen earlier) partial (items.Lone value (at n y))) line xs made → ⊥
-no_constant = grind arith
-
 term-found : (seen : SectionsSeen)
     (earlier : Draft) (name : List ℕ) (left : Option (Limit × Relation)) (line : ℕ → ℕ) (xs : List Terminal) (made : Declarations)
     → AnItem (row_item (here seen earlier) (without_terms name left)) line xs made → TermFound seen earlier name left line xs made
@@ -381,20 +367,8 @@ IsSide signs value = (part : Side) × (limit part ≡ limit_of (signed (product_
 number-begins : (seen : SectionsSeen) (earlier : Draft) (name : List ℕ) (line : ℕ → ℕ) (xs : List Terminal) (made : Declarations)
     → ((signs : List SignOf) (value : Decimal) (rest : List Terminal) → xs ≡ constant_tokens signs value ++ rest → IsSide signs value)
     → AnItem (row_number (here seen earlier) name) line xs made → Begun seen earlier name line xs made
-number-begins = grind (
-  arith,
-  found_term,
-  begun-plain,
-  term-found,
-  found_lone,
-  constant_tokens,
-  here,
-  at,
-  onwards,
-  begun-sided,
-  after_left-heard,
-  no_constant,
-)
+number-begins = grind
+    (arith, found_term, begun-plain, term-found, found_lone, constant_tokens, here, at, onwards, begun-sided, after_left-heard)
 
 plain-side : (v : Decimal) (tail : List Terminal) (signs : List SignOf) (value : Decimal) (rest : List Terminal)
     → Number v ∷ tail ≡ constant_tokens signs value ++ rest → IsSide signs value
@@ -403,7 +377,7 @@ plain-side v tail (sign ∷ signs) value rest e = absurd cc
 
 signed-side : (s : SignOf) (v : Decimal) (tail : List Terminal) (signs : List SignOf) (value : Decimal) (rest : List Terminal)
     → Sign s ∷ Number v ∷ tail ≡ constant_tokens signs value ++ rest → IsSide signs value
-signed-side s v _ (sign ∷ []) value _ e = (side (Some sign) (Some value), ap (λ q. limit_of (signed q value)) (sym (times-plus _)), refl)
+signed-side s v _ (sign ∷ []) value _ e = (side (Some sign) (Some value), ap (λ q. limit_of (signed q value)) (sym (grind arith)), refl)
 signed-side s v tail _ value rest e = absurd cc
 
 begun-heard : (seen : SectionsSeen)
@@ -436,11 +410,6 @@ after_colon : (seen : SectionsSeen) (earlier : Draft) (name : List ℕ) (line : 
 after_colon _ _ _ _ [] _ h = absurd (none-some _ h)
 after_colon _ _ name line (y ∷ xs) _ h = begun-heard _ _ _ _ y _ _ (heard-next (row_from (here _ _) name) line y xs _ h)
 
-unlabelled-heard : (seen : SectionsSeen) (earlier : Draft) (line : ℕ → ℕ) (x : Terminal) (xs : List Terminal) (made : Declarations)
-    → Heard (row_from (here seen earlier) (default_row (here seen earlier)) (at (line 0) x)) (onward line) xs made
-    → Labelled seen earlier line (x ∷ xs) made
-unlabelled-heard = grind (arith, begun-heard, here)
-
 named-heard : (seen : SectionsSeen) (earlier : Draft) (name : List ℕ) (line : ℕ → ℕ) (xs : List Terminal) (made : Declarations)
     → Heard (colon >>= row_named (here seen earlier) name) (onward line) xs made → Labelled seen earlier line (Name name ∷ xs) made
 named-heard _ _ _ _ [] _ h = absurd (none-some _ h)
@@ -461,8 +430,7 @@ named-heard seen earlier name line (y ∷ xs) _ h = let default = default_row (h
     column = name;
     rest = y ∷ xs;
     same = refl;
-    heard = still seen earlier (row_at default None ((name, coefficient [] None) ∷ [])) (onward line) (y ∷ xs) _ (sym
-        (listened-none (row_named (here seen earlier) name false (all_at (onward line) (y ∷ xs))) (all_at (onward line) (y ∷ xs))) ∙ h);
+    heard = grind arith;
   });
 }
 
@@ -470,7 +438,7 @@ labelled-heard : (seen : SectionsSeen) (earlier : Draft) (line : ℕ → ℕ) (x
     → is_no_opening x ≡ true → Complete (point_at BetweenRows seen earlier) line (x ∷ xs) made → Labelled seen earlier line (x ∷ xs) made
 labelled-heard _ _ _ (Opens _) _ _ no_opening h = absurd (false≢true no_opening)
 labelled-heard seen earlier line (Name name) xs _ _ h = named-heard _ _ _ _ _ _ (complete-phrase (point_at BetweenRows seen earlier) line (Name name) xs _ h)
-labelled-heard seen earlier line x xs _ _ h = unlabelled-heard _ _ _ x _ _ (complete-phrase (point_at BetweenRows seen earlier) line x xs _ h)
+labelled-heard seen earlier line x xs _ _ h = grind (arith, begun-heard, here)
 
 -- ---- further terms, and the end of a row
 
@@ -517,11 +485,6 @@ end-heard seen earlier name left before line relation n xs made h = by (fits_lef
               (onwards (side_tokens part.part) (onward line)) part.rest found.goes.more) (sym all) found.goes.rest;
         }
 
--- a term that begins with a sign has one
-term-sign : (signs : List SignOf) (number : Option Decimal) (column : List ℕ) (sign : SignOf) (xs rest : List Terminal)
-    → Sign sign ∷ xs ≡ term_tokens (term signs number column) ++ rest → is_signed_term (term signs number column) ≡ true
-term-sign = grind arith
-
 -- what follows a term that begins with a sign is shorter
 term-shorter : (signs : List SignOf) (number : Option Decimal) (column : List ℕ) (rest xs : List Terminal)
     → xs ≡ term_tokens (term signs number column) ++ rest → length rest < length xs
@@ -555,7 +518,7 @@ terms-heard (suc n) seen earlier name left before line (Sign sign ∷ xs) made f
         let declared : List Pair → Declarations =
         λ ts. row_declared (row_at name left ts) (row_limits left later.relation (limit later.part)) in record {
           terms = first ∷ later.terms;
-          good = both_so _ _ (term-sign signs number column sign xs rest same) later.good;
+          good = both_so _ _ (grind arith) later.good;
           relation = later.relation;
           part = later.part;
           rest = later.rest;
@@ -588,13 +551,6 @@ terms-heard (suc n) seen earlier name left before line (Sign sign ∷ xs) made f
 terms-heard n _ _ _ _ _ _ _ made _ h = absurd (none-some made h)
 
 -- ---- a whole row
-
--- five parts of tokens
-parts-joined : (a b c d e rest : List Terminal) → a ++ (b ++ (c ++ (d ++ (e ++ rest)))) ≡ (a ++ (b ++ (c ++ (d ++ e)))) ++ rest
-parts-joined = grind (arith, append_assoc)
-
-parts-onwards : (a b c d : List Terminal) (line : ℕ → ℕ) → onwards (a ++ (b ++ (c ++ d))) line ≡ onwards d (onwards c (onwards b (onwards a line)))
-parts-onwards = grind (arith, onwards-append, onwards)
 
 abbrev pub row_declared_at : Draft → Row → Declarations
 row_declared_at earlier part = row_declares (length earlier.rows + 1, part)
@@ -660,10 +616,10 @@ one-row seen from earlier line x xs made no_opening after h = let label = labell
     label_tokens label.label ++ (left_tokens begun.left ++ (term_tokens head ++ (terms_tokens ended.terms ++ end))) in
     let all : x ∷ xs ≡ front ++ ended.rest = label.same ∙ ap (λ (ys : List Terminal). label_tokens label.label ++ ys) (begun.same ∙ ap
     (λ (ys : List Terminal). left_tokens begun.left ++ ys) (first.same ∙ ap (λ (ys : List Terminal). term_tokens head ++ ys) ended.same))
-    ∙ parts-joined (label_tokens label.label) (left_tokens begun.left) (term_tokens head) (terms_tokens ended.terms) end ended.rest in
+    ∙ (grind (arith, append_assoc)) in
     let lines : onwards (row_tokens whole.it) line ≡ onwards (terms_tokens ended.terms ++ end) on =
     ap (λ (tokens : List Terminal). onwards tokens line) whole.tokens
-    ∙ parts-onwards (label_tokens label.label) (left_tokens begun.left) (term_tokens head) (terms_tokens ended.terms ++ end) line in
+    ∙ (grind (arith, onwards-append, onwards)) in
     let short : length ended.rest < length first.rest =
     end-shorter ended.terms ended.relation ended.part ended.rest first.rest ended.same in
     let shorter_first : length first.rest ≤ length begun.tail = rest-shorter (term_tokens head) first.rest begun.tail first.same in

@@ -3,15 +3,15 @@ use Rattle.mpslp_lp_sentences.proofs.Prelude
 use Prelude.{arith, rules, ◌≡◌, ap, ◌∙◌, ℕ, suc, List, [], ◌∷◌, ◌++◌, Bool, true, not, append_assoc, Some, None, ◌==◌, Declarations, Draft}
 use Prelude.{with_declarations, refusals_in_turn, ◌>>=◌, next, ahead, Terminal, TerminalAt, Opens, Point, section_fault, with_section}
 use Prelude.{PhraseRule, Follows, goes_to, declares, SectionsSeen, Context, Place, section_start, may_begin_section, phrase_at, section_of}
-use Prelude.{SectionWord, point_at, at, sym, subst, false, Option, Decimal, Limit, SignOf, Plus, Name, Number, Sign, Compares, Infinity}
+use Prelude.{SectionWord, point_at, at, sym, subst, false, Option, Decimal, Limit, SignOf, Name, Number, Sign, Compares, Infinity}
 use Prelude.{Relation, SideOf, apply_sign, next_relation, product, number_item, signed_item, item_from, items, Side, side, term}
-use Prelude.{sign_tokens, number_tokens, side_tokens, term_tokens, times, product_of, signed, coefficient, limit, refl, flat_map}
+use Prelude.{sign_tokens, number_tokens, side_tokens, term_tokens, product_of, signed, coefficient, limit, refl, flat_map}
 use Prelude.{Declaration, declare_column, bounds_declared, bounds_refusals, with_declarations-append, AtMost, AtLeast, InBounds, Limits}
 use Prelude.{limits_by, flip, parts-taken, Bound, bounds_between, bounds_from_above, bound_tokens, name_tokens, bounds_by, turned}
 use Prelude.{bound_declares, names_declare}
 use Rattle.mpslp_canonical_lp.proofs.PhraseWalk.{sides-taken}
 use Rattle.mpslp_lp_grammar.specs.Items.{Item}
-use Rattle.mpslp_lp_sentences.proofs.Whole.{Tokens, preceded, whole, listened, listened-ahead, heard-later, listened-none}
+use Rattle.mpslp_lp_sentences.proofs.Whole.{Tokens, preceded, whole, listened, listened-ahead, listened-none}
 use Rattle.mpslp_lp_sentences.specs.Meaning.{one, infinity}
 use Rattle.mpslp_lp_tokens.specs.declared.words.SectionWord.TheVariants as words
 use Rattle.mpslp_lp_grammar.specs.Items as grammar_items
@@ -107,15 +107,9 @@ multiplied sign (next_one ∷ more) = multiplied (product sign next_one) more
 pub signed-is : (sign : SignOf) (value : Decimal) → apply_sign sign value ≡ signed sign value
 signed-is = grind arith
 
-pub times-plus : (sign : SignOf) → times sign Plus ≡ sign
-times-plus = grind arith
-
-times-product : (a b c : SignOf) → times (product a b) c ≡ times a (times b c)
-times-product = grind arith
-
 multiplied-is : (signs : List SignOf) (sign : SignOf) → multiplied sign signs ≡ product_of (sign ∷ signs)
-multiplied-is [] _ = sym (times-plus _)
-multiplied-is (next_one ∷ more) sign = multiplied-is more _ ∙ times-product sign next_one (product_of more)
+multiplied-is [] _ = sym (grind arith)
+multiplied-is (next_one ∷ more) sign = multiplied-is more _ ∙ (grind arith)
 
 pub multiplied-value : (sign : SignOf) (signs : List SignOf) (value : Decimal) → apply_sign (multiplied sign signs) value ≡ signed (product_of (sign ∷ signs)) value
 multiplied-value sign signs value = signed-is (multiplied sign signs) value ∙ ap (λ s. signed s value) (multiplied-is signs sign)
@@ -166,15 +160,8 @@ module _ (last : ℕ) (later : Tokens) where
       (xs : List Terminal) (made : Declarations) → Hears last later (signed_item context (multiplied sign signs) >>= following) xs made
       → Hears last later (signed_item context sign >>= following) (sign_tokens signs ++ xs) made
   hears-signs [] _ _ _ _ _ h _ = h _
-  hears-signs (next_one ∷ signs) context sign following xs made h line = grind (
-    arith,
-    heard-later,
-    stamped,
-    onward,
-    ending,
-    at,
-    hears-signs signs context (product sign next_one) following xs made h (onward line),
-  )
+  hears-signs (next_one ∷ signs) context sign following xs made h line = grind
+      (arith, stamped, onward, ending, at, hears-signs signs context (product sign next_one) following xs made h (onward line))
 
   hears-signed_name : (context : Context) (sign : SignOf) (column : List ℕ) (following : Item → PhraseRule Follows) (xs : List Terminal)
       (made : Declarations) → ((n : ℕ) → Hears last later (following (items.Term (apply_sign sign one) column (at n (Name column))))
@@ -257,12 +244,6 @@ module _ (last : ℕ) (later : Tokens) where
       seen earlier) (Compares AtMost ∷ (side_tokens part ++ xs)) (bounds_declared column None (Some (limit part)) ++ made)
   whole-second_most = grind arith
 
-  whole-second_least : (seen : SectionsSeen) (earlier : Draft) (column : List ℕ) (part : Side) (xs : List Terminal) (made : Declarations)
-      → bounds_refusals earlier column (Some (limit part)) None ≡ [] → IsWhole last later (point_at (InBounds None) seen (with_declarations
-      earlier (bounds_declared column (Some (limit part)) None))) xs made → IsWhole last later (point_at (InBounds (Some (column, AtLeast)))
-      seen earlier) (Compares AtLeast ∷ (side_tokens part ++ xs)) (bounds_declared column (Some (limit part)) None ++ made)
-  whole-second_least = grind arith
-
   -- after a bound
   abbrev After : SectionsSeen → Draft → List Terminal → Declarations → Type 0
   After seen earlier xs made = (left : Option (List ℕ × Relation)) → IsWhole last later (point_at (InBounds left) seen earlier) xs made
@@ -283,8 +264,7 @@ module _ (last : ℕ) (later : Tokens) where
       (point_at (InBounds left) seen earlier) tokens (bound_declares (bounds_from_above upper column lower) ++ made))
       (sym (append_assoc (side_tokens upper) (Compares AtLeast ∷ Name column ∷ Compares AtLeast ∷ side_tokens lower) xs))
       (whole-left left seen earlier upper AtLeast _ (Compares AtLeast ∷ (side_tokens lower ++ xs)) _ (sides-taken (with_declarations earlier
-      (declare_column _ ∷ [])) column None (Some (limit upper)) taken.0 refl) (whole-second_least _ (with_declarations earlier front)
-      column lower xs _ (sides-taken (with_declarations earlier front) column (Some (limit lower)) None taken.1 refl) (rest _)))
+      (declare_column _ ∷ [])) column None (Some (limit upper)) taken.0 refl) (grind arith))
   whole-bound _ left seen earlier xs made = λ h rest line. grind arith
 
   -- all bounds of the section

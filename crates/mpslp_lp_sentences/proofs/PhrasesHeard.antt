@@ -1,7 +1,7 @@
 -- How the grammar reads the objective, rows and sections.
 use Rattle.mpslp_lp_sentences.proofs.Prelude
 use Prelude.{arith, ◌≡◌, refl, sym, subst, ℕ, List, [], ◌∷◌, ◌++◌, Bool, true, false, append_assoc, Option, Some, None, flat_map, list_all}
-use Prelude.{first_so, second_so, Decimal, Sense, Declarations, Draft, empty_draft, declare_constant, with_declarations, refusals_in_turn}
+use Prelude.{first_so, second_so, Decimal, Sense, Declarations, Draft, empty_draft, with_declarations, refusals_in_turn}
 use Prelude.{with_declarations-append, SignOf, ◌>>=◌, ahead, Terminal, Opens, Name, Number, Sign, Colon, start, no_section_seen}
 use Prelude.{with_section, declares, SectionsSeen, BeforeItems, InObjective, signed_item, items, objective_item, objective_declared}
 use Prelude.{default_objective, first_item_declared, objective_named, objective_from, objective_rule, point_at, at, parts-taken, Item, term}
@@ -11,10 +11,10 @@ use Prelude.{find, same_bytes, bytes_cmp, nor, RowDefinition, declare_row, with_
 use Prelude.{IsSortedDraft, term_declared, AreNew, map, if◌then◌else◌, unwrap_or, enumerate_from, append-nil, Limit, MinusInf, PlusInf}
 use Prelude.{DuplicateEntry, by_limits, sorted-with_declarations, next, Compares, Point, refuses, goes_to, Relation, AtMost, AtLeast}
 use Prelude.{BetweenRows, InRow, PartialRow, Limits, sides_by, colon, default_row, without_terms, row_item, row_first, row_after_left}
-use Prelude.{row_signed, row_from, row_named, fits_left, row_limits, row_declared, phrase_at, Side, Term, Row, row, row_between}
+use Prelude.{row_signed, row_from, row_named, row_limits, row_declared, Side, Term, Row, row, row_between}
 use Prelude.{row_from_above, side_tokens, term_tokens, terms_tokens, row_tokens, is_signed_term, is_row, limit, term_declares, row_name}
 use Prelude.{row_with, row_declares, not, not_so, both_so, sorted-draft_of, Minus, section_fault, has_seen, Context, Place, InSemis}
-use Prelude.{LastWord, opened_by, is_last_word, last_word, semi_from, may_begin_section, Kind, RowSection, File, no_rows, rows, bounds}
+use Prelude.{semi_from, may_begin_section, Kind, RowSection, File, no_rows, rows, bounds}
 use Prelude.{generals, binaries, semis, file, name_tokens, row_section_tokens, section_tokens, opens_rows, is_row_section, same_section}
 use Prelude.{are_sections, is_file, objective_name, row_section_declares, section_declares, file_declares}
 use Rattle.std.specs.{Cmp.Lexicographic.nat_list_cmp_total, FinMap.Entries.length-put}
@@ -22,7 +22,7 @@ use Rattle.mpslp_lp_sentences.specs.{Phrases.{Objective, Section}, Meaning.limit
 use Rattle.mpslp_lp_sentences.proofs.Whole.{Tokens, listened, listened-one}
 use Rattle.mpslp_lp_sentences.proofs.Hears.{first_of_all, here, Hears, IsWhole, IsWholeAnywhere, whole-begins, hears-next, hears-ahead}
 use Rattle.mpslp_lp_sentences.proofs.Hears.{hears-declares, whole-joined, multiplied, multiplied-value, term_before, term-before}
-use Rattle.mpslp_lp_sentences.proofs.Hears.{is_no_name, hears-lone, hears-signs, hears-signed_number, hears-term, HearsTerm, stamped}
+use Rattle.mpslp_lp_sentences.proofs.Hears.{is_no_name, hears-lone, hears-signs, hears-signed_number, hears-term, stamped}
 use Rattle.mpslp_lp_sentences.proofs.Hears.{onward, ending, hears-goes, side_first, side_rest, side-split, hears-first, hears-relation}
 use Rattle.mpslp_lp_sentences.proofs.Hears.{is_elsewhere, whole-opens, whole-bounds, whole-names}
 use Rattle.mpslp_lp_tokens.specs.declared.words.Section.TheVariants as sections
@@ -58,19 +58,6 @@ after_word = with_section no_section_seen sections.Objective
 module _ (last : ℕ) (later : Tokens) where
   -- ---- one item
 
-  heard-term : (name : List ℕ) (seen : SectionsSeen) (earlier : Draft) (signs : List SignOf) (number : Option Decimal) (column : List ℕ)
-      (xs : List Terminal) (made : Declarations) → refusals_in_turn earlier (item_declares name (a_term (term signs number column))) ≡ []
-      → IsWhole last later (point_at (InObjective name) seen
-      (with_declarations earlier (item_declares name (a_term (term signs number column))))) xs made → HearsTerm last later (objective_item
-      (here seen earlier) name) (coefficient signs number) column xs (item_declares name (a_term (term signs number column)) ++ made)
-  heard-term name seen earlier signs number column xs made h rest n = grind arith
-
-  heard-constant : (name : List ℕ) (seen : SectionsSeen) (earlier : Draft) (value : Decimal) (x : Terminal)
-      (n : ℕ) (xs : List Terminal) (made : Declarations) → is_opening x ≡ true → refusals_in_turn earlier (declare_constant value ∷ []) ≡ []
-      → IsWhole last later (point_at (InObjective name) seen (with_declarations earlier (declare_constant value ∷ []))) xs made
-      → Hears last later (objective_item (here seen earlier) name (items.Lone value (at n x))) xs (declare_constant value ∷ made)
-  heard-constant = grind arith
-
   -- a constant after its first sign
   heard-signed_constant : (name : List ℕ) (seen : SectionsSeen) (earlier : Draft) (sign : SignOf)
       (signs : List SignOf) (value : Decimal) (xs : List Terminal) (made : Declarations) → is_opening (first_of_all xs) ≡ true
@@ -78,12 +65,12 @@ module _ (last : ℕ) (later : Tokens) where
       (point_at (InObjective name) seen (with_declarations earlier (item_declares name (a_constant (sign ∷ signs) value)))) xs made
       → Hears last later (signed_item (here seen earlier) sign >>= objective_item (here seen earlier) name)
       (sign_tokens signs ++ Number value ∷ xs) (item_declares name (a_constant (sign ∷ signs) value) ++ made)
-  heard-signed_constant name seen earlier sign signs value xs made opens h rest = let context = here seen earlier in
-      hears-signs last later signs context sign (objective_item context name) (Number value ∷ xs) _ (hears-signed_number last later context
-      (multiplied sign signs) value (objective_item context name) xs _ (hears-lone _ _ (multiplied sign signs) value
-      (objective_item context name) xs _ (no_name-opening _ opens) (subst (λ v. (n : ℕ) → Hears last later (objective_item context name
-      (items.Lone v (at n (first_of_all xs)))) xs (item_declares name (a_constant (sign ∷ signs) value) ++ made))
-      (sym (multiplied-value sign signs value)) (λ n. heard-constant name seen earlier _ _ n xs _ opens h rest))))
+  heard-signed_constant name seen earlier sign signs value xs made opens h rest = let context = here seen earlier in hears-signs last later
+      signs context sign (objective_item context name) (Number value ∷ xs) _ (hears-signed_number last later context (multiplied sign signs)
+      value (objective_item context name) xs _ (hears-lone _ _ (multiplied sign signs) value (objective_item context name) xs _
+      (no_name-opening _ opens) (subst (λ v. (n : ℕ) → Hears last later (objective_item context name (items.Lone v (at n (first_of_all
+      xs)))) xs (item_declares name (a_constant (sign ∷ signs) value) ++ made)) (sym (multiplied-value sign signs value)) (λ n. grind
+      arith))))
 
   -- an item after another one
   whole-later : (name : List ℕ) (seen : SectionsSeen) (earlier : Draft) (part : Item) (xs : List Terminal) (made : Declarations)
@@ -92,9 +79,9 @@ module _ (last : ℕ) (later : Tokens) where
       → IsWhole last later (point_at (InObjective name) seen earlier) (item_tokens part ++ xs) (item_declares name part ++ made)
   whole-later name seen earlier (a_term (term (sign ∷ signs) number column)) xs made s _ h rest = subst (λ tokens. IsWhole last later
       (point_at (InObjective name) seen earlier) tokens (item_declares name (a_term (term (sign ∷ signs) number column)) ++ made))
-      (term-before (sign ∷ signs) number column xs) (whole-begins last later (point_at (InObjective name) seen earlier)
-      (Sign sign) (term_before signs number column xs) _ (λ n. hears-term last later (here _ earlier) sign signs number column
-      (objective_item (here _ _) name) xs _ (heard-term _ seen earlier (sign ∷ signs) number _ xs _ h rest)))
+      (term-before (sign ∷ signs) number column xs) (whole-begins last later (point_at (InObjective name) seen earlier) (Sign sign)
+      (term_before signs number column xs) _ (λ n. hears-term last later (here _ earlier) sign signs number column (objective_item (here _
+      _) name) xs _ (grind arith)))
   whole-later name seen earlier (a_constant (sign ∷ signs) value) xs made s opens h rest = subst (λ tokens. IsWhole last later
       (point_at (InObjective name) seen earlier) tokens (item_declares name (a_constant (sign ∷ signs) value) ++ made)) (sym (append_assoc
       (sign_tokens (sign ∷ signs)) (Number value ∷ []) xs)) (whole-begins last later (point_at (InObjective name) seen earlier) (Sign sign)
@@ -108,9 +95,9 @@ module _ (last : ℕ) (later : Tokens) where
       → IsWhole last later (point_at (BeforeItems name) seen earlier) (item_tokens part ++ xs) (item_declares name part ++ made)
   whole-first name seen earlier (a_term (term (sign ∷ signs) number column)) xs made _ h rest = subst (λ tokens. IsWhole last later
       (point_at (BeforeItems name) seen earlier) tokens (item_declares name (a_term (term (sign ∷ signs) number column)) ++ made))
-      (term-before (sign ∷ signs) number column xs) (whole-begins last later (point_at (BeforeItems name) seen earlier)
-      (Sign sign) (term_before signs number column xs) _ (λ n. hears-term last later (here _ earlier) sign signs number column
-      (objective_item (here _ _) name) xs _ (heard-term _ seen earlier (sign ∷ signs) number _ xs _ h rest)))
+      (term-before (sign ∷ signs) number column xs) (whole-begins last later (point_at (BeforeItems name) seen earlier) (Sign sign)
+      (term_before signs number column xs) _ (λ n. hears-term last later (here _ earlier) sign signs number column (objective_item (here _
+      _) name) xs _ (grind arith)))
   whole-first name seen earlier (a_term (term [] None column)) xs made opens h rest = grind arith
   whole-first name seen earlier (a_term (term [] (Some size) column)) xs made opens h rest = grind arith
   whole-first name seen earlier (a_constant (sign ∷ signs) value) xs made opens h rest = subst (λ tokens. IsWhole last later
@@ -216,11 +203,6 @@ Pair = List ℕ × Decimal
 
 -- ---- columns of a row
 
--- a coefficient that is not rejected was not there
-absent : (earlier : Draft) (owner : List ℕ) (entry : Pair)
-    → refusals_in_turn earlier (term_declared owner entry) ≡ [] → has_coefficient earlier (record { row = owner; column = entry.0 }) ≡ false
-absent = grind arith
-
 -- so the columns of terms that are not rejected are new
 pub terms-new : (owner : List ℕ) (terms : List Pair) (earlier : Draft) (seen : List Pair) → refusals_in_turn earlier
     (flat_map (term_declared owner) terms) ≡ [] → ((column : List ℕ) → has_coefficient earlier (record { row = owner; column = column })
@@ -228,7 +210,7 @@ pub terms-new : (owner : List ℕ) (terms : List Pair) (earlier : Draft) (seen :
 terms-new _ [] _ _ h _ = tt
 terms-new owner (entry ∷ terms) earlier seen h known =
     let taken = parts-taken earlier (term_declared owner entry) (flat_map (term_declared owner) terms) h in (
-      known _ (absent earlier owner entry taken.0),
+      known _ (grind arith),
       terms-new _ terms (with_declarations earlier (term_declared owner entry)) _ taken.1 further,
     )
   where
@@ -294,18 +276,8 @@ abbrev is_no_colon : Terminal → Bool
 is_no_colon Colon = false
 is_no_colon _ = true
 
-left-begins : (sections_seen : SectionsSeen) (earlier : Draft) (part : Side) (n : ℕ) (tokens : Tokens)
-    → listened (phrase_at (point_at BetweenRows sections_seen earlier) (at n (side_first part))) tokens
-    ≡ listened (row_from (here sections_seen earlier) (default_row (here sections_seen earlier)) (at n (side_first part))) tokens
-left-begins = grind arith
-
 module _ (last : ℕ) (later : Tokens) (sections_seen : SectionsSeen) (earlier : Draft) where
   -- ---- the first term
-
-  taken-first : (name : List ℕ) (left : Option (Limit × Relation)) (value : Decimal) (column : List ℕ) (xs : List Terminal)
-      (made : Declarations) → IsWhole last later (in_row sections_seen earlier name left ((column, value) ∷ [])) xs made
-      → HearsTerm last later (row_item (here sections_seen earlier) (without_terms name left)) value column xs made
-  taken-first name left value column xs made rest n = grind arith
 
   hears-first_term : (name : List ℕ) (signs : List SignOf) (number : Option Decimal) (column : List ℕ) (xs : List Terminal)
       (made : Declarations) → IsWhole last later (in_row sections_seen earlier name None ((column, coefficient signs number) ∷ [])) xs made
@@ -313,9 +285,9 @@ module _ (last : ℕ) (later : Tokens) (sections_seen : SectionsSeen) (earlier :
       (row_from (here sections_seen earlier) name (at n (term_first signs number column))) (term_rest signs number column xs) made
   hears-first_term name (sign ∷ []) None column xs made rest n = grind arith
   hears-first_term name (sign ∷ []) (Some size) column xs made rest n = grind arith
-  hears-first_term name (sign ∷ second ∷ signs) number column xs _ rest n = let context = here sections_seen earlier in
-      hears-ahead last later (row_signed _ _ _) (Sign second ∷ term_before signs number column xs) _ (λ m. hears-term last later context
-      sign (second ∷ signs) number column (row_item context (without_terms name None)) xs _ (taken-first name None _ column xs _ rest))
+  hears-first_term name (sign ∷ second ∷ signs) number column xs _ rest n = let context = here sections_seen earlier in hears-ahead last
+      later (row_signed _ _ _) (Sign second ∷ term_before signs number column xs) _ (λ m. hears-term last later context sign (second ∷
+      signs) number column (row_item context (without_terms name None)) xs _ (grind arith))
   hears-first_term name [] None column xs made rest n = grind arith
   hears-first_term name [] (Some size) column xs made rest n = grind arith
 
@@ -331,10 +303,10 @@ module _ (last : ℕ) (later : Tokens) (sections_seen : SectionsSeen) (earlier :
       (signs : List SignOf) (number : Option Decimal) (column : List ℕ) (xs : List Terminal) (made : Declarations) → IsWhole last later
       (in_row sections_seen earlier name (Some (value, relation)) ((column, coefficient signs number) ∷ [])) xs made → Hears last later
       (row_after_left (here sections_seen earlier) name value) (Compares relation ∷ term_before signs number column xs) made
-  hears-after_left name value relation signs number column xs _ rest = let context = here sections_seen earlier in
-      hears-relation last later context relation (λ r. next >>= row_first context
-      (without_terms name (Some (value, r)))) (term_before signs number column xs) _ (hears-first last later context signs number column
-      (row_item context (without_terms name (Some (value, relation)))) xs _ (taken-first _ _ _ _ xs _ rest))
+  hears-after_left name value relation signs number column xs _ rest = let context = here sections_seen earlier in hears-relation last later
+      context relation (λ r. next >>= row_first context (without_terms name (Some (value, r)))) (term_before signs number column xs) _
+      (hears-first last later context signs number column (row_item context (without_terms name (Some (value, relation)))) xs _ (grind
+      arith))
 
   -- ---- the label
 
@@ -380,7 +352,7 @@ module _ (last : ℕ) (later : Tokens) (sections_seen : SectionsSeen) (earlier :
       let tokens = Compares relation ∷ term_before signs number column xs in
       subst (λ ys. IsWhole last later (point_at BetweenRows sections_seen earlier) ys made) (side-split part tokens)
       (whole-begins last later (point_at BetweenRows sections_seen earlier) (side_first part) (side_rest part tokens) _
-      (λ n line. left-begins sections_seen earlier part n (stamped line (side_rest part tokens) (ending _ _)) ∙ hears-left name part
+      (λ n line. (grind arith) ∙ hears-left name part
       relation (term_before signs number column xs) _ (hears-after_left name (limit part) relation signs number column xs _ rest) n line))
 
   -- ---- further terms
@@ -401,16 +373,7 @@ module _ (last : ℕ) (later : Tokens) (sections_seen : SectionsSeen) (earlier :
       (stamped line tokens (ending last later))) new.0 ∙ hears-goes last later context (InRow (row_at name left
       (seen ++ (column, value) ∷ []))) [] tokens _ (whole-terms name left terms _ xs _ signs new.1 (subst (λ all. IsWhole last later
       (in_row sections_seen earlier name left all) xs made) (sym (append_assoc seen ((column, value) ∷ []) (map _ _))) rest)) line)))
-
   -- ---- the end of a row
-
-  whole-end : (name : List ℕ) (left : Option (Limit × Relation)) (terms : List Pair) (relation : Relation)
-      (part : Side) (xs : List Terminal) (made : Declarations) → fits_left left relation ≡ true → refusals_in_turn earlier
-      (row_declared (row_at name left terms) (row_limits left relation (limit part))) ≡ [] → IsWhole last later (point_at BetweenRows
-      sections_seen (with_declarations earlier (row_declared (row_at name left terms) (row_limits left relation (limit part))))) xs made
-      → IsWhole last later (in_row sections_seen earlier name left terms)
-      (Compares relation ∷ (side_tokens part ++ xs)) (row_declared (row_at name left terms) (row_limits left relation (limit part)) ++ made)
-  whole-end = grind arith
 
 -- ---- whole rows
 
@@ -464,14 +427,14 @@ module _ (last : ℕ) (later : Tokens) (sections_seen : SectionsSeen) where
 
   reads-row : (part : Row) (earlier : Draft) → is_row part ≡ true → Reads earlier (row_tokens part) (row_declares (length earlier.rows + 1, part))
   reads-row (row label (term signs number column ∷ terms) relation right) earlier ok = let name = row_name (length _ + 1) label in let all =
-      term _ _ _ ∷ terms in subst (Reads earlier (row_tokens (row label all relation right))) (declared-is _ relation (limit right) all)
-      (λ xs made h rest. let new = row-new earlier name (definition_of (sides_by relation (limit right))) (map pair all) h in let end : List
+      term _ _ _ ∷ terms in subst (Reads earlier (row_tokens (row label all relation right))) (declared-is _ relation (limit right) all) (λ
+      xs made h rest. let new = row-new earlier name (definition_of (sides_by relation (limit right))) (map pair all) h in let end : List
       Terminal = Compares relation ∷ (side_tokens right ++ xs) in subst (λ (tokens : List Terminal). At earlier tokens (row_declared (row_at
       name None (map pair all)) (sides_by relation (limit right)) ++ made)) (ap (λ (tokens : List Terminal). label_tokens label ++ tokens)
-      (term-before signs number column (terms_tokens terms ++ end)) ∙ sym (row-order (label_tokens label) (term_tokens (term signs
-      number column)) (terms_tokens terms) (Compares relation ∷ side_tokens right) xs)) (whole-first_term last later sections_seen earlier
-      label signs number column (terms_tokens terms ++ end) _ (colon-free terms relation (side_tokens right ++ xs) ok) (whole-terms _
-      _ _ _ _ _ _ _ _ _ ok new.1 (whole-end last later sections_seen earlier name None (map pair all) relation right xs made refl h rest))))
+      (term-before signs number column (terms_tokens terms ++ end)) ∙ sym (row-order (label_tokens label) (term_tokens (term signs number
+      column)) (terms_tokens terms) (Compares relation ∷ side_tokens right) xs)) (whole-first_term last later sections_seen earlier label
+      signs number column (terms_tokens terms ++ end) _ (colon-free terms relation (side_tokens right ++ xs) ok) (whole-terms _ _ _ _ _ _ _
+      _ _ _ ok new.1 (grind arith))))
   reads-row (row_between label lower (term signs number column ∷ terms) upper) earlier ok =
       let name = row_name (length earlier.rows + 1) label in let all : List Term = term signs number column ∷ terms in let left : Option
       (Limit × Relation) = Some (limit lower, AtMost) in subst (Reads earlier (row_tokens (row_between label lower all upper)))
@@ -483,18 +446,18 @@ module _ (last : ℕ) (later : Tokens) (sections_seen : SectionsSeen) where
       (between-order (label_tokens label) (side_tokens lower) (term_tokens (term signs number column)) (terms_tokens terms) (Compares AtMost
       ∷ side_tokens upper) xs (Compares AtMost))) (whole-left_side last later sections_seen earlier label lower AtMost signs number column
       (terms_tokens terms ++ end) _ (whole-terms last later sections_seen earlier name left terms ((column, coefficient signs number)
-      ∷ []) end _ ok new.1 (whole-end last later sections_seen earlier name left (map pair all) AtMost upper xs made refl h rest))))
-  reads-row (row_from_above label upper (term signs number column ∷ terms) lower) earlier ok = let name = row_name
-      (length earlier.rows + 1) label in let all : List Term = term signs number column ∷ terms in let left : Option (Limit × Relation) =
-      Some (limit upper, AtLeast) in subst (Reads earlier (row_tokens (row_from_above label upper all lower))) (ap (λ (more : Declarations).
-      declare_row name (by_limits (limit lower) (limit upper)) ∷ more) (terms-declare name all)) (λ xs made h rest. let new = row-new
-      earlier name (by_limits (limit lower) (limit upper)) (map pair all) h in let end : List Terminal = Compares AtLeast ∷ (side_tokens
-      lower ++ xs) in subst (λ (tokens : List Terminal). At earlier tokens (row_declared (row_at name left (map pair all)) (row_limits
-      left AtLeast (limit lower)) ++ made)) (ap (λ (tokens : List Terminal). label_tokens label ++ (side_tokens upper ++ Compares AtLeast
-      ∷ tokens)) (term-before signs number column (terms_tokens terms ++ end)) ∙ sym (between-order (label_tokens label) (side_tokens upper)
-      (term_tokens (term signs number column)) (terms_tokens terms) (Compares AtLeast ∷ side_tokens lower) xs (Compares AtLeast)))
-      (whole-left_side last later sections_seen earlier label upper AtLeast signs number column (terms_tokens terms ++ end) _ (whole-terms _
-      _ _ _ _ _ _ _ _ _ ok new.1 (whole-end last later sections_seen earlier name left (map pair all) AtLeast lower xs made refl h rest))))
+      ∷ []) end _ ok new.1 (grind arith))))
+  reads-row (row_from_above label upper (term signs number column ∷ terms) lower) earlier ok = let name = row_name (length earlier.rows + 1)
+      label in let all : List Term = term signs number column ∷ terms in let left : Option (Limit × Relation) = Some (limit upper, AtLeast)
+      in subst (Reads earlier (row_tokens (row_from_above label upper all lower))) (ap (λ (more : Declarations). declare_row name (by_limits
+      (limit lower) (limit upper)) ∷ more) (terms-declare name all)) (λ xs made h rest. let new = row-new earlier name (by_limits (limit
+      lower) (limit upper)) (map pair all) h in let end : List Terminal = Compares AtLeast ∷ (side_tokens lower ++ xs) in subst (λ (tokens :
+      List Terminal). At earlier tokens (row_declared (row_at name left (map pair all)) (row_limits left AtLeast (limit lower)) ++ made))
+      (ap (λ (tokens : List Terminal). label_tokens label ++ (side_tokens upper ++ Compares AtLeast ∷ tokens)) (term-before signs number
+      column (terms_tokens terms ++ end)) ∙ sym (between-order (label_tokens label) (side_tokens upper) (term_tokens (term signs number
+      column)) (terms_tokens terms) (Compares AtLeast ∷ side_tokens lower) xs (Compares AtLeast))) (whole-left_side last later sections_seen
+      earlier label upper AtLeast signs number column (terms_tokens terms ++ end) _ (whole-terms _ _ _ _ _ _ _ _ _ _ ok new.1 (grind
+      arith))))
   reads-row _ earlier ok = absurd cc
 
   pub whole-rows : (parts : List Row) (place : ℕ) (earlier : Draft) (xs : List Terminal) (made : Declarations)
@@ -556,19 +519,13 @@ abbrev is_plain : Terminal → Bool
 is_plain (Sign sign) = false
 is_plain _ = true
 
-plain-word : (x : Terminal) → is_section_word x ≡ true → is_plain x ≡ true
-plain-word = grind arith
-
 plain-names : (names : List (List ℕ)) (xs : List Terminal) → is_section_word (first_of_all xs) ≡ true → is_plain (first_of_all (name_tokens names ++ xs)) ≡ true
-plain-names [] _ h = plain-word _ h
+plain-names [] _ h = (grind arith)
 plain-names (name ∷ _) _ h = refl
-
-section-begins : (part : Section) (xs : List Terminal) → is_section part ≡ true → is_section_word (first_of_all (section_tokens part ++ xs)) ≡ true
-section-begins = grind arith
 
 sections-begin : (parts : List Section) → are_sections parts ≡ true → is_section_word (first_of_all (flat_map section_tokens parts)) ≡ true
 sections-begin [] h = refl
-sections-begin (part ∷ parts) h = grind (arith, section-begins)
+sections-begin (part ∷ parts) h = grind arith
 
 row_section-begins : (part : RowSection) (xs : List Terminal) → is_row_section part ≡ true
     → is_section_word (first_of_all xs) ≡ true → is_section_word (first_of_all (row_section_tokens part ++ xs)) ≡ true
@@ -576,12 +533,10 @@ row_section-begins = grind arith
 
 -- ---- the objective declares no rows
 
-item-rows : (name : List ℕ) (part : Item) (earlier : Draft) → (with_declarations earlier (item_declares name part)).rows ≡ earlier.rows
-item-rows = grind arith
-
 items-rows : (name : List ℕ) (parts : List Item) (earlier : Draft) → (with_declarations earlier (flat_map (item_declares name) parts)).rows ≡ earlier.rows
 items-rows _ [] _ = refl
-items-rows name (part ∷ parts) earlier = grind (arith, with_declarations-append, item-rows, items-rows name parts (with_declarations earlier (item_declares name part)))
+items-rows name (part ∷ parts) earlier =
+    grind (arith, with_declarations-append, items-rows name parts (with_declarations earlier (item_declares name part)))
 
 pub objective-rows : (part : Objective) → (with_declarations empty_draft (objective_declares part)).rows ≡ []
 objective-rows (objective _ label parts) = items-rows (objective_name label) parts _
@@ -608,12 +563,6 @@ after-rows (semis _ _ ∷ parts) = after-rows parts
 module _ (last : ℕ) (later : Tokens) where
   -- ---- one section
 
-  -- the last word of a heading
-  hears-last_word : (context : Context) (wanted : LastWord) (word : List ℕ) (n : ℕ) (xs : List Terminal) (made : Declarations)
-      → is_last_word wanted word ≡ true → IsWhole last later (point_at (opened_by wanted) context.sections_seen context.builder) xs made
-      → Hears last later (last_word context wanted (at n (Name word))) xs made
-  hears-last_word context wanted word n xs made is rest line = grind arith
-
   -- what follows `semi` if no dash does
   hears-semi : (context : Context) (x : Terminal) (n : ℕ) (xs : List Terminal) (made : Declarations) → is_plain x ≡ true → IsWhole
       last later (point_at InSemis context.sections_seen context.builder) xs made → Hears last later (semi_from context (at n x)) xs made
@@ -633,7 +582,7 @@ module _ (last : ℕ) (later : Tokens) where
       (name_tokens names ++ xs) _ (plain-names names xs opens) (whole-names _ _ InSemis _ _ (λ a b c d. refl) refl _ _ _ _ h rest)))
   whole-section (semis (Opens words.Semis ∷ []) names) place seen earlier xs made may fault ok opens h rest = grind (arith, whole-opens, hears-goes, here, whole-names)
   whole-section (semis (Opens words.Semi ∷ Sign Minus ∷ Name word ∷ []) names) place seen earlier xs made may fault ok opens h rest =
-      grind (arith, here, whole-opens, hears-ahead, hears-next, hears-last_word, whole-names)
+      grind (arith, here, whole-opens, hears-ahead, hears-next, whole-names)
   whole-section (semis _ names) place seen earlier xs made may fault ok opens h rest = absurd cc
 
   -- ---- all sections, and the end

@@ -10,18 +10,18 @@ use Prelude.{ObjectiveName, AtLastWord, Signs, ItemNumber, RowName, RowLabel, Ro
 use Prelude.{SideSign, AfterToken, Goes, Refuses, refuse, declare_unless_refused, take_after_declarations, declare_at, take_bound}
 use Prelude.{take_side, term_declared, row_limits, row_declared, PartialRow, Limits, Terminal, Opens, Colon, new_column, has_opened}
 use Prelude.{current_section, is_named, collected, last_name, is_right_side, is_value, ends_row, rows_before, label_before, names_row}
-use Prelude.{objective_before, names_objective, repeats_row, row_name, ◌-◌, Sense, declare_column, declare_integer, declare_binary}
+use Prelude.{objective_before, names_objective, repeats_row, row_name, Sense, declare_column, declare_integer, declare_binary}
 use Prelude.{declare_semi, Section, SectionWord, SignOf, LastWord, BeforeItems, InObjective, InGenerals, InBinaries, InSemis, AtSemi}
 use Prelude.{BoundName, BoundSign, BoundLeft, BoundLeftRelation, AfterEnd, with_made, take_term, take_after_signs, begin_item, no_limits}
 use Prelude.{opened_by, is_last_word, open_section, begin_row, take_second_relation, begin_phrase, begin, limits_by, flip}
-use Prelude.{objective_declared, default_objective, first_item_declared, fits_left, start, Name, Number, Sign, Compares, Free}
-use Prelude.{take_after_lone_number, take, IsInWords, is_section, follows_terms}
+use Prelude.{objective_declared, default_objective, first_item_declared, Name, Number, Sign, Compares, Free}
+use Prelude.{take_after_lone_number, take, IsInWords, is_section}
 use Rattle.mpslp_builder.specs.Declaration.{is_objective}
 use Rattle.mpslp_lp_sentences.proofs.FaultedTokens.{refuses, first-refused, terms-refuse, in-words, first_named, signs-by, item-by}
-use Rattle.mpslp_lp_sentences.proofs.FaultedTokens.{limit-by, listed-by, in_row-by, last_word-by, bound_name-by, bound_column-by, side-by}
-use Rattle.mpslp_lp_sentences.proofs.FaultedTokens.{begin-by, objective-by, objective_name-by, item_number-by, row_sign-by, semi-by}
-use Rattle.mpslp_lp_sentences.proofs.{PhrasesHeard.row-adds, RowShapes.{PlaceShape, SideShape, SignedSideShape, SignsShape, NameShape}}
-use Rattle.mpslp_lp_sentences.proofs.RowShapes.{SignShape, Shape, Shaped, shaped-later, in-row, relation-no_side}
+use Rattle.mpslp_lp_sentences.proofs.FaultedTokens.{limit-by, listed-by, last_word-by, bound_name-by, bound_column-by, side-by}
+use Rattle.mpslp_lp_sentences.proofs.FaultedTokens.{begin-by, objective-by, objective_name-by, item_number-by, semi-by}
+use Rattle.mpslp_lp_sentences.proofs.{PhrasesHeard.row-adds, RowShapes.{PlaceShape, SideShape, SignedSideShape, NameShape}}
+use Rattle.mpslp_lp_sentences.proofs.RowShapes.{SignShape, Shape, Shaped, shaped-later}
 use Rattle.mpslp_lp_sentences.proofs.SectionFaults.{section_at_place, section_of_item, section_of_side, section_at}
 use Rattle.mpslp_types.specs.declared.faults.BuildFault.TheVariants as builds
 use Rattle.mpslp_types.specs.declared.faults.FaultKind.TheVariants as kinds
@@ -118,17 +118,10 @@ says-by = grind arith
 
 -- ---- one token more
 
-pub named-more : (name : List ℕ) (new : Option (List ℕ)) (names : List (List ℕ)) → is_named name names ≡ true → is_named name (cons_option new names) ≡ true
-named-more = grind arith
-
 -- a token that ends no row, and declarations of other things
 pub rowed-later : (token : Terminal) (earlier : Tokens) (all later : Draft)
     → ends_row earlier token ≡ false → later.rows ≡ all.rows → IsSortedDraft later → Rowed earlier all → Rowed (token ∷ earlier) later
 rowed-later = grind arith
-
--- declarations of other things
-pub rowed-same : (earlier : Tokens) (all later : Draft) → later.rows ≡ all.rows → IsSortedDraft later → Rowed earlier all → Rowed earlier later
-rowed-same = grind arith
 
 -- the token is no label, or the section is that of the rows
 abbrev pub is_no_colon : Terminal → Bool
@@ -140,14 +133,6 @@ pub objective-later : (token : Terminal) (earlier : Tokens) (all later : Draft)
 objective-later = grind arith
 
 -- ---- a value that is no right side of a row
-
-pub ends-no_side : (earlier : Tokens) (token : Terminal) → is_right_side earlier ≡ false → ends_row earlier token ≡ false
-ends-no_side = grind arith
-
--- what a value that ends no row keeps
-pub name-kept : (name : List ℕ) (earlier : Tokens) (b : Bool) → b ≡ false → IsNameOf name earlier
-    → name ≡ row_name ((if b then rows_before earlier + 1 else rows_before earlier) + 1) (if b then None else label_before earlier)
-name-kept = grind arith
 
 -- ---- declarations
 
@@ -274,7 +259,7 @@ row_ended context row relation l earlier token h name value here right = by (ref
         found : (other : List ℕ) (b : Bool) → same_bytes other row.name ≡ b → (b || has_name context.builder.rows other) ≡ true
             → is_named other (cons_option (names_row earlier token) (collected names_row earlier)) ≡ true
         found other true e k = ap (λ (o : Option (List ℕ)). is_named other (cons_option o (collected names_row earlier))) named ∙ or_left _ _ e
-        found other false e k = named-more other (names_row earlier token) (collected names_row earlier) (h.rowed.rows other k)
+        found other false e k = (grind arith)
 
     keeps : (t : Terminal) → is_value t ≡ true → is_no_colon t ≡ true
     keeps = grind arith
@@ -364,10 +349,7 @@ phrase AtStart context earlier h _ _ _ token = bad context earlier token
 phrase (BeforeItems objective) context earlier h name shape here token = grind (arith, item, elsewhere-no_end)
 phrase (InObjective objective) context earlier h name shape here token = grind arith
 phrase BetweenRows context earlier h name shape here token = grind arith
-phrase (InRow partial) context earlier h name _ _ token =
-    in_row-by (KeepsRows earlier) context partial (bad context earlier) (λ sign. (rowed-on _ _ _ refl h, objective-on _ _ _ refl h, name))
-    (λ relation. branch _ _ (fits_left partial.left relation) (Goes context (AtSide (SideOfRow partial relation)))
-    (refuse context (Compares relation) kinds.MixedSenses) (rowed-on _ _ _ refl h, objective-on _ _ _ refl h, name) _) token
+phrase (InRow partial) context earlier h name _ _ token = (grind arith)
 phrase (InBounds left) context earlier h name shape here token = grind arith
 phrase InGenerals context earlier h _ _ _ token = listed-by (KeepsRows earlier) context InGenerals declare_integer (bad context earlier)
     (λ column. declared _ _ (Name column) InGenerals (declare_column _ ∷ declare_integer _ ∷ []) h refl refl refl refl refl (λ o. o) tt)
@@ -396,12 +378,7 @@ here_from = grind arith
 unlabelled : (context : Context) (earlier : Tokens) (made : Declarations) → Rowed earlier context.builder → IsEmpty earlier context.builder
     → context.sections_seen.objective ≡ has_opened earlier Objective → (with_declarations context.builder made).rows ≡ context.builder.rows
     → (with_declarations context.builder made).objective ≡ Some default_objective → Here earlier (with_made context made)
-unlabelled = grind (arith, rowed-same, sorted-with_declarations, opened)
-
-first_objective : (context : Context) (sense : Sense) (earlier : Tokens)
-    → Rowed earlier context.builder → IsEmpty earlier context.builder → context.sections_seen.objective ≡ has_opened earlier Objective
-    → current_section earlier ≡ Some Objective → (token : Terminal) → KeepsRows earlier token (take context (AtObjective sense) token)
-first_objective = grind (arith, objective-by, rowed-later, opened, declared-before, refuses, first, unlabelled)
+unlabelled = grind (arith, sorted-with_declarations, opened)
 
 named_objective : (context : Context) (sense : Sense) (label : List ℕ) (earlier : Tokens) → Rowed earlier context.builder → IsEmpty earlier
     context.builder → last_name earlier ≡ Some label → context.sections_seen.objective ≡ has_opened earlier Objective → current_section
@@ -425,9 +402,6 @@ last_word context wanted earlier h name token = last_word-by (KeepsRows earlier)
     by : (w : LastWord) (word : List ℕ) → NameAt (AtLastWord w) earlier → KeepsRows earlier (Name word) (Goes (with_made context []) (Between (opened_by w)))
     by = grind arith
 
-item_no_end : (owner : ItemOwner) (earlier : Tokens) → SignsShape owner earlier → current_section earlier ≡ section_of_item owner → NoEnd earlier
-item_no_end = grind arith
-
 row_named : (context : Context) (label : List ℕ) (earlier : Tokens)
     → Here earlier context → label_before earlier ≡ None → NameShape label earlier → PlaceShape (InRow (first_named context label)) earlier
     → current_section earlier ≡ Some Rows → (token : Terminal) → KeepsRows earlier token (take context (RowName label) token)
@@ -439,18 +413,11 @@ signed-no_end earlier h token = grind arith
 
 row_signed : (context : Context) (label : List ℕ) (sign : SignOf) (earlier : Tokens) → Here earlier context
     → IsNameOf label earlier → SignShape earlier → (token : Terminal) → KeepsRows earlier token (take context (RowSign label sign) token)
-row_signed = grind (arith, row_sign-by, bad, rowed-on, objective-on, name-kept, term, signed-no_end)
+row_signed = grind (arith, bad, rowed-on, objective-on, term, signed-no_end)
 
 row_numbered : (context : Context) (label : List ℕ) (sign : SignOf) (value : Decimal) (earlier : Tokens) → Here earlier context
     → IsNameOf label earlier → (token : Terminal) → KeepsRows earlier token (take context (RowNumber label sign value) token)
 row_numbered = grind arith
-
--- a right side without a sign, or with one
-terms-right : (earlier : Tokens) → follows_terms earlier ≡ true → is_right_side earlier ≡ true
-terms-right = grind arith
-
-signed-right : (row : PartialRow) (relation : Relation) (earlier : Tokens) → SignedSideShape (SideOfRow row relation) earlier → is_right_side earlier ≡ true
-signed-right = grind arith
 
 value-no_label : (token : Terminal) → is_value token ≡ true → is_no_colon token ≡ true
 value-no_label = grind arith
@@ -458,34 +425,32 @@ value-no_label = grind arith
 side : (context : Context) (sided : SideOwner) (l : Limit) (earlier : Tokens) (token : Terminal)
     → Here earlier context → SideName sided earlier → SideShape sided earlier
     → current_section earlier ≡ section_of_side sided → is_value token ≡ true → KeepsRows earlier token (take_side context sided l token)
-side context (SideOfRow row relation) l earlier token h name shape here value = grind (arith, row_ended, terms-right)
+side context (SideOfRow row relation) l earlier token h name shape here value = grind (arith, row_ended)
 side context (SideOfBound is_new column relation) l earlier token h name shape here value = grind (arith, bound, elsewhere-no_end, value-no_label)
 
 signed_side : (context : Context) (sided : SideOwner) (l : Limit) (earlier : Tokens) (token : Terminal)
     → Here earlier context → SideName sided earlier → SignedSideShape sided earlier
     → current_section earlier ≡ section_of_side sided → is_value token ≡ true → KeepsRows earlier token (take_side context sided l token)
-signed_side context (SideOfRow row relation) l earlier token h name shape here value = grind (arith, row_ended, signed-right)
+signed_side context (SideOfRow row relation) l earlier token h name shape here value = grind (arith, row_ended)
 signed_side context (SideOfBound is_new column relation) l earlier token h name shape here value = grind (arith, bound, elsewhere-no_end, value-no_label)
-
-side-signed : (sided : SideOwner) (sign : SignOf) (earlier : Tokens) → SideName sided earlier → SideName sided (Sign sign ∷ earlier)
-side-signed = grind arith
 
 step : (context : Context) (state : State) (earlier : Tokens) → Rowed earlier context.builder → ObjectiveAt state earlier context.builder
     → NameAt state earlier → Shape state earlier → current_section earlier ≡ section_at state → context.sections_seen.objective
     ≡ has_opened earlier Objective → (token : Terminal) → KeepsRows earlier token (take context state token)
 step context (Between AtStart) earlier r o n sh here v token = grind arith
-step context (AtObjective sense) earlier r o n sh here v token = grind (arith, first_objective)
+step context (AtObjective sense) earlier r o n sh here v token =
+    grind (arith, objective-by, rowed-later, opened, declared-before, refuses, first, unlabelled)
 step _ (ObjectiveName _ _) _ r o n _ here v _ = named_objective _ _ _ _ r o.0 o.1 v here _
 step context (AtLastWord wanted) earlier r o n sh here v token = grind (arith, last_word, here_from)
 step context AtSemi earlier r o n sh here v token = grind (arith, here_from, semi-by, rowed-on, objective-on, first)
-step context (Signs owner sign) earlier r o n sh here v token = grind (arith, signs, here_from, item_no_end)
+step context (Signs owner sign) earlier r o n sh here v token = grind (arith, signs, here_from)
 step context (ItemNumber owner sign value) earlier r o n sh here v token = grind (arith, here_from, item_number-by, term, lone)
-step context (RowName _) _ r o n sh here v _ = row_named _ _ _ (here_from _ _ r o v) n sh (in-row context _ _ sh) here _
+step context (RowName _) _ r o n sh here v _ = row_named _ _ _ (here_from _ _ r o v) n sh (grind arith) here _
 step context (RowLabel label) earlier r o n sh here v token = grind arith
 step context (RowSign label sign) earlier r o n sh here v token = grind arith
 step context (RowNumber label sign value) earlier r o n sh here v token = grind arith
 step context (RowLeft label l) earlier r o n sh here v token = grind arith
-step context (RowLeftRelation partial) earlier r o n sh here v token = grind (arith, item, here_from, ends-no_side, relation-no_side)
+step context (RowLeftRelation partial) earlier r o n sh here v token = grind (arith, item, here_from)
 step context (BoundName column) earlier r o n _ _ v token = let h = here_from _ _ r o v in
     bound_name-by (KeepsRows earlier) _ _ (bad context earlier)
     (bound context true column no_limits _ Free None h refl refl) (λ relation. (rowed-on _ _ _ refl h, objective-on _ _ _ refl h, tt)) token
@@ -494,7 +459,7 @@ step context (BoundLeft l) earlier r o n sh here v token = grind arith
 step context (BoundLeftRelation l relation) earlier r o n _ _ v token = let h = here_from _ context r o v in
     bound_column-by (KeepsRows earlier) context l relation
     (bad context earlier) (λ name. bound _ true name (limits_by (flip _) l) _ (Name name) (Some (name, relation)) h refl refl) token
-step context (AtSide sided) earlier r o n sh here v token = grind (arith, here_from, side-by, bad, rowed-on, objective-on, side-signed, side)
+step context (AtSide sided) earlier r o n sh here v token = grind (arith, here_from, side-by, bad, rowed-on, objective-on, side)
 step context (SideSign sided sign) earlier r o n sh here v token = grind (arith, here_from, limit-by, bad, signed_side)
 step context AfterEnd earlier r o n _ _ v token = bad context earlier token
 step context _ earlier r o n sh here v token = grind (arith, first, here_from)
@@ -506,9 +471,6 @@ pub record Known (earlier : Tokens) (context : Context) (state : State) : Type 0
   pub rowed : Rowed earlier context.builder
   pub objective : ObjectiveAt state earlier context.builder
   pub name : NameAt state earlier
-
-pub none-known : Known [] start.context (Between AtStart)
-none-known = grind arith
 
 taken : (earlier : Tokens) (context : Context) (state : State) (token : Terminal) → Known earlier context state → KeepsRows earlier token (take context state token)
 taken _ context _ token known = step context _ _ known.rowed known.objective known.name known.shaped.shape known.shaped.opened.current
@@ -524,4 +486,4 @@ repeated : (earlier : Tokens) (context : Context) (state : State) (token : Termi
 repeated = grind (arith, taken)
 
 pub duplicate-row : IsInWords kinds.DuplicateRow repeats_row
-duplicate-row = in-words _ _ _ (record { at_start = none-known; goes = known-later; refuses = repeated }) refl refl
+duplicate-row = in-words _ _ _ (record { at_start = grind arith; goes = known-later; refuses = repeated }) refl refl

@@ -11,11 +11,11 @@ use Prelude.{RowLabel, RowSign, RowNumber, RowLeft, RowLeftRelation, BoundName, 
 use Prelude.{Refuses, refuse, with_made, declare_unless_refused, take_after_declarations, take_term, take_after_signs, begin_item}
 use Prelude.{take_side, may_begin_section, open_section, begin_row, begin_bound, take_second_relation, name_taken, begin_phrase, begin, one}
 use Prelude.{apply_sign, fits_second, limits_by, flip, objective_declared, default_objective, first_item_declared, fits_left, PartialRow}
-use Prelude.{start, Terminal, Opens, Name, Number, Sign, Compares, Colon, new_column, begin_after, take_after_lone_number, take, IsInWords}
+use Prelude.{start, Terminal, Opens, Name, Number, Sign, Compares, Colon, new_column, begin_phrase_after, take_after_lone_number, take, IsInWords}
 use Prelude.{ends_in_number, ends_in_sign, last_name, ends_in_name, ends_in_value, ends_in_first_word, begins_row, follows_terms}
 use Prelude.{may_be_left_side, is_right_side, ends_in_constant, follows_constant, left_relation, last_relation, bound_relation, agree}
 use Prelude.{mixes_under, mixes_senses, term_columns, is_named}
-use Rattle.mpslp_lp_sentences.proofs.FaultedTokens.{in-words, first_named, signs-by, item-by, limit-by, listed-by, lone-by, bound_column-by}
+use Rattle.mpslp_lp_sentences.proofs.FaultedTokens.{in-words, signs-by, item-by, limit-by, listed-by, lone-by, bound_column-by}
 use Rattle.mpslp_lp_sentences.proofs.FaultedTokens.{side-by, begin-by, objective-by, objective_name-by, item_number-by, semi-by}
 use Rattle.mpslp_lp_sentences.proofs.SectionFaults.{section_at_place, section_of_item, section_of_side, section_at, Opened, opened-later}
 use Rattle.mpslp_types.specs.declared.faults.FaultKind.TheVariants as kinds
@@ -152,10 +152,6 @@ declared-before context here earlier token (refusal ∷ _) _ _ h =
 
 -- ---- facts on the tokens before
 
--- after the relation of a left side, with or without a sign
-pub relation-no_side : (earlier : List Terminal) → ends_in_relation earlier ≡ true → follows_terms earlier ≡ false → NoSide earlier
-relation-no_side = grind arith
-
 -- ---- what each function does
 
 no_terms : (earlier : List Terminal) → HasTerms [] earlier
@@ -263,7 +259,7 @@ first place context earlier h token = begin-by (KeepsShape (section_at_place pla
     (λ e. bad context (section_at_place place) earlier (Opens word))) (phrase _ context _ h) token
 
 later : (context : Context) (made : Declarations) (place : Place) (earlier : List Terminal) → PlaceShape place earlier
-    → (token : Terminal) → KeepsShape (section_at_place place) earlier token (begin_after context made place token)
+    → (token : Terminal) → KeepsShape (section_at_place place) earlier token (begin_phrase_after context made place token)
 later = grind (arith, declared-before, section_at_place, first)
 
 lone : (context : Context) (owner : ItemOwner) (value : Decimal) (earlier : List Terminal) → NumberShape owner earlier
@@ -288,10 +284,6 @@ number-value = grind arith
 row_numbered : (context : Context) (label : List ℕ) (sign : SignOf) (value : Decimal) (earlier : List Terminal)
     → LeftNumberShape earlier → (token : Terminal) → KeepsShape (Some Rows) earlier token (take context (RowNumber label sign value) token)
 row_numbered = grind arith
-
--- a name that is no label, but that of the first term
-pub in-row : (context : Context) (label : List ℕ) (earlier : List Terminal) → NameShape label earlier → PlaceShape (InRow (first_named context label)) earlier
-in-row = grind arith
 
 row_named : (context : Context) (label : List ℕ) (earlier : List Terminal)
     → NameShape label earlier → (token : Terminal) → KeepsShape (Some Rows) earlier token (take context (RowName label) token)

@@ -8,10 +8,10 @@ use Prelude.{To, That, Continuous, Place, AtStart, BeforeItems, InObjective, Bet
 use Prelude.{SideOwner, SideOfRow, SideOfBound, State, Between, AtObjective, ObjectiveName, AtLastWord, AtSemi, Signs, ItemNumber, RowName}
 use Prelude.{RowLabel, RowSign, RowNumber, RowLeft, RowLeftRelation, BoundName, BoundSign, BoundLeft, BoundLeftRelation, AtSide, SideSign}
 use Prelude.{AfterEnd, AfterToken, Goes, Refuses, refuse, with_made, declare_unless_refused, take_after_declarations, take_term}
-use Prelude.{take_after_signs, begin_item, declare_at, take_bound, take_side, no_limits, opened_by, may_begin_section, is_last_word}
-use Prelude.{open_section, begin_row, begin_bound, take_second_relation, name_taken, begin_phrase, begin, one, apply_sign, Limits}
-use Prelude.{limits_by, flip, objective_declared, default_objective, first_item_declared, terminal_fault, start, has_seen, with_section}
-use Prelude.{is_out_of_order, Terminal, Opens, Name, Compares, Colon, Free, begin_after, take_after_lone_number, take, IsInWords, opens}
+use Prelude.{take_after_signs, begin_item, declare_at, take_side, opened_by, may_begin_section, is_last_word}
+use Prelude.{open_section, begin_row, begin_bound, take_second_relation, name_taken, begin_phrase, begin, one, apply_sign}
+use Prelude.{objective_declared, default_objective, first_item_declared, terminal_fault, start, has_seen, with_section}
+use Prelude.{is_out_of_order, Terminal, Opens, Name, Compares, Colon, begin_phrase_after, take_after_lone_number, take, IsInWords, opens}
 use Prelude.{has_opened, current_section, repeats_section, section_rank, opens_later, comes_late, comes_early, breaks_order}
 use Rattle.mpslp_lp_sentences.proofs.FaultedTokens.{in-words, signs-by, item-by, limit-by, listed-by, last_word-by, bound_name-by}
 use Rattle.mpslp_lp_sentences.proofs.FaultedTokens.{bound_column-by, side-by, begin-by, objective-by, objective_name-by, item_number-by}
@@ -123,11 +123,6 @@ stays : (context : Context) (here : Option Section) (token : Terminal) (place : 
     → opens_none token ≡ true → section_at_place place ≡ here → KeepsSections context here token (declare_at context token place made)
 stays = grind arith
 
-bounded : (context : Context) (front : Declarations) (column : List ℕ) (limits : Limits) (token : Terminal) (place : Place)
-    → opens_none token ≡ true
-    → section_at_place place ≡ Some Bounds → KeepsSections context (Some Bounds) token (take_bound context front column limits token place)
-bounded context front column limits token place none is = grind arith
-
 term : (context : Context) (owner : ItemOwner) (column name : List ℕ) (value : Decimal)
     → KeepsSections context (section_of_item owner) (Name name) (take_term context owner column value (Name name))
 term = grind arith
@@ -187,7 +182,7 @@ first-later : (context : Context) (made : Declarations) (place : Place) (token :
 first-later = grind (arith, first)
 
 later : (context : Context) (made : Declarations) (place : Place) (token : Terminal)
-    → KeepsSections context (section_at_place place) token (begin_after context made place token)
+    → KeepsSections context (section_at_place place) token (begin_phrase_after context made place token)
 later = grind (arith, first-later)
 
 lone : (context : Context) (owner : ItemOwner) (value : Decimal) (token : Terminal)
@@ -221,11 +216,10 @@ step context (ItemNumber owner sign value) token = item_number-by (KeepsSections
     (λ name. term context owner name name (apply_sign sign value)) (lone context _ (apply_sign sign value)) token
 step _ (RowLabel _) _ = row _ _ _
 step context (RowLeftRelation partial) token = item context (OfRow partial) token
-step context (BoundName column) token = bound_name-by (KeepsSections context (Some Bounds)) _ _ (bad context (Some Bounds))
-    (bounded context (declare_column _ ∷ []) column no_limits Free (InBounds None) refl refl) (λ relation. (refl, refl)) token
+step context (BoundName column) token =
+    bound_name-by (KeepsSections context (Some Bounds)) _ _ (bad context (Some Bounds)) (grind arith) (λ relation. (refl, refl)) token
 step context (BoundLeftRelation l relation) token =
-    bound_column-by (KeepsSections context (Some Bounds)) context l relation (bad context (Some Bounds)) (λ name. bounded context
-    (declare_column name ∷ []) name (limits_by (flip relation) l) (Name name) (InBounds (Some (name, relation))) refl refl) token
+    bound_column-by (KeepsSections context (Some Bounds)) context l relation (bad context (Some Bounds)) (λ name. grind arith) token
 step context (AtSide sided) token = grind (arith, side-by, side)
 step context (SideSign sided sign) token = grind (arith, limit-by, side)
 step context AfterEnd token = bad context (Some End) token

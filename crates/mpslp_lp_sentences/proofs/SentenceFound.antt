@@ -4,8 +4,8 @@ use Prelude.{◌≡◌, ◌<◌, refl, sym, ap, ◌∙◌, ℕ, zero, suc, ◌+�
 use Prelude.{arith, Option, Some, None, ◌==◌, is_none, flat_map, list_all, enumerate_from, first_so, second_so, lines, Fault, FaultKind}
 use Prelude.{Declarations, Draft, empty_draft, refusals_in_turn, Token, tokens, Outcome, phrases, made_by, Terminal, TerminalAt}
 use Prelude.{terminal_of, line_terminals, lexical_fault, as_terminal, terminals, Opens, start, phrase_at, numbered_lines, sound_terminals}
-use Prelude.{first_own_fault, or_else, is_finished, mapped-append, File, file_tokens, SentencesAreRead, subst, eq-eqb, append-nil, both_so}
-use Prelude.{text_says, declarations_of, at, ReadTextsAreSentences, false≢true}
+use Prelude.{first_own_fault, or_else, is_finished, mapped-append, SentencesAreRead, subst, eq-eqb, append-nil, both_so}
+use Prelude.{declarations_of, at, ReadTextsAreSentences, false≢true}
 use Rattle.std.proofs.Common.{take}
 use Rattle.mpslp_lp.proofs.ModelOrFault.{whole-fine}
 use Rattle.mpslp_lp_sentences.proofs.Whole.{Tokens, whole as heard_whole, finished-from_whole, whole, whole-from_finished}
@@ -24,9 +24,6 @@ first_or default (x ∷ xs) = x
 abbrev pub rest_of : {X : Type 0} → List X → List X
 rest_of [] = []
 rest_of (x ∷ xs) = xs
-
-pub none-longer : {X : Type 0} (x : X) (xs : List X) → x ∷ xs ≡ [] → ⊥
-none-longer x xs h = cc
 
 -- ---- tokens on their lines
 
@@ -125,9 +122,6 @@ stamped-from m (x ∷ xs) (token ∷ found) _ h e = let more = stamped-from m xs
 
 -- ---- the text
 
-pub front-end : (whole : File) → file_tokens whole ≡ front_tokens whole ++ Opens words.End ∷ []
-front-end = grind (arith, append_assoc)
-
 finished-first : (one other : Outcome Fault Draft) → is_finished one ≡ true → is_finished (or_else one other) ≡ true
 finished-first = grind arith
 
@@ -145,7 +139,7 @@ sentences-read bytes declared h = (
 
     on_lines : IsStamped (1 + length front) (tokens_from 1 front) later (front_tokens h.whole)
     on_lines = stamped-from (1 + length front) (front_tokens h.whole) (tokens_from 1 front) later
-        (lines-before front 1 (1 + length front) (omega arith)) (lines-seen front 1 ∙ h.tokens ∙ front-end h.whole)
+        (lines-before front 1 (1 + length front) (omega arith)) (lines-seen front 1 ∙ h.tokens ∙ (grind (arith, append_assoc)))
 
     heard : heard_whole start 0 (sound_terminals (numbered_lines bytes)) ≡ Some declared
     heard = ap (heard_whole start 0) (lines-split h.count 1 (lines bytes) h.sound ∙ on_lines.same) ∙ whole-file on_lines.last later h.whole
@@ -230,13 +224,13 @@ none-after n found f e second more _ h elsewhere =
 
 lines-cut : (ls : List (List ℕ)) (n : ℕ) (f : Tokens) (e : TerminalAt) (a : Tokens)
     → sound_terminals (enumerate_from n ls) ≡ f ++ e ∷ a → is_elsewhere e.line a ≡ true → FirstLines ls (map seen (f ++ e ∷ []))
-lines-cut [] n [] e a h _ = absurd (none-longer e a (sym h))
+lines-cut [] n [] e a h _ = absurd (cc)
 lines-cut [] n (y ∷ f) e a h elsewhere = grind arith
 lines-cut (l ∷ ls) n f e a h elsewhere = by (lexical_fault l) refl h (λ more k. lines-cut ls (n + 1) more e a k elsewhere)
   where
     none : (g : Tokens) → [] ≡ g ++ e ∷ a → ⊥
-    none [] k = none-longer e a (sym k)
-    none (y ∷ g) k = none-longer y (g ++ e ∷ a) (sym k)
+    none [] k = (cc)
+    none (y ∷ g) k = (cc)
 
     from : lexical_fault l ≡ None → Cut (line_tokens n (tokens l)) (sound_terminals (enumerate_from (n + 1) ls)) f e a
         → ((more : Tokens) → sound_terminals (enumerate_from (n + 1) ls) ≡ more ++ e ∷ a → FirstLines ls (map seen (more ++ e ∷ [])))
@@ -270,10 +264,6 @@ never_finished : (numbered : List (ℕ × List ℕ)) → is_finished (first_own_
 never_finished [] h = cc
 never_finished (line ∷ more) h = grind (arith, never_finished more)
 
-finished-by_tokens : (numbered : List (ℕ × List ℕ)) (outcome : Outcome Fault Draft)
-    → is_finished (or_else outcome (first_own_fault numbered)) ≡ true → is_finished outcome ≡ true
-finished-by_tokens = grind (arith, never_finished)
-
 pub texts-found : ReadTextsAreSentences
 texts-found bytes text = record {
   whole = file.whole;
@@ -282,7 +272,10 @@ texts-found bytes text = record {
   sound = first.sound;
   tokens = first.found
       ∙ mapped-append seen (all_at on (front_tokens file.whole)) (at (onwards (front_tokens file.whole) on 0) (Opens words.End) ∷ [])
-      ∙ ap (λ (xs : List Terminal). xs ++ Opens words.End ∷ []) (stamped-seen (front_tokens file.whole) on) ∙ sym (front-end file.whole);
+      ∙ ap (λ (xs : List Terminal). xs ++ Opens words.End ∷ []) (stamped-seen (front_tokens file.whole) on) ∙ sym (grind (
+        arith,
+        append_assoc,
+      ));
   declares = sym file.is;
   unrefused = (whole-fine bytes).unrefused;
 }
@@ -293,7 +286,7 @@ texts-found bytes text = record {
     complete : Complete start (line_of (sound_terminals (numbered_lines bytes))) (map seen (sound_terminals (numbered_lines bytes))) (declarations_of bytes)
     complete = subst (λ (ts : Tokens). whole start 0 ts ≡ Some (declarations_of bytes))
         (sym (tokens-stamped (sound_terminals (numbered_lines bytes)))) (whole-from_finished (sound_terminals (numbered_lines bytes)) start
-        (finished-by_tokens (numbered_lines bytes) (text_says (sound_terminals (numbered_lines bytes))) text))
+        (grind (arith, never_finished)))
 
     file : FileFound (line_of (sound_terminals (numbered_lines bytes))) (map seen (sound_terminals (numbered_lines bytes))) (declarations_of bytes)
     file = file-found on (map seen (sound_terminals (numbered_lines bytes))) (declarations_of bytes) (whole-fine bytes).unrefused complete

@@ -1,7 +1,7 @@
 -- What complete tokens declare, phrase by phrase: the outcome and the declarations of the grammar by rules in one.
 use Rattle.mpslp_lp_sentences.proofs.Prelude
-use Prelude.{◌≡◌, refl, ℕ, zero, suc, ◌+◌, List, [], ◌∷◌, ◌++◌, true, arith, Option, Some, None, if◌then◌else◌, Declarations, Draft, Fault}
-use Prelude.{Parsed, after_taking, and_then, ◌>>=◌, gives, ahead, Outcome, phrases, made_by, Finished, Refused, Open, TerminalAt, Point}
+use Prelude.{◌≡◌, refl, ℕ, zero, suc, List, [], ◌∷◌, ◌++◌, true, arith, Option, Some, None, if◌then◌else◌, Declarations, Draft, Fault}
+use Prelude.{Parsed, after_taking, and_then, ◌>>=◌, ahead, Outcome, phrases, made_by, Finished, Refused, Open, TerminalAt, Point}
 use Prelude.{PhraseRule, Follows, phrase_at, is_finished}
 use Rattle.mpslp_lp_grammar.specs.Rules.Parsed.{Reads, Refuses, Unfinished}
 use Rattle.mpslp_lp_grammar.specs.Rules.AfterPhrase.{Goes, Ends}
@@ -87,10 +87,6 @@ heard-none_more = grind arith
 pub listened-ahead : (following : TerminalAt → PhraseRule Follows) (token : TerminalAt) (tokens : Tokens)
     → listened (ahead >>= following) (token ∷ tokens) ≡ listened (following token) (token ∷ tokens)
 listened-ahead = grind arith
-
-pub listened-gives : {A : Type 0} (value : A) (following : A → PhraseRule Follows) (tokens : Tokens)
-    → listened (gives value >>= following) tokens ≡ listened (following value) tokens
-listened-gives value following tokens = grind arith
 
 -- a reading that took one token
 pub listened-one : (reading : Parsed Fault Follows) (token : TerminalAt) (tokens : Tokens) → heard (after_taking 1 reading) (token ∷ tokens) ≡ heard reading tokens

@@ -6,18 +6,18 @@ ghost use Rattle.mpslp_lp_sentences.specs.Laws.{ReadTextsAreSentences, Sentences
 
 /// Bytes whose first lines are, token by token, a file, with no error of a line by itself and no declaration that is
 /// rejected, are LP text, and declare what the file declares.
-pub fn sentences_are_read()
+pub fn lp_sentences_are_read()
     ensures { SentencesAreRead }
 {}
 
 /// LP text is such a file, which declares what the text declares. So LP text is what the phrases say, and nothing else.
-pub fn read_texts_are_sentences()
+pub fn read_lp_texts_are_sentences()
     ensures { ReadTextsAreSentences }
 {}
 
 /// A first error of one of these kinds is on a line with a token that `FaultsInWords` describes for the kind, in terms of the
 /// tokens before it.
-pub fn faults_are_in_words()
+pub fn lp_faults_are_in_words()
     ensures section_repeated { IsInWords FaultKind.SectionRepeated repeats_section }
     ensures section_order { IsInWords FaultKind.SectionOrder breaks_order }
     ensures constant_in_row { IsInWords FaultKind.ConstantInRow follows_constant }

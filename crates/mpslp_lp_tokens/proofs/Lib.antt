@@ -1,10 +1,5 @@
 pub mod SliceLemmas
-pub mod JoinedTokens
 pub mod WordLemmas
 pub mod NameTokens
 pub mod NumberRun
-pub mod NumberSize
 pub mod FrontLemmas
-pub mod FrontText
-pub mod TokenLemmas
-pub mod LongestTokens

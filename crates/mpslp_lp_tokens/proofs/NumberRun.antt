@@ -1,11 +1,10 @@
 -- A number is a text that a small state machine accepts.
-use Rattle.std.proofs.Common.{◌≡◌, refl, sym, ap, ◌∙◌, List, [], ◌∷◌, ◌++◌, length, ℕ, suc, Bool, true, false, cond, arith}
-use Rattle.std.specs.Prelude.{◌&&◌, ◌||◌, not, nat_lt}
-use Rattle.std.specs.List.{list_all, list_any, before_first, after_first}
-use Rattle.std.proofs.lemmas.Bool.Decides.{nat_tests}
-use Rattle.mpslp_decimal.specs.Literal.{is_digit, is_sign, is_point, is_exponent_mark, without_sign, are_digits, is_literal, unsigned_part}
-use Rattle.mpslp_decimal.proofs.GrammarLemmas.{before-here, after-here, any-here, before-past, after-past, any-past}
-use Rattle.mpslp_lp_tokens.specs.Token.{is_number}
+use Rattle.std.proofs.Common.{Bool, List, [], ap, arith, cond, drop, false, length, refl, subst, suc, take, true, zero, ℕ, ◌++◌, ◌+◌, ◌<◌}
+use Rattle.std.{proofs.Common.{◌∙◌, ◌∷◌, ◌≡◌, ◌≤◌}, specs.{List.{after_first, before_first, list_all, list_any, prefix_len}, Prelude.None}}
+use Rattle.std.specs.Prelude.{Option, Some, not, unwrap_or, ◌&&◌, ◌||◌}
+use Rattle.mpslp_decimal.{proofs.GrammarLemmas.{after-here, after-past, any-here, any-past, before-past}, specs.Literal.are_digits}
+use Rattle.mpslp_decimal.specs.Literal.{is_digit, is_exponent_mark, is_literal, is_point, is_sign, without_sign}
+use Rattle.mpslp_lp_tokens.specs.{Scan.{IsLongestFront, exponent_size, number_size, number_size_after, sign_size}, Token.is_number}
 
 -- ---- the machine
 
@@ -65,34 +64,8 @@ Facts b IsMark = (is_digit b ≡ false) × (is_point b ≡ false) × (is_exponen
 Facts b IsSign = (is_digit b ≡ false) × (is_point b ≡ false) × (is_exponent_mark b ≡ false) × (is_sign b ≡ true)
 Facts b IsOther = (is_digit b ≡ false) × (is_point b ≡ false) × (is_exponent_mark b ≡ false) × (is_sign b ≡ false)
 
-digit-no_point : (b : ℕ) → is_digit b ≡ true → is_point b ≡ false
-digit-no_point b h = grind (arith, nat_tests)
-
-digit-no_mark : (b : ℕ) → is_digit b ≡ true → is_exponent_mark b ≡ false
-digit-no_mark b h = grind (arith, nat_tests)
-
-digit-no_sign : (b : ℕ) → is_digit b ≡ true → is_sign b ≡ false
-digit-no_sign b h = grind (arith, nat_tests)
-
-point-no_mark : (b : ℕ) → is_point b ≡ true → is_exponent_mark b ≡ false
-point-no_mark b h = grind (arith, nat_tests)
-
-point-no_sign : (b : ℕ) → is_point b ≡ true → is_sign b ≡ false
-point-no_sign b h = grind (arith, nat_tests)
-
-mark-no_sign : (b : ℕ) → is_exponent_mark b ≡ true → is_sign b ≡ false
-mark-no_sign b h = grind (arith, nat_tests)
-
 pub facts : (b : ℕ) → Facts b (class_of b)
-facts b = by (is_digit b) (is_point b) (is_exponent_mark b) (is_sign b) refl refl refl refl
-  where
-    by : (d p m s : Bool) → is_digit b ≡ d → is_point b ≡ p → is_exponent_mark b ≡ m → is_sign b ≡ s
-        → Facts b (cond d IsDigit (cond p IsPoint (cond m IsMark (cond s IsSign IsOther))))
-    by true p m s e f g h = (e, digit-no_point b e, digit-no_mark b e, digit-no_sign b e)
-    by false true m s e f g h = (e, f, point-no_mark b f, point-no_sign b f)
-    by false false true s e f g h = (e, f, g, mark-no_sign b g)
-    by false false false true e f g h = (e, f, g, h)
-    by false false false false e f g h = (e, f, g, h)
+facts = grind arith
 
 -- ---- what the stages accept
 
@@ -102,36 +75,18 @@ dead (b ∷ bs) = dead bs
 
 exponent-takes : (t : List ℕ) → accepts Exponent t ≡ list_all is_digit t
 exponent-takes [] = refl
-exponent-takes (b ∷ bs) = by (class_of b) (facts b) (exponent-takes bs)
-  where
-    by : (class : Class) → Facts b class → accepts Exponent bs ≡ list_all is_digit bs → accepts (next Exponent class) bs ≡ list_all is_digit (b ∷ bs)
-    by = grind (arith, dead)
-
-some : (n : ℕ) → nat_lt 0 (suc n) ≡ true
-some n = grind (arith, nat_tests)
+exponent-takes (b ∷ bs) = grind (arith, facts, dead, exponent-takes bs)
 
 -- digits, beginning with this one
 digits-first : (b : ℕ) (bs : List ℕ) → are_digits (b ∷ bs) ≡ list_all is_digit (b ∷ bs)
-digits-first b bs = ap (λ (x : Bool). x && list_all is_digit (b ∷ bs)) (some (length bs))
+digits-first = grind arith
 
 sign-takes : (t : List ℕ) → accepts Sign t ≡ are_digits t
 sign-takes [] = refl
-sign-takes (b ∷ bs) = by (class_of b) (facts b) ∙ sym (digits-first b bs)
-  where
-    by : (class : Class) → Facts b class → accepts (next Sign class) bs ≡ list_all is_digit (b ∷ bs)
-    by = grind (arith, dead, exponent-takes)
-
--- without a sign, digits of which this is the first
-unsigned-first : (b : ℕ) (bs : List ℕ) → is_sign b ≡ false → are_digits (without_sign (b ∷ bs)) ≡ list_all is_digit (b ∷ bs)
-unsigned-first b bs h = rw h (digits-first b bs)
+sign-takes (b ∷ bs) = grind (arith, facts, digits-first, dead, exponent-takes)
 
 mark-takes : (t : List ℕ) → accepts Mark t ≡ are_digits (without_sign t)
-mark-takes [] = refl
-mark-takes (b ∷ bs) = by (class_of b) (facts b)
-  where
-    by : (class : Class) → Facts b class → accepts (next Mark class) bs ≡ are_digits (without_sign (b ∷ bs))
-    by IsSign f = sign-takes bs ∙ sym (rw f.3 refl)
-    by class f = grind (arith, dead, exponent-takes, unsigned-first)
+mark-takes = grind (arith, facts, sign-takes, dead, exponent-takes)
 
 -- ---- the parts of what is left
 
@@ -151,57 +106,46 @@ exponent-here : (b : ℕ) (bs : List ℕ) → is_exponent_mark b ≡ true → ex
 exponent-here b bs h = λ i. not (any-here is_exponent_mark b bs h i) || are_digits (without_sign (after-here is_exponent_mark b bs h i))
 
 ahead-past : (b : ℕ) (bs : List ℕ) → is_exponent_mark b ≡ false → ahead (b ∷ bs) ≡ b ∷ ahead bs
-ahead-past b bs h = before-past is_exponent_mark b bs h
-
-ahead-here : (b : ℕ) (bs : List ℕ) → is_exponent_mark b ≡ true → ahead (b ∷ bs) ≡ []
-ahead-here b bs h = before-here is_exponent_mark b bs h
+ahead-past b bs h = before-past _ b bs h
 
 mantissa-past : (b : ℕ) (bs : List ℕ) → is_exponent_mark b ≡ false → is_point b ≡ false → mantissa (b ∷ bs) ≡ b ∷ mantissa bs
-mantissa-past b bs m p =
-    ap (λ (t : List ℕ). before_first is_point t ++ after_first is_point t) (ahead-past b bs m)
-    ∙ (λ i. before-past is_point b (ahead bs) p i ++ after-past is_point b (ahead bs) p i)
+mantissa-past = grind (arith, ahead-past, before-past, after-past)
 
 mantissa-point : (b : ℕ) (bs : List ℕ) → is_exponent_mark b ≡ false → is_point b ≡ true → mantissa (b ∷ bs) ≡ ahead bs
-mantissa-point b bs m p =
-    ap (λ (t : List ℕ). before_first is_point t ++ after_first is_point t) (ahead-past b bs m)
-    ∙ (λ i. before-here is_point b (ahead bs) p i ++ after-here is_point b (ahead bs) p i)
+mantissa-point = grind arith
 
 mantissa-here : (b : ℕ) (bs : List ℕ) → is_exponent_mark b ≡ true → mantissa (b ∷ bs) ≡ []
-mantissa-here b bs m = ap (λ (t : List ℕ). before_first is_point t ++ after_first is_point t) (ahead-here b bs m)
+mantissa-here = grind arith
 
 abbrev in_fraction : List ℕ → Bool
 in_fraction t = list_all is_digit (ahead t) && exponent t
 
 fraction-takes : (t : List ℕ) → accepts Fraction t ≡ in_fraction t
 fraction-takes [] = refl
-fraction-takes (b ∷ bs) = by (class_of b) (facts b) (fraction-takes bs)
+fraction-takes (b ∷ bs) = by _ (facts b) (fraction-takes bs)
   where
     by : (class : Class) → Facts b class → accepts Fraction bs ≡ in_fraction bs → accepts (next Fraction class) bs ≡ in_fraction (b ∷ bs)
-    by IsMark f more = mark-takes bs ∙ sym (λ i. list_all is_digit (ahead-here b bs f.2 i) && exponent-here b bs f.2 i)
-    by class f more = grind (arith, dead, ahead-past, exponent-past)
+    by = grind (arith, mark-takes, exponent-here, dead, ahead-past, exponent-past)
 
 abbrev in_whole : List ℕ → Bool
 in_whole t = list_all is_digit (mantissa t) && exponent t
 
 whole-takes : (t : List ℕ) → accepts Whole t ≡ in_whole t
 whole-takes [] = refl
-whole-takes (b ∷ bs) = by (class_of b) (facts b) (whole-takes bs)
+whole-takes (b ∷ bs) = by _ (facts b) (whole-takes bs)
   where
     by : (class : Class) → Facts b class → accepts Whole bs ≡ in_whole bs → accepts (next Whole class) bs ≡ in_whole (b ∷ bs)
-    by IsMark f more = mark-takes bs ∙ sym (λ i. list_all is_digit (mantissa-here b bs f.2 i) && exponent-here b bs f.2 i)
-    by IsPoint f more = fraction-takes bs ∙ sym (λ i. list_all is_digit (mantissa-point b bs f.2 f.1 i) && exponent-past b bs f.2 i)
-    by class f more = grind (arith, dead, mantissa-past, exponent-past)
+    by = grind (arith, mark-takes, mantissa-here, exponent-here, fraction-takes, mantissa-point, exponent-past, dead, mantissa-past)
 
 abbrev in_point : List ℕ → Bool
 in_point t = are_digits (ahead t) && exponent t
 
 point-takes : (t : List ℕ) → accepts Point t ≡ in_point t
 point-takes [] = refl
-point-takes (b ∷ bs) = by (class_of b) (facts b)
+point-takes (b ∷ bs) = by _ (facts b)
   where
     by : (class : Class) → Facts b class → accepts (next Point class) bs ≡ in_point (b ∷ bs)
-    by IsMark f = dead bs ∙ sym (λ i. are_digits (ahead-here b bs f.2 i) && exponent-here b bs f.2 i)
-    by class f = grind (arith, dead, fraction-takes, ahead-past, exponent-past, digits-first)
+    by = grind (arith, dead, exponent-here, fraction-takes, ahead-past, exponent-past, digits-first)
 
 -- ---- a whole text
 
@@ -209,15 +153,132 @@ abbrev unsigned_literal : List ℕ → Bool
 unsigned_literal t = are_digits (mantissa t) && exponent t
 
 literal-is : (b : ℕ) (bs : List ℕ) → is_exponent_mark b ≡ false → is_sign b ≡ false → is_literal (b ∷ bs) ≡ unsigned_literal (b ∷ bs)
-literal-is b bs m s =
-    let unsigned : unsigned_part (b ∷ bs) ≡ ahead (b ∷ bs) = ap without_sign (ahead-past b bs m) ∙ rw s refl ∙ sym (ahead-past b bs m) in
-    ap (λ (t : List ℕ). are_digits (before_first is_point t ++ after_first is_point t) && exponent (b ∷ bs)) unsigned
+literal-is = grind arith
 
 pub number-takes : (t : List ℕ) → is_number t ≡ accepts Begin t
 number-takes [] = refl
-number-takes (b ∷ bs) = by (class_of b) (facts b)
+number-takes (b ∷ bs) =
+    grind (arith, facts, whole-takes, literal-is, mantissa-past, exponent-past, digits-first, point-takes, mantissa-point, dead)
+
+-- ---- The number that the stages find is the longest.
+
+-- ---- the longest prefix that a stage accepts
+
+-- one byte more; without a byte, the empty prefix if the stage may end
+abbrev longer : Option ℕ → Bool → Option ℕ
+longer (Some n) ends = Some (suc n)
+longer None ends = cond ends (Some 0) None
+
+-- the length of that prefix; none if the stage does not even accept the empty one
+abbrev reach : Stage → List ℕ → Option ℕ
+reach stage [] = longer None (is_end stage)
+reach stage (b ∷ bs) = longer (reach (next stage (class_of b)) bs) (is_end stage)
+
+abbrev Reaches : Stage → List ℕ → Option ℕ → Type 0
+Reaches stage t (Some n) = (n ≤ length t) × (accepts stage (take n t) ≡ true) × ((k : ℕ) → n < k → k ≤ length t
+    → accepts stage (take k t) ≡ false)
+Reaches stage t None = (k : ℕ) → k ≤ length t → accepts stage (take k t) ≡ false
+
+-- if nothing more is accepted
+reached_here : (stage : Stage) (t : List ℕ) → accepts stage [] ≡ is_end stage
+    → ((k : ℕ) → 0 < k → k ≤ length t → accepts stage (take k t) ≡ false)
+    → (ends : Bool) → is_end stage ≡ ends → Reaches stage t (longer None ends)
+reached_here stage t empty none true e = grind arith
+reached_here stage t empty none false e = by
   where
-    by : (class : Class) → Facts b class → is_number (b ∷ bs) ≡ accepts (next Begin class) bs
-    by IsDigit f = grind (arith, whole-takes, literal-is, mantissa-past, exponent-past, digits-first)
-    by IsPoint f = grind (arith, point-takes, literal-is, mantissa-point, exponent-past)
-    by class f = grind (arith, dead)
+    by : (k : ℕ) → k ≤ length t → accepts stage (take k t) ≡ false
+    by = grind arith
+
+reached : (stage : Stage) (t : List ℕ) → Reaches stage t (reach stage t)
+reached stage [] = grind arith
+reached stage (b ∷ bs) = by _ (reached (next stage (class_of b)) bs)
+  where
+    by : (found : Option ℕ) → Reaches (next stage (class_of b)) bs found → Reaches stage (b ∷ bs) (longer found (is_end stage))
+    by (Some n) r = (omega (arith, r.0), r.1, beyond)
+      where
+        beyond : (k : ℕ) → suc n < k → k ≤ length (b ∷ bs) → accepts stage (take k (b ∷ bs)) ≡ false
+        beyond = grind arith
+    by None r = reached_here stage (b ∷ bs) refl beyond _ refl
+      where
+        beyond : (k : ℕ) → 0 < k → k ≤ length (b ∷ bs) → accepts stage (take k (b ∷ bs)) ≡ false
+        beyond = grind arith
+
+dead-reach : (t : List ℕ) → reach Dead t ≡ None
+dead-reach [] = refl
+dead-reach (b ∷ bs) = grind (arith, dead-reach bs)
+
+-- ---- digits and an exponent
+
+exponent-reach : (t : List ℕ) → reach Exponent t ≡ Some (prefix_len is_digit t)
+exponent-reach [] = refl
+exponent-reach (b ∷ bs) = grind (arith, facts, dead-reach, exponent-reach bs)
+
+-- this number of bytes and then digits, at least one
+abbrev ended : ℕ → ℕ → Option ℕ
+ended context zero = None
+ended context (suc digits) = Some (context + suc digits)
+
+sign-reach : (t : List ℕ) → reach Sign t ≡ ended 0 (prefix_len is_digit t)
+sign-reach [] = refl
+sign-reach (b ∷ bs) = grind (arith, facts, dead-reach, exponent-reach)
+
+mark-reach : (t : List ℕ) → reach Mark t ≡ ended (sign_size t) (prefix_len is_digit (drop (sign_size t) t))
+mark-reach = grind (arith, facts, dead-reach, exponent-reach, sign-reach)
+
+-- digits, and the exponent that follows them
+abbrev digits_size : List ℕ → ℕ
+digits_size t = prefix_len is_digit t + exponent_size (drop (prefix_len is_digit t) t)
+
+fraction-reach : (t : List ℕ) → reach Fraction t ≡ Some (digits_size t)
+fraction-reach [] = refl
+fraction-reach (b ∷ bs) = by _ (facts b) (fraction-reach bs)
+  where
+    by : (class : Class) → Facts b class → reach Fraction bs ≡ Some (digits_size bs)
+        → longer (reach (next Fraction class) bs) true ≡ Some (digits_size (b ∷ bs))
+    by IsDigit f h = let e : 1 + prefix_len is_digit bs ≡ suc (prefix_len is_digit bs) =
+        omega arith in rw (h, f.0, e) (ap Some (omega arith))
+    by _ f h = grind (arith, dead-reach, mark-reach)
+
+-- what comes after this number of digits
+abbrev following : ℕ → List ℕ → ℕ
+following n [] = n
+following n (b ∷ bs) = cond (is_point b) (n + 1 + digits_size bs) (n + exponent_size (b ∷ bs))
+
+abbrev whole_size : List ℕ → ℕ
+whole_size t = following (prefix_len is_digit t) (drop (prefix_len is_digit t) t)
+
+whole-reach : (t : List ℕ) → reach Whole t ≡ Some (whole_size t)
+whole-reach [] = refl
+whole-reach (b ∷ bs) = by _ (facts b) (whole-reach bs)
+  where
+    by : (class : Class) → Facts b class → reach Whole bs ≡ Some (whole_size bs)
+        → longer (reach (next Whole class) bs) true ≡ Some (whole_size (b ∷ bs))
+    by IsDigit f h = let e : 1 + prefix_len is_digit bs ≡ suc (prefix_len is_digit bs) =
+        omega arith in rw (h, f.0, e) (ap Some (grind arith))
+    by _ f h = grind (arith, fraction-reach, mark-reach, dead-reach)
+
+abbrev pointed : ℕ → List ℕ → Option ℕ
+pointed zero rest = None
+pointed (suc n) rest = Some (suc n + exponent_size rest)
+
+point-reach : (t : List ℕ) → reach Point t ≡ pointed (prefix_len is_digit t) (drop (prefix_len is_digit t) t)
+point-reach [] = refl
+point-reach (b ∷ bs) = grind (arith, facts, dead-reach, fraction-reach)
+
+-- ---- a whole text
+
+size-after : (n : ℕ) (t : List ℕ) → suc (following n t) ≡ number_size_after (suc n) t
+size-after = grind arith
+
+begin-reach : (t : List ℕ) → unwrap_or (reach Begin t) 0 ≡ number_size t
+begin-reach [] = refl
+begin-reach (b ∷ bs) = grind (arith, facts, dead-reach, whole-reach, point-reach, size-after)
+
+pub number-longest : (t : List ℕ) → IsLongestFront is_number t (number_size t)
+number-longest t =
+    let r = subst (IsLongestFront (accepts Begin) t) (begin-reach t) (grind (arith, reached Begin t)) in
+    record {
+      within = r.within;
+      front = λ h. number-takes (take (number_size t) t) ∙ r.front h;
+      longest = λ n h w. number-takes (take n t) ∙ r.longest n h w;
+    }

@@ -1,9 +1,9 @@
 //! The limits of a row, from its type, right-hand side and range, and what may be wrong with them.
 
-ghost use Rattle.std.specs.Prelude.{◌≡◌, Some, not, is_none, false};
+ghost use Rattle.std.specs.Prelude.{◌≡◌, IfSome, Option, Some, not, is_none, false};
 ghost use Rattle.std.specs.Ordering.{is_lt};
 ghost use Rattle.std.specs.Option.{option_map_or};
-ghost use Rattle.mpslp_decimal.specs.Decimal.{decimal_cmp, is_infinite_size, size_of, sum_of, difference_of};
+ghost use Rattle.mpslp_decimal.specs.Decimal.{Number, decimal_cmp, is_infinite_size, size_of, sum_of, difference_of};
 ghost use Rattle.mpslp_types.specs.Limit.{is_at_most};
 ghost use Rattle.mpslp_model_core.specs.Limits.{sides, plain_limits, ranged_limits, limits_of, has_infinite_rhs};
 ghost use Rattle.mpslp_model_core.specs.RowForms.{row_definition, is_plain};
@@ -226,8 +226,20 @@ fn is_plain(definition: &UnpackedRowDefinition, range: &Option<Decimal>) -> bool
     }
 }
 
+/// The other limit of a row by its limits whose lower one is minus infinity, or whose upper one is plus infinity. Only its magnitude
+/// may be wrong, so the row is faulty if and only if that is too large.
+fn only_limit(definition: &UnpackedRowDefinition) -> Option<Limit>
+    ensures { IfSome result (λ limit. (b : Number) (r : Option Number) → is_large_limit limit ≡ is_faulty_row (row_definition definition.now) b r) }
+{
+    match definition {
+        UnpackedRowDefinition::ByLimits(Limit::MinusInf, upper) => Some(*upper),
+        UnpackedRowDefinition::ByLimits(lower, Limit::PlusInf) => Some(*lower),
+        _ => None,
+    }
+}
+
 /// Whether a row with this definition, right-hand side and range has any error. Its limits are computed only once, and not at
-/// all for a row by its type without a range: there only the right-hand side may be wrong.
+/// all where only one number may be wrong: for a row by its type without a range, or by its limits with an infinite one.
 pub fn is_faulty_row(
     definition: &UnpackedRowDefinition,
     rhs: Decimal,
@@ -237,6 +249,9 @@ pub fn is_faulty_row(
 {
     if is_plain(definition, range) {
         return has_infinite_rhs(definition, rhs, range);
+    }
+    if let Some(limit) = only_limit(definition) {
+        return is_large_limit(limit);
     }
     let limits = limits_of(definition, rhs, range);
     has_infinite_rhs(definition, rhs, range)

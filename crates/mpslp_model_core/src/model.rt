@@ -480,6 +480,7 @@ impl Model {
 
     /// Nonzero coefficient number `k` of the row of number `i`, in the order of columns: the number of the column, and the value.
     /// Takes constant time if the model has lists by rows, and else searches in all columns.
+    #[inline(always)]
     pub fn row_entry(&self, i: usize, k: usize) -> (usize, Decimal)
         requires row { i < num_rows self.now }
         requires entry { k < length (row_columns self.now (row_name self.now i)) }

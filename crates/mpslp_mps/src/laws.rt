@@ -3,21 +3,21 @@
 ghost use Rattle.mpslp_mps.specs.Laws.{DeclareOneModel, DeclareOrFail, DeclareUnlessFaulty, HaveOneFirstFault};
 
 /// No bytes declare two models.
-pub fn one_model()
+pub fn one_model_in_mps()
     ensures { DeclareOneModel }
 {}
 
 /// No bytes have two first errors.
-pub fn one_fault()
+pub fn one_fault_in_mps()
     ensures { HaveOneFirstFault }
 {}
 
 /// No bytes both declare a model and have a first error.
-pub fn model_or_fault()
+pub fn model_or_fault_in_mps()
     ensures { DeclareOrFail }
 {}
 
 /// Bytes without a first error declare a model.
-pub fn model_without_fault()
+pub fn model_without_fault_in_mps()
     ensures { DeclareUnlessFaulty }
 {}

@@ -1,2 +1,1 @@
-pub mod BlankLemmas
 pub mod FieldsLemmas

@@ -7,13 +7,13 @@ ghost use Rattle.mpslp_mps_sentences.specs.Laws.{TextIsInWords};
 
 /// MPS text is defined by tests that go from line to line. It is also the text that `TextInWords` describes as a whole: by
 /// its headers, and by the lines of each section together.
-pub fn text_is_in_words()
+pub fn mps_text_is_in_words()
     ensures { TextIsInWords }
 {}
 
 /// A first error of one of these kinds is on a line that `FaultsInWords` or `ValueFaultsInWords` describes for the kind, in
 /// terms of the lines before it.
-pub fn faults_are_in_words()
+pub fn mps_faults_are_in_words()
     ensures section_repeated { IsInWords FaultKind.SectionRepeated repeats_section }
     ensures section_order { IsInWords FaultKind.SectionOrder occurs_out_of_order }
     ensures bad_marker { IsInWords FaultKind.BadMarker is_wrong_marker }

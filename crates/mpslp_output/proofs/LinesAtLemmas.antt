@@ -1,21 +1,19 @@
 -- Lines of one entry after another, and of an entry as the accessors of a model return it.
-use Rattle.std.proofs.Common.{◌≡◌, refl, sym, ap, ◌∙◌, ℕ, zero, suc, ◌≤◌, ◌+◌, add-one, Bool, true, false, cond, List, [], ◌∷◌, ◌++◌, length, map, take, drop, append_assoc, append-nil, arith}
-use Rattle.std.specs.Prelude.{Option, Some, None, slice_get, filter}
-use Rattle.std.specs.List.{All, flat_map, range_with_len}
-use Rattle.std.specs.Option.{option_map, option_map_or}
-use Rattle.std.proofs.lemmas.Grind.{flat_map-append}
-use Rattle.std.proofs.lemmas.List.{length-map}
-use Rattle.std.proofs.lemmas.Option.{slice_get-map}
+use Rattle.std.proofs.Common.{◌≡◌, refl, sym, ap, ◌∙◌, ℕ, zero, suc, ◌≤◌, ◌+◌, add-one, Bool, true, false, cond, List, [], ◌∷◌, ◌++◌}
+use Rattle.std.proofs.{Common.{length, map, take, drop, append_assoc, append-nil, arith}, lemmas.Grind.{flat_map-append}}
+use Rattle.std.proofs.lemmas.{List.{length-map}, Option.{slice_get-map}}
+use Rattle.std.specs.{Prelude.{Option, Some, slice_get, filter}, List.{All, flat_map, range_with_len}, Option.{option_map}}
 use Rattle.mpslp_model_core.proofs.ByRowLemmas.{range_more}
 use Rattle.mpslp_output.specs.LinesAt.{lines_at}
 
 -- ---- one more entry
 
-pub flat_map-more : {X L : Type 0} (f : X → List L) (xs : List X) (i : ℕ) → flat_map f (take (suc i) xs) ≡ flat_map f (take i xs) ++ lines_at f xs i
+pub flat_map-more : {X L : Type 0} (f : X → List L) (xs : List X) (i : ℕ)
+    → flat_map f (take (suc i) xs) ≡ flat_map f (take i xs) ++ lines_at f xs i
 flat_map-more f [] zero = refl
 flat_map-more f [] (suc i) = refl
 flat_map-more f (x ∷ xs) zero = append-nil (f x)
-flat_map-more f (x ∷ xs) (suc i) = ap (λ (l : List _). f x ++ l) (flat_map-more f xs i) ∙ sym (append_assoc (f x) (flat_map f (take i xs)) (lines_at f xs i))
+flat_map-more f (x ∷ xs) (suc i) = grind (arith, append_assoc, flat_map-more f xs i)
 
 pub flat_map-all : {X L : Type 0} (f : X → List L) (xs : List X) (n : ℕ) → length xs ≤ n → flat_map f (take n xs) ≡ flat_map f xs
 flat_map-all f [] zero h = refl
@@ -27,13 +25,14 @@ pub flat_map-rest : {X L : Type 0} (f : X → List L) (xs : List X) (i : ℕ) �
 flat_map-rest f [] zero = refl
 flat_map-rest f [] (suc i) = refl
 flat_map-rest f (x ∷ xs) zero = refl
-flat_map-rest f (x ∷ xs) (suc i) = append_assoc (f x) (flat_map f (take i xs)) (flat_map f (drop i xs)) ∙ ap (λ (l : List _). f x ++ l) (flat_map-rest f xs i)
+flat_map-rest f (x ∷ xs) (suc i) = grind (arith, append_assoc, flat_map-rest f xs i)
 
 pub map-flat_map : {X Y : Type 0} (f : X → Y) (xs : List X) → flat_map (λ x. f x ∷ []) xs ≡ map f xs
 map-flat_map f [] = refl
 map-flat_map f (x ∷ xs) = ap (λ (l : List _). f x ∷ l) (map-flat_map f xs)
 
-pub flat_map-filter : {X L : Type 0} (f : X → List L) (p : X → Bool) (xs : List X) → flat_map (λ x. cond (p x) (f x) []) xs ≡ flat_map f (filter p xs)
+pub flat_map-filter : {X L : Type 0} (f : X → List L) (p : X → Bool) (xs : List X)
+    → flat_map (λ x. cond (p x) (f x) []) xs ≡ flat_map f (filter p xs)
 flat_map-filter f p [] = refl
 flat_map-filter {X} f p (x ∷ xs) =
     elim (p x) as (λ b. cond b (f x) [] ++ flat_map (λ x. cond (p x) (f x) []) xs ≡ flat_map f (cond b (x ∷ filter p xs) (filter p xs))) [
@@ -42,7 +41,8 @@ flat_map-filter {X} f p (x ∷ xs) =
     ]
 
 -- if elements that do not pass have no lines
-pub flat_map-kept : {X L : Type 0} (p : X → Bool) (f : X → List L) (xs : List X) → All (λ (x : X). p x ≡ false → f x ≡ []) xs → flat_map f (filter p xs) ≡ flat_map f xs
+pub flat_map-kept : {X L : Type 0} (p : X → Bool) (f : X → List L) (xs : List X) → All (λ (x : X). p x ≡ false → f x ≡ []) xs
+    → flat_map f (filter p xs) ≡ flat_map f xs
 flat_map-kept p f [] none = refl
 flat_map-kept {X} {L} p f (x ∷ xs) none =
     let rest = flat_map-kept p f xs (λ k d below. none (suc k) d (omega arith)) in
@@ -52,7 +52,8 @@ flat_map-kept {X} {L} p f (x ∷ xs) none =
     ] refl
 
 -- the lines of the first entries, by their numbers
-pub flat_map-numbers : {X L : Type 0} (f : X → List L) (xs : List X) (n : ℕ) → flat_map (lines_at f xs) (range_with_len 0 n) ≡ flat_map f (take n xs)
+pub flat_map-numbers : {X L : Type 0} (f : X → List L) (xs : List X) (n : ℕ)
+    → flat_map (lines_at f xs) (range_with_len 0 n) ≡ flat_map f (take n xs)
 flat_map-numbers f xs zero = refl
 flat_map-numbers {X} {L} f xs (suc n) =
     let more : suc n ≡ n + 1 = omega arith in
@@ -65,45 +66,30 @@ flat_map-numbers {X} {L} f xs (suc n) =
 -- ---- an entry by its accessors
 
 -- what two accessors return of an entry, taken together
-pub both_seen : {X A B C : Type 0} (f : X → A) (g : X → B) (h : A → B → C) (o : Option X) (a : A) (b : B) → option_map f o ≡ Some a → option_map g o ≡ Some b
+pub both_seen : {X A B C : Type 0} (f : X → A) (g : X → B) (h : A → B → C) (o : Option X) (a : A) (b : B) → option_map f o ≡ Some a
+    → option_map g o ≡ Some b
     → option_map (λ x. h (f x) (g x)) o ≡ Some (h a b)
-both_seen f g h None a b p q = absurd cc
-both_seen {X} {A} {B} {C} f g h (Some x) a b p q =
-    let left : f x ≡ a = cc in
-    let right : g x ≡ b = cc in
-    λ i. Some (h (left i) (right i))
+both_seen = grind arith
 
 -- the lines of an entry, by its name and what an accessor returns of it
-pub lines_seen : {X Y L : Type 0} (es : List (List ℕ × X)) (i : ℕ) (f : X → Y) (h : List ℕ → Y → List L) (name : List ℕ) (seen : Y) → slice_get (map (λ e. e.0) es) i ≡ Some name
+pub lines_seen : {X Y L : Type 0} (es : List (List ℕ × X)) (i : ℕ) (f : X → Y) (h : List ℕ → Y → List L) (name : List ℕ) (seen : Y)
+    → slice_get (map (λ e. e.0) es) i ≡ Some name
     → option_map f (slice_get (map (λ e. e.1) es) i) ≡ Some seen → h name seen ≡ lines_at (λ e. h e.0 (f e.1)) es i
-lines_seen {X} {Y} es i f h name seen named is =
-    by (slice_get es i) (sym (slice_get-map (λ (e : List ℕ × X). e.0) es i) ∙ named) (ap (option_map f) (sym (slice_get-map (λ (e : List ℕ × X). e.1) es i)) ∙ is)
-  where
-    by : (o : Option (List ℕ × X)) → option_map (λ (e : List ℕ × X). e.0) o ≡ Some name → option_map f (option_map (λ (e : List ℕ × X). e.1) o) ≡ Some seen
-        → h name seen ≡ option_map_or (λ (e : List ℕ × X). h e.0 (f e.1)) o []
-    by None n s = absurd (no_name name n)
-      where
-        no_name : (name : List ℕ) → ◌≡◌ {A = Option (List ℕ)} None (Some name) → ⊥
-        no_name name e = cc
-    by (Some e) n s =
-        let a : e.0 ≡ name = cc in
-        let b : f e.1 ≡ seen = cc in
-        λ i. h (sym a i) (sym b i)
+lines_seen {X} {Y} = grind (arith, slice_get-map)
 
 -- ---- one more entry, when the number increases by 1
 
-pub flat_map-next : {X L : Type 0} (f : X → List L) (xs : List X) (i : ℕ) → flat_map f (take i xs) ++ lines_at f xs i ≡ flat_map f (take (i + 1) xs)
-flat_map-next f xs i = sym (ap (λ (n : ℕ). flat_map f (take n xs)) (add-one i) ∙ flat_map-more f xs i)
+pub flat_map-next : {X L : Type 0} (f : X → List L) (xs : List X) (i : ℕ)
+    → flat_map f (take i xs) ++ lines_at f xs i ≡ flat_map f (take (i + 1) xs)
+flat_map-next = grind (arith, add-one, flat_map-more)
 
 -- the number of entries, by their names
-pub all-taken : {X L : Type 0} (f : List ℕ × X → List L) (es : List (List ℕ × X)) (n : ℕ) → length (map (λ e. e.0) es) ≤ n → flat_map f (take n es) ≡ flat_map f es
-all-taken {X} f es n h = let named = length-map es (λ (e : List ℕ × X). e.0) in flat_map-all f es n (omega (arith, named, h))
+pub all-taken : {X L : Type 0} (f : List ℕ × X → List L) (es : List (List ℕ × X)) (n : ℕ) → length (map (λ e. e.0) es) ≤ n
+    → flat_map f (take n es) ≡ flat_map f es
+all-taken {X} = grind (arith, length-map, flat_map-all)
 
 -- an entry whose name is not printed
 pub nothing_seen : {X Y L : Type 0} (es : List (List ℕ × X)) (i : ℕ) (f : X → Y) (h : List ℕ → Y → List L) (seen : Y)
-    → option_map f (slice_get (map (λ e. e.1) es) i) ≡ Some seen → ((name : List ℕ) → h name seen ≡ []) → [] ≡ lines_at (λ e. h e.0 (f e.1)) es i
-nothing_seen {X} {Y} es i f h seen is none = by (slice_get es i) (ap (option_map f) (sym (slice_get-map (λ (e : List ℕ × X). e.1) es i)) ∙ is)
-  where
-    by : (o : Option (List ℕ × X)) → option_map f (option_map (λ (e : List ℕ × X). e.1) o) ≡ Some seen → [] ≡ option_map_or (λ (e : List ℕ × X). h e.0 (f e.1)) o []
-    by None s = refl
-    by (Some e) s = let same : f e.1 ≡ seen = cc in sym (ap (λ (y : Y). h e.0 y) same ∙ none e.0)
+    → option_map f (slice_get (map (λ e. e.1) es) i) ≡ Some seen → ((name : List ℕ) → h name seen ≡ [])
+    → [] ≡ lines_at (λ e. h e.0 (f e.1)) es i
+nothing_seen {X} {Y} = grind (arith, slice_get-map)

@@ -1,33 +1,28 @@
 -- How the text that was put to an output grows, piece by piece and line by line.
-use Rattle.std.proofs.Common.{◌≡◌, refl, sym, ap, subst, ◌∙◌, ℕ, true, List, [], ◌∷◌, ◌++◌, take, append_assoc, append-nil}
+use Rattle.std.proofs.Common.{arith, ◌≡◌, refl, ap, subst, ℕ, true, List, [], ◌∷◌, ◌++◌, take, append_assoc, append-nil}
 use Rattle.std.specs.List.{flat_map}
 use Rattle.mpslp_io.specs.declared.devices.Sink.{Ghosts as SinkOf}
-use Rattle.mpslp_output.specs.TextBuffer.{BufferState, HasPut, text_by, text_under, header_left}
-use Rattle.mpslp_output.specs.Printing.{IsSameOutput, Holds, Puts, PutsWaiting, HasHeader, Prints, PrintsSection}
-use Rattle.mpslp_output.specs.declared.output.Output.{Output}
-use Rattle.mpslp_output.proofs.LinesAtLemmas.{flat_map-rest}
-use Rattle.mpslp_output.proofs.BufferLemmas.{HasPut-header, HasPut-cut, put_same, text_by-append, no-header, none-after, text_under-append, header_left-append}
+use Rattle.mpslp_output.specs.{TextBuffer.{text_by, text_under}, Printing.{IsSameOutput, Holds, Puts, PutsWaiting, HasHeader, Prints}}
+use Rattle.mpslp_output.{specs.{Printing.{PrintsSection}, declared.output.Output.{Output}}, proofs.LinesAtLemmas.{flat_map-rest}}
+use Rattle.mpslp_output.proofs.BufferLemmas.{HasPut-cut, put_same, text_by-append, text_under-append, header_left-append}
 
 same_always : {W : Type 0} {a : Output W} → IsSameOutput a a
-same_always = record { sink = refl; buffer = refl }
+same_always = grind arith
 
 pub same_then : {W : Type 0} {a b c : Output W} → IsSameOutput a b → IsSameOutput b c → IsSameOutput a c
-same_then one two = record { sink = two.sink ∙ one.sink; buffer = two.buffer ∙ one.buffer }
+same_then = grind arith
 
 -- ---- pieces one after another
 
 module _ {W : Type 0} {k : SinkOf W} where
   pub puts_then : {a b c : Output W} {front back : List ℕ} → Puts k a b front → Puts k b c back → Puts k a c (front ++ back)
-  puts_then {front = front} {back = back} one two = record {
-    same = same_then one.same two.same;
-    puts = λ first text header h. put_same (append_assoc text front back) refl (two.puts first (text ++ front) header (one.puts first text header h));
-  }
+  puts_then = grind (arith, same_then, put_same, append_assoc)
 
   pub puts_same : {a b : Output W} {piece other : List ℕ} → piece ≡ other → Puts k a b piece → Puts k a b other
   puts_same {a} {b} same h = subst (Puts k a b) same h
 
   pub puts_nothing : (o : Output W) → Puts k o o []
-  puts_nothing o = record { same = same_always; puts = λ first text header h. put_same (sym (append-nil text)) refl h }
+  puts_nothing = grind (arith, same_always, put_same, append-nil)
 
   -- after the sink has failed, what is put does not matter
   cut : (o : Output W) (back : List ℕ) → o.buffer.now.has_failed ≡ true → Puts k o o back
@@ -36,41 +31,33 @@ module _ {W : Type 0} {k : SinkOf W} where
     puts = λ first text header g. HasPut-cut k.holds k.failed k.count first o.sink.now o.buffer.now text back header header fails g;
   }
 
-  pub puts_cut : {a b : Output W} {front : List ℕ} (back : List ℕ) → b.buffer.now.has_failed ≡ true → Puts k a b front → Puts k a b (front ++ back)
+  pub puts_cut : {a b : Output W} {front : List ℕ} (back : List ℕ) → b.buffer.now.has_failed ≡ true → Puts k a b front
+      → Puts k a b (front ++ back)
   puts_cut {b = b} back fails h = puts_then h (cut b back fails)
 
   -- another header waits
-  pub put_under : {first : W} {a b : Output W} {text other before header : List ℕ} → HasHeader header a b → text ≡ other → Holds k first a text before → Holds k first b other header
-  put_under {first} {a} {b} {text} {other} {before} {header} h same g =
-      subst (λ (s : W). HasPut k.holds k.failed k.count first s b.buffer.now other header) (sym h.sink_is)
-      (subst (λ (buffer : BufferState). HasPut k.holds k.failed k.count first a.sink.now buffer other header) (sym h.buffer_is)
-      (put_same same refl (HasPut-header k.holds k.failed k.count first a.sink.now a.buffer.now text before header g)))
+  pub put_under : {first : W} {a b : Output W} {text other before header : List ℕ} → HasHeader header a b → text ≡ other
+      → Holds k first a text before → Holds k first b other header
+  put_under {first} {a} {b} {text} {other} {before} {header} = grind arith
 
 -- ---- lines one after another
 
 module _ {W L : Type 0} {line_text : L → List ℕ} {k : SinkOf W} where
   pub prints_nothing : (o : Output W) → Prints line_text k o o []
-  prints_nothing o = record { same = same_always; puts = λ first text header h. put_same (sym (append-nil text)) refl h }
+  prints_nothing = grind (arith, same_always, put_same, append-nil)
 
-  pub prints_then : {a b c : Output W} {front back : List L} → Prints line_text k a b front → Prints line_text k b c back → Prints line_text k a c (front ++ back)
-  prints_then {front = front} {back = back} one two = record {
-    same = same_then one.same two.same;
-    puts = λ first text header h.
-        put_same (append_assoc text (text_under line_text header front) (text_under line_text (header_left header front) back) ∙ ap (λ (l : List ℕ). text ++ l) (text_under-append line_text header front back))
-        (header_left-append header front back) (two.puts first _ _ (one.puts first text header h));
-  }
+  pub prints_then : {a b c : Output W} {front back : List L} → Prints line_text k a b front → Prints line_text k b c back
+      → Prints line_text k a c (front ++ back)
+  prints_then = grind (arith, same_then, put_same, append_assoc, text_under-append, header_left-append)
 
   pub prints_same : {a b : Output W} {lines other : List L} → lines ≡ other → Prints line_text k a b lines → Prints line_text k a b other
-  prints_same {a} {b} same h = subst (Prints line_text k a b) same h
+  prints_same {a} {b} = grind arith
 
   -- pieces that are the text of a line, below the header
-  pub prints_line : {a b c : Output W} {piece : List ℕ} {line : L} → piece ≡ text_by line_text (line ∷ []) → PutsWaiting k a b → Puts k b c piece
+  pub prints_line : {a b c : Output W} {piece : List ℕ} {line : L} → piece ≡ text_by line_text (line ∷ []) → PutsWaiting k a b
+      → Puts k b c piece
       → Prints line_text k a c (line ∷ [])
-  prints_line {line = line} same opens puts = record {
-    same = same_then opens.same puts.same;
-    puts = λ first text header h.
-        put_same (append_assoc text header (text_by line_text (line ∷ []))) refl ((puts_same same puts).puts first (text ++ header) [] (opens.puts first text header h));
-  }
+  prints_line = grind (arith, same_then, put_same, append_assoc, puts_same)
 
   -- after the sink has failed, the other entries do not matter
   pub prints_cut : {X : Type 0} {a b : Output W} (f : X → List L) (xs : List X) (i : ℕ) → b.buffer.now.has_failed ≡ true
@@ -85,29 +72,24 @@ module _ {W L : Type 0} {line_text : L → List ℕ} {k : SinkOf W} where
 
   -- lines before which no header waits
   pub section_of : {a b : Output W} {lines : List L} → Prints line_text k a b lines → PrintsSection line_text k a b lines
-  section_of {lines = lines} h = record {
-    same = h.same;
-    puts = λ first text g. put_same (ap (λ (l : List ℕ). text ++ l) (no-header line_text lines)) (none-after lines) (h.puts first text [] g);
-  }
+  section_of = grind arith
 
   pub section_then : {a b c : Output W} {front back : List L} → PrintsSection line_text k a b front → PrintsSection line_text k b c back
       → PrintsSection line_text k a c (front ++ back)
-  section_then {front = front} {back = back} one two = record {
-    same = same_then one.same two.same;
-    puts = λ first text h.
-        put_same (append_assoc text (text_by line_text front) (text_by line_text back) ∙ ap (λ (l : List ℕ). text ++ l) (sym (text_by-append line_text front back))) refl
-        (two.puts first _ (one.puts first text h));
-  }
+  section_then = grind (arith, same_then, put_same, append_assoc, text_by-append)
 
-  pub section_same : {a b : Output W} {lines other : List L} → lines ≡ other → PrintsSection line_text k a b lines → PrintsSection line_text k a b other
-  section_same {a} {b} same h = subst (PrintsSection line_text k a b) same h
+  pub section_same : {a b : Output W} {lines other : List L} → lines ≡ other → PrintsSection line_text k a b lines
+      → PrintsSection line_text k a b other
+  section_same {a} {b} = grind arith
 
   -- pieces that are the text of lines
-  pub section_text : {a b : Output W} {piece : List ℕ} {lines : List L} → piece ≡ text_by line_text lines → Puts k a b piece → PrintsSection line_text k a b lines
-  section_text same h = record { same = h.same; puts = λ first text g. (puts_same same h).puts first text [] g }
+  pub section_text : {a b : Output W} {piece : List ℕ} {lines : List L} → piece ≡ text_by line_text lines → Puts k a b piece
+      → PrintsSection line_text k a b lines
+  section_text = grind arith
 
   -- lines below a header that waits from now on, until none waits
-  pub section_under : {a b c d : Output W} {lines other : List L} (header : List ℕ) → text_under line_text header lines ≡ text_by line_text other
+  pub section_under : {a b c d : Output W} {lines other : List L} (header : List ℕ)
+      → text_under line_text header lines ≡ text_by line_text other
       → HasHeader header a b → Prints line_text k b c lines → HasHeader [] c d → PrintsSection line_text k a d other
   section_under header same opens h closes = record {
     same = same_then opens.same (same_then h.same closes.same);

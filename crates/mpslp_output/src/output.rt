@@ -27,6 +27,7 @@ impl<'a, W: Sink> Output<'a, W> {
     }
 
     /// Appends a piece to the text.
+    #[inline(always)]
     pub fn put(&mut self, piece: &[u8])
         ensures { Puts W.Sink self.old self.new piece.now }
     {

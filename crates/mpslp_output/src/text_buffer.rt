@@ -74,13 +74,23 @@ impl Buffer {
     }
 
     /// Appends a piece to the text.
+    #[inline(always)]
     pub fn put<W: Sink>(&mut self, sink: &mut W, piece: &[u8])
         ensures { Emits W.holds W.failed W.count sink.old sink.new self.old self.new piece.now }
     {
         if piece.len() <= CAPACITY - self.len() {
             self.append(piece);
-            return;
+        } else {
+            self.put_after_others(sink, piece);
         }
+    }
+
+    /// Sends the bytes that wait, and appends a piece. [`put`](Buffer::put) is part of each caller, so what it does once for many
+    /// pieces is a function of its own.
+    #[inline(never)]
+    fn put_after_others<W: Sink>(&mut self, sink: &mut W, piece: &[u8])
+        ensures { Emits W.holds W.failed W.count sink.old sink.new self.old self.new piece.now }
+    {
         self.hand_over(sink);
         if piece.len() <= CAPACITY {
             self.append(piece);
@@ -151,6 +161,7 @@ impl Buffer {
     }
 
     /// Appends a piece to the waiting bytes.
+    #[inline(always)]
     fn append(&mut self, piece: &[u8])
         requires { length self.old.waiting + length piece.now ≤ CAPACITY }
         ensures { self.new ≡ with_waiting (self.old.waiting ++ piece.now) self.old }

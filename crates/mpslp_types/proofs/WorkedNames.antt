@@ -1,7 +1,7 @@
 -- Worked examples: names, by computation.
-use Rattle.std.{proofs.Common.{◌≡◌, refl, ℕ, List, Bool, true, false, map}, specs.Prelude.{Option, Some, None, [], ◌∷◌, codes, replicate}}
-use Rattle.mpslp_types.specs.{Name.{marker, is_lp_name, is_mps_name}, NameTests.name_refusal, declared.names.NameFault.NameFault}
-use Rattle.mpslp_types.specs.declared.names.NameFault.TheVariants.{NameLength, NameByte, NameMarker}
+use Rattle.std.{proofs.Common.{Bool, List, false, map, refl, true, ℕ, ◌≡◌}, specs.Prelude.{None, Option, Some, [], codes, replicate, ◌∷◌}}
+use Rattle.mpslp_types.specs.{Name.{is_lp_name, is_mps_name, marker}, NameTests.name_refusal, declared.names.NameFault.NameFault}
+use Rattle.mpslp_types.specs.declared.names.NameFault.TheVariants.{NameByte, NameLength, NameMarker}
 
 abbrev refusals : List (List ℕ × Option NameFault)
 refusals =

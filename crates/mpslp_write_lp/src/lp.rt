@@ -16,11 +16,11 @@ ghost use Rattle.mpslp_canonical_lp.specs.CanonicalLp.{canonical_lp, canonical_l
 ghost use Rattle.mpslp_canonical_lp.specs.Unfit.{unfit};
 ghost use Rattle.mpslp_output.specs.Printing.{PrintsSection};
 
-use crate::lp::bounds::put_bounds_section;
+use crate::lp::bounds::put_lp_bounds_section;
 pub use crate::lp::fit::first_unfit_name;
 use crate::lp::kinds::{put_generals_section, put_semis_section};
 use crate::lp::objective::put_objective_section;
-use crate::lp::rows::put_rows_section;
+use crate::lp::rows::put_lp_rows_section;
 use mpslp_model::{Model, Sink, WriteFault};
 use mpslp_output::{Buffer, Output};
 
@@ -29,8 +29,8 @@ fn put_lines<W: Sink>(model: &Model, output: &mut Output<W>)
     ensures { PrintsSection line_text W.Sink output.old output.new (canonical_lines model.now) }
 {
     put_objective_section(model, output);
-    put_rows_section(model, output);
-    put_bounds_section(model, output);
+    put_lp_rows_section(model, output);
+    put_lp_bounds_section(model, output);
     put_generals_section(model, output);
     put_semis_section(model, output);
     output.put(b"End\n");

@@ -1,6 +1,5 @@
 pub mod CellLemmas
 pub mod ColumnLemmas
-pub mod LineTexts
 pub mod BoundLines
 pub mod RowLines
 pub mod IntegerPart

@@ -10,9 +10,9 @@ ghost use Rattle.mpslp_model.specs.Formats.{IsWritten};
 ghost use Rattle.mpslp_canonical_mps.specs.CanonicalMps.{line_text, canonical_mps, canonical_lines, sense_lines};
 ghost use Rattle.mpslp_output.specs.Printing.{PrintsSection};
 
-use crate::mps::bounds::put_bounds_section;
+use crate::mps::bounds::put_mps_bounds_section;
 use crate::mps::columns::put_columns_section;
-use crate::mps::rows::{put_ranges_section, put_rhs_section, put_rows_section};
+use crate::mps::rows::{put_mps_rows_section, put_ranges_section, put_rhs_section};
 use mpslp_model::{Model, Sense, Sink, WriteFault};
 use mpslp_output::{Buffer, Output};
 
@@ -32,11 +32,11 @@ fn put_lines<W: Sink>(model: &Model, output: &mut Output<W>)
 {
     output.put(b"NAME\n");
     put_sense(model.objective_sense(), output);
-    put_rows_section(model, output);
+    put_mps_rows_section(model, output);
     put_columns_section(model, output);
     put_rhs_section(model, output);
     put_ranges_section(model, output);
-    put_bounds_section(model, output);
+    put_mps_bounds_section(model, output);
     output.put(b"ENDATA\n");
 }
 

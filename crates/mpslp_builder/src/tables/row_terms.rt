@@ -21,6 +21,10 @@ use std::alloc::{AllocError, Global};
 /// How many columns are looked up before their coefficients are stored. The look-ups do not wait for one another.
 const AHEAD: usize = 16;
 
+/// The number of terms of a row up to which each column is looked up when its coefficient is stored: for so few, looking ahead takes
+/// longer than the misses of the cache that it saves.
+const FEW: usize = 3;
+
 /// Consecutive numbers.
 fn numbers_from(first: usize) -> [usize; AHEAD] {
     let mut numbers = [0usize; AHEAD];
@@ -141,14 +145,20 @@ impl Tables {
         ensures rows { self.new.rows.entries ≡ self.old.rows.entries }
         ensures declared { TermsAreDeclaredUnless self.old row terms.now result self.new }
     {
+        let is_long = terms.len() > FEW;
         let mut guesses = [0usize; AHEAD];
         for k in 0..terms.len() {
-            if k % AHEAD == 0 {
+            if is_long && k % AHEAD == 0 {
                 guesses = self.guesses(row, &terms[k..]);
             }
             let term = &terms[k];
             each_name_is_legal(&term.0);
-            self.declare_term(alloc, row, term.0.as_bytes(), guesses[k % AHEAD], term.1)?;
+            let guess = if is_long {
+                guesses[k % AHEAD]
+            } else {
+                self.recent.saturating_add(1)
+            };
+            self.declare_term(alloc, row, term.0.as_bytes(), guess, term.1)?;
         }
         Ok(())
     }

@@ -78,7 +78,7 @@ fn put_all_bounds<W: Sink>(model: &Model, output: &mut Output<W>)
 }
 
 /// Prints the Bounds section, or nothing if all bounds are 0 and plus infinity.
-pub(crate) fn put_bounds_section<W: Sink>(model: &Model, output: &mut Output<W>)
+pub(crate) fn put_lp_bounds_section<W: Sink>(model: &Model, output: &mut Output<W>)
     ensures { PrintsSection line_text W.Sink output.old output.new (bounds_section (listing_of model.now)) }
 {
     output.open_section(b"Bounds\n");

@@ -21,6 +21,7 @@ use mpslp_model::{Limit, Model, Sink};
 use mpslp_output::{Output, put_each};
 
 /// Prints term `k` of row `i`, whose column has this name.
+#[inline(always)]
 fn put_term<W: Sink>(
     model: &Model,
     i: usize,
@@ -42,6 +43,10 @@ fn put_term<W: Sink>(
 /// cache overlap.
 const AHEAD: usize = 8;
 
+/// The number of terms of a row up to which each is looked up when it is printed: for so few, filling [`AHEAD`] places takes longer
+/// than the misses of the cache that it saves.
+const FEW: usize = 3;
+
 /// The terms of row `i` from number `from` on. Places at which there is no term have any values.
 fn terms_from(model: &Model, i: usize, from: usize) -> [(usize, Decimal); AHEAD]
     requires row { i < num_rows model.now }
@@ -57,6 +62,7 @@ fn terms_from(model: &Model, i: usize, from: usize) -> [(usize, Decimal); AHEAD]
 }
 
 /// The name of the column of term `from + n` of row `i`, which is this one. Empty if there is no such term.
+#[inline(always)]
 fn name_of(model: &Model, i: usize, from: usize, n: usize, term: (usize, Decimal)) -> &[u8]
     requires row { i < num_rows model.now }
     requires within { from ≤ length (row_columns model.now (row_name model.now i)) }
@@ -70,6 +76,7 @@ fn name_of(model: &Model, i: usize, from: usize, n: usize, term: (usize, Decimal
 }
 
 /// The names of the columns of these terms of row `i`, which are those from number `from` on.
+#[inline(always)]
 fn names_of<'a>(
     model: &'a Model,
     i: usize,
@@ -93,8 +100,20 @@ fn names_of<'a>(
     ]
 }
 
-/// Prints the terms of row `i`.
-fn put_terms<W: Sink>(model: &Model, i: usize, output: &mut Output<W>)
+/// Prints the terms of row `i`, each of which is looked up when it is printed.
+fn put_few_terms<W: Sink>(model: &Model, i: usize, output: &mut Output<W>)
+    requires { i < num_rows model.now }
+    ensures { Prints line_text W.Sink output.old output.new (lines_of_terms model.now (row_name model.now i)) }
+{
+    for k in 0..model.row_len(i) {
+        let term = model.row_entry(i, k);
+        let column = model.column_name(term.0).as_bytes();
+        put_term(model, i, k, term, column, output);
+    }
+}
+
+/// Prints the terms of row `i`, of which [`AHEAD`] are looked up together.
+fn put_many_terms<W: Sink>(model: &Model, i: usize, output: &mut Output<W>)
     requires { i < num_rows model.now }
     ensures { Prints line_text W.Sink output.old output.new (lines_of_terms model.now (row_name model.now i)) }
 {
@@ -108,6 +127,18 @@ fn put_terms<W: Sink>(model: &Model, i: usize, output: &mut Output<W>)
             names = names_of(model, i, from, &terms);
         }
         put_term(model, i, k, terms[k - from], names[k - from], output);
+    }
+}
+
+/// Prints the terms of row `i`.
+fn put_terms<W: Sink>(model: &Model, i: usize, output: &mut Output<W>)
+    requires { i < num_rows model.now }
+    ensures { Prints line_text W.Sink output.old output.new (lines_of_terms model.now (row_name model.now i)) }
+{
+    if model.row_len(i) <= FEW {
+        put_few_terms(model, i, output);
+    } else {
+        put_many_terms(model, i, output);
     }
 }
 
@@ -197,7 +228,7 @@ fn put_rows<W: Sink>(model: &Model, output: &mut Output<W>)
 }
 
 /// Prints the rows and their heading.
-pub(crate) fn put_rows_section<W: Sink>(model: &Model, output: &mut Output<W>)
+pub(crate) fn put_lp_rows_section<W: Sink>(model: &Model, output: &mut Output<W>)
     ensures { PrintsSection line_text W.Sink output.old output.new (rows_section (listing_of model.now)) }
 {
     output.put(b"Subject To\n");

@@ -165,7 +165,7 @@ fn put_all_bounds<W: Sink>(model: &Model, output: &mut Output<W>)
 }
 
 /// Prints the section BOUNDS, or nothing if every column has the bounds that it has by default.
-pub(crate) fn put_bounds_section<W: Sink>(model: &Model, output: &mut Output<W>)
+pub(crate) fn put_mps_bounds_section<W: Sink>(model: &Model, output: &mut Output<W>)
     ensures { PrintsSection line_text W.Sink output.old output.new (bounds_section (listing_of model.now)) }
 {
     output.open_section(b"BOUNDS\n");

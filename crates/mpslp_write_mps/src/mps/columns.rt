@@ -27,6 +27,10 @@ enum Part {
 /// the cache overlap.
 const AHEAD: usize = 8;
 
+/// The number of coefficients of a column up to which each row is looked up when its line is printed: for so few, filling [`AHEAD`]
+/// places takes longer than the misses of the cache that it saves.
+const FEW: usize = 3;
+
 /// The name of the row of coefficient `from + n` of column `j`, among its coefficients in rows. Empty if there is none.
 fn row_of_coefficient(model: &Model, j: usize, from: usize, n: usize) -> &[u8]
     requires column { j < num_columns model.now }
@@ -59,6 +63,7 @@ fn rows_from(model: &Model, j: usize, from: usize) -> [&[u8]; AHEAD]
 }
 
 /// Prints the line of coefficient `k` of column `j`, among its coefficients in rows.
+#[inline(always)]
 fn put_element<W: Sink>(model: &Model, j: usize, k: usize, row: &[u8], output: &mut Output<W>)
     requires column { j < num_columns model.now }
     requires element { k < length (column_elements model.now (column_name model.now j)) }
@@ -69,8 +74,18 @@ fn put_element<W: Sink>(model: &Model, j: usize, k: usize, row: &[u8], output: &
     put_value_line(output, model.column_name(j).as_bytes(), row, value);
 }
 
-/// Prints the lines of the coefficients of column `j` in rows.
-fn put_elements<W: Sink>(model: &Model, j: usize, output: &mut Output<W>)
+/// Prints the lines of the coefficients of column `j` in rows, each of which is looked up when its line is printed.
+fn put_few_elements<W: Sink>(model: &Model, j: usize, output: &mut Output<W>)
+    requires { j < num_columns model.now }
+    ensures { Prints line_text W.Sink output.old output.new (lines_of_elements model.now (column_name model.now j)) }
+{
+    for k in 0..model.column_len(j) {
+        put_element(model, j, k, row_of_coefficient(model, j, 0, k), output);
+    }
+}
+
+/// Prints the lines of the coefficients of column `j` in rows, of which [`AHEAD`] are looked up together.
+fn put_many_elements<W: Sink>(model: &Model, j: usize, output: &mut Output<W>)
     requires { j < num_columns model.now }
     ensures { Prints line_text W.Sink output.old output.new (lines_of_elements model.now (column_name model.now j)) }
 {
@@ -82,6 +97,18 @@ fn put_elements<W: Sink>(model: &Model, j: usize, output: &mut Output<W>)
             rows = rows_from(model, j, from);
         }
         put_element(model, j, k, rows[k - from], output);
+    }
+}
+
+/// Prints the lines of the coefficients of column `j` in rows.
+fn put_elements<W: Sink>(model: &Model, j: usize, output: &mut Output<W>)
+    requires { j < num_columns model.now }
+    ensures { Prints line_text W.Sink output.old output.new (lines_of_elements model.now (column_name model.now j)) }
+{
+    if model.column_len(j) <= FEW {
+        put_few_elements(model, j, output);
+    } else {
+        put_many_elements(model, j, output);
     }
 }
 

@@ -10,6 +10,7 @@ use mpslp_model::Sink;
 use mpslp_output::Output;
 
 /// Prints a field after another one.
+#[inline(always)]
 fn put_field<W: Sink>(output: &mut Output<W>, field: &[u8])
     ensures { Puts W.Sink output.old output.new (codes "  " ++ field.now) }
 {
@@ -18,6 +19,7 @@ fn put_field<W: Sink>(output: &mut Output<W>, field: &[u8])
 }
 
 /// Prints a number as the last field, and ends the line.
+#[inline(always)]
 fn put_last_number<W: Sink>(output: &mut Output<W>, value: Decimal)
     ensures { Puts W.Sink output.old output.new ((codes "  " ++ number_text value) ++ 10 ∷ []) }
 {
@@ -38,6 +40,7 @@ pub(crate) fn put_short_line<W: Sink>(output: &mut Output<W>, first: &[u8], seco
 }
 
 /// Prints the line of two names and a number after four spaces.
+#[inline(always)]
 pub(crate) fn put_value_line<W: Sink>(
     output: &mut Output<W>,
     first: &[u8],

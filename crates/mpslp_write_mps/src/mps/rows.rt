@@ -45,7 +45,7 @@ fn put_rows<W: Sink>(model: &Model, output: &mut Output<W>)
 }
 
 /// Prints the section ROWS: the objective, and then the rows.
-pub(crate) fn put_rows_section<W: Sink>(model: &Model, output: &mut Output<W>)
+pub(crate) fn put_mps_rows_section<W: Sink>(model: &Model, output: &mut Output<W>)
     ensures { PrintsSection line_text W.Sink output.old output.new (rows_section (listing_of model.now)) }
 {
     output.put(b"ROWS\n");

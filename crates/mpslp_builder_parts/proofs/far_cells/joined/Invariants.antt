@@ -1,4 +1,4 @@
-use Rattle.std.proofs.Common.{◌≡◌, ◌++◌}
+use Rattle.std.proofs.Common.{◌++◌, ◌≡◌}
 use Rattle.mpslp_builder_parts.proofs.far_cells.joined.Given as goal
 
 abbrev pub invariant-loop-cell : goal.invariant-loop-cell

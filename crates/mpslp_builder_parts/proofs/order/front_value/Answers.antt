@@ -1,9 +1,10 @@
-use Rattle.std.proofs.Common.{◌<◌, ◌^◌, subst, sym, arith, ℕ}
-use Rattle.mpslp_builder_parts.proofs.FrontLemmas.{front-fits}
+use Rattle.std.proofs.Common.{arith, ◌∙◌}
+use Rattle.mpslp_builder_parts.proofs.FirstBytes.{front-same, be-front}
 use Rattle.mpslp_builder_parts.proofs.order.front_value.Goals as goal
 
-pub with_byte-bytes-requires : goal.with_byte-bytes-requires
-with_byte-bytes-requires c = subst (λ (n : ℕ). n < 2 ^ 120) (sym c.loop-at.invariant) (front-fits c.loop-at.at c.args.name.now (λ i. omega (arith, c.type_inv.name i)) c.loop-at-test.true)
+pub returns-clause-value : goal.returns-clause-value
+returns-clause-value c =
+    c.from_be_bytes.ensures ∙ be-front c.first_bytes.result ∙ front-same 16 c.first_bytes.result c.args.name.now c.first_bytes.ensures
 
 pub returns-clause-bytes : goal.returns-clause-bytes
 returns-clause-bytes c = λ i. omega (arith, c.type_inv.name i)

@@ -1,7 +1,5 @@
-use Rattle.std.proofs.Common.{◌≡◌, ◌<◌, ℕ, map}
-use Rattle.std.specs.Prelude.{slice_index}
-use Rattle.std.specs.List.{range_with_len}
-use Rattle.mpslp_builder_parts.specs.Ordered.{name_at, front_at}
+use Rattle.std.{proofs.Common.{map, ℕ, ◌<◌, ◌≡◌}, specs.{List.range_with_len, Prelude.slice_index}}
+use Rattle.mpslp_builder_parts.specs.Ordered.{front_at, name_at}
 use Rattle.mpslp_builder_parts.proofs.order.fronts_of.Given as goal
 
 abbrev pub invariant-loop-number : goal.invariant-loop-number

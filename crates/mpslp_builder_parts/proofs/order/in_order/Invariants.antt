@@ -1,4 +1,4 @@
-use Rattle.mpslp_builder_parts.proofs.PlaceLemmas.{AreMoved}
+use Rattle.mpslp_builder_parts.proofs.OrderLemmas.{AreMoved}
 use Rattle.mpslp_builder_parts.proofs.order.in_order.Given as goal
 
 abbrev pub invariant-loop-place : goal.invariant-loop-place

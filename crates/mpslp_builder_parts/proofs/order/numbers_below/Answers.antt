@@ -1,5 +1,4 @@
-use Rattle.std.proofs.Common.{refl, arith}
-use Rattle.std.proofs.lemmas.Iterator.{items_from_collect, YieldsList-from_range}
+use Rattle.std.proofs.{Common.{arith, refl}, lemmas.Iterator.{YieldsList-from_range, items_from_collect}}
 use Rattle.mpslp_builder_parts.proofs.order.numbers_below.Goals as goal
 
 pub returns : goal.returns

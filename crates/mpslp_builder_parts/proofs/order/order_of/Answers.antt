@@ -1,11 +1,8 @@
-use Rattle.std.proofs.Common.{sym, ap, subst, ◌∙◌, List, length, map, IsPermutation}
+use Rattle.std.{proofs.Common.{IsPermutation, List, ap, length, map, subst, sym, ◌∙◌}, specs.List.{range_with_len, Sorted.IsSortedBy}}
 use Rattle.std.specs.Ordering.{is_lt}
-use Rattle.std.specs.List.{range_with_len}
-use Rattle.std.specs.List.Sorted.{IsSortedBy}
 use Rattle.mpslp_types.specs.Name.{bytes_cmp}
-use Rattle.mpslp_builder_parts.specs.Ordered.{name_at}
-use Rattle.mpslp_builder_parts.specs.declared.order.Front.{Front}
-use Rattle.mpslp_builder_parts.proofs.OrderLemmas.{if_ok, have_bytes, sorted_numbers, numbers-permutation, own-fronts}
+use Rattle.mpslp_builder_parts.proofs.OrderLemmas.{have_bytes, if_ok, numbers-permutation, own-fronts, sorted_numbers}
+use Rattle.mpslp_builder_parts.specs.{Ordered.name_at, declared.order.Front.Front}
 use Rattle.mpslp_builder_parts.proofs.order.order_of.Goals as goal
 
 pub returns-clause-permutation : goal.returns-clause-permutation
@@ -13,7 +10,8 @@ returns-clause-permutation g c =
     let all = range_with_len 0 (length c.args.entries.now) in
     if_ok c.numbers_of.result
     (λ order is. subst (IsPermutation all) (sym (is ∙ ap (λ (fs : List Front). map (λ f. f.number) fs) c.deref.ensures.value))
-    (numbers-permutation c.args.entries.now all c.in_ok-fronts_of.field-0.items c.sort_fronts-fronts.result.items c.in_ok-fronts_of.ensures.fronts c.sort_fronts-fronts.ensures.permutation))
+    (numbers-permutation c.args.entries.now all c.in_ok-fronts_of.field-0.items c.sort_fronts-fronts.result.items
+    c.in_ok-fronts_of.ensures.fronts c.sort_fronts-fronts.ensures.permutation))
     c.numbers_of.ensures
 
 pub returns-clause-sorted : goal.returns-clause-sorted
@@ -21,7 +19,9 @@ returns-clause-sorted g c =
     let entries = c.args.entries.now in
     let fronts = c.sort_fronts-fronts.result.items in
     if_ok c.numbers_of.result
-    (λ order is. subst (IsSortedBy (λ n m. is_lt (bytes_cmp (name_at entries n) (name_at entries m)))) (sym (is ∙ ap (λ (fs : List Front). map (λ f. f.number) fs) c.deref.ensures.value))
+    (λ order is. subst (IsSortedBy (λ n m. is_lt (bytes_cmp (name_at entries n) (name_at entries m))))
+    (sym (is ∙ ap (λ (fs : List Front). map (λ f. f.number) fs) c.deref.ensures.value))
     (sorted_numbers entries (have_bytes entries c.in_ok-fronts_of.ensures.bytes) fronts
-    (own-fronts entries (range_with_len 0 (length entries)) c.in_ok-fronts_of.field-0.items fronts c.in_ok-fronts_of.ensures.fronts c.sort_fronts-fronts.ensures.permutation) c.sort_fronts-fronts.ensures.sorted))
+    (own-fronts entries (range_with_len 0 (length entries)) c.in_ok-fronts_of.field-0.items fronts c.in_ok-fronts_of.ensures.fronts
+    c.sort_fronts-fronts.ensures.permutation) c.sort_fronts-fronts.ensures.sorted))
     c.numbers_of.ensures

@@ -1,4 +1,4 @@
-use Rattle.std.proofs.Common.{◌≡◌, ℕ, ◌+◌, ◌<◌, length, get_or}
+use Rattle.std.proofs.Common.{get_or, length, ℕ, ◌+◌, ◌<◌, ◌≡◌}
 use Rattle.mpslp_builder_parts.proofs.ranks.ranks_of.Given as goal
 
 abbrev pub invariant-loop-place : goal.invariant-loop-place

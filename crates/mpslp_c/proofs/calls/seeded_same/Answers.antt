@@ -8,5 +8,5 @@ returns c = let one = c.in-Some.first_file_format in let other = c.in-Some-forma
     let first_known : format_of c.args.first_format ≡ Some one = sym c.format_of.ensures ∙ c.in-Some.is in
     let second_known : format_of c.args.second_format ≡ Some other = sym c.format_of-2.ensures ∙ c.in-Some-format_of.is in
     rw (first_known, second_known) (compared (declares_in one) (first_fault_in one) (declares_in other) (first_fault_in other)
-    c.args.first.now c.args.second.now c.same_in.result c.give_truth.result _ _ c.same_in.ensures.answer c.same_in.ensures.accepts
-    c.same_in.ensures.refuses c.same_in.ensures.refuses_second c.give_truth.ensures)
+    c.args.first.now c.args.second.now c.same_for_c.result c.give_truth.result _ _ c.same_for_c.ensures.answer c.same_for_c.ensures.accepts
+    c.same_for_c.ensures.refuses c.same_for_c.ensures.refuses_second c.give_truth.ensures)

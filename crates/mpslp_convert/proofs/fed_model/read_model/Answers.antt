@@ -1,30 +1,13 @@
-use Rattle.std.proofs.Common.{◌≡◌, ◌<◌, ◌≤◌, ◌+◌, ◌++◌, ◌∙◌, ℕ, List, subst, sym, length, take, drop, arith, length-append, length-take, length-drop, length-take-le}
-use Rattle.std.proofs.lemmas.List.{take-append-le}
-use Rattle.mpslp_convert.specs.Feeding.{IsFedOn}
-use Rattle.std.proofs.KnownBytes.{Consumes-trans}
-use Rattle.mpslp_convert.proofs.LoadLemmas.{TakesAtMost-more}
-use Rattle.mpslp_convert.proofs.FeedingLemmas.{reading-of, gave-all, on-ok}
+use Rattle.std.proofs.Common.{rules, ◌≤◌, ◌+◌, ◌++◌, ◌∙◌, ℕ, List, subst, sym, take, drop, arith, length-append, length-take, length-drop}
+use Rattle.std.proofs.{Common.{length-take-le}, lemmas.List.{take-append-le}, KnownBytes.{Consumes-trans}}
+use Rattle.mpslp_convert.{specs.Feeding.{IsFedOn}, proofs.{LoadLemmas.{TakesAtMost-more}, FeedingLemmas.{reading-of, gave-all, on-ok}}}
 use Rattle.mpslp_convert.proofs.fed_model.read_model.Goals as goal
 
 pub returns-in-Ok-eq0-clause-answer : goal.returns-in-Ok-eq0-clause-answer
-returns-in-Ok-eq0-clause-answer g c =
-    let before = c.reads.invariant.feeding in
-    let given = c.in-Ok-eq0.ensures in
-    let source = g.A.Format in
-    let reader = g.A.Reader.ModelReader in
-    let asked = length-take c.bytes_to_ask-ask.result c.reads.buffer in
-    let full = c.reads.invariant.full in
-    let none : c.in-Ok-eq0.field-0 ≡ 0 = c.in-Ok-eq0.field-0-test in
-    let room : 0 < length c.read.new.buffer = omega (arith, c.read.auto.buffer, c.bytes_to_ask-ask.ensures) in
-    let gave = gave-all _ _ _ (g.R.Source.failed c.read.new.self) c.reads.room c.args.max_bytes c.in-Ok-eq0.field-0 before.bytes c.read.new.buffer before.taken before.counted
-    (λ failed. let bad = given.fails.1 failed in cc) none given.bytes.0 (given.bytes.1 none room) in
-    reading-of reader.declares source.declares reader.first_fault source.first_fault _ _ _ _ before.bytes c.finish_fed.result
-    (g.met.A.Format.reader_declares before.bytes) (g.met.A.Format.reader_faults before.bytes) gave (c.finish_fed.ensures before.bytes before.fed)
+returns-in-Ok-eq0-clause-answer = search (rules, length-take, gave-all, reading-of)
 
 pub returns-in-Ok-eq0-clause-asked : goal.returns-in-Ok-eq0-clause-asked
-returns-in-Ok-eq0-clause-asked g c =
-    let before = c.reads.invariant.feeding in
-    TakesAtMost-more _ _ _ before.bytes _ _ before.taken c.in-Ok-eq0.ensures.bytes.0 (omega (arith, before.counted, c.in-Ok-eq0.field-0-test, length-take c.in-Ok-eq0.field-0 c.read.new.buffer))
+returns-in-Ok-eq0-clause-asked = search (rules, length-take)
 
 pub returns-then-taken-room-clause-asked : goal.returns-then-taken-room-clause-asked
 returns-then-taken-room-clause-asked g c =
@@ -32,13 +15,15 @@ returns-then-taken-room-clause-asked g c =
     let bound = c.in-Ok.ensures.bound in
     let asked = length-take c.bytes_to_ask-ask.result c.reads.buffer in
     let taken : c.in-Ok.taken ≤ c.reads.room + 1 = omega (arith, c.read.auto.buffer, c.bytes_to_ask-ask.ensures) in
-    TakesAtMost-more _ _ _ before.bytes _ _ before.taken c.in-Ok.ensures.bytes.0 (omega (arith, before.counted, bound, taken, length-take c.in-Ok.taken c.read.new.buffer))
+    TakesAtMost-more _ _ _ before.bytes _ _ before.taken c.in-Ok.ensures.bytes.0
+    (omega (arith, before.counted, bound, taken, length-take c.in-Ok.taken c.read.new.buffer))
 
 pub returns-then-is_err-clause-asked : goal.returns-then-is_err-clause-asked
 returns-then-is_err-clause-asked g c =
     let before = c.reads.invariant.feeding in
     let bound = c.in-Ok.ensures.bound in
-    TakesAtMost-more _ _ _ before.bytes _ _ before.taken c.in-Ok.ensures.bytes.0 (omega (arith, before.counted, bound, length-take c.in-Ok.taken c.read.new.buffer))
+    TakesAtMost-more _ _ _ before.bytes _ _ before.taken c.in-Ok.ensures.bytes.0
+    (omega (arith, before.counted, bound, length-take c.in-Ok.taken c.read.new.buffer))
 
 pub reads-preserved : goal.reads-preserved
 reads-preserved g c =
@@ -60,6 +45,7 @@ reads-preserved g c =
             (take-append-le c.in-Ok.taken c.read.new.buffer (drop c.bytes_to_ask-ask.result c.reads.buffer) given.bound)
             (on-ok c.feed_on.result _ (sym c.is_err.ensures.value ∙ c.if-is_err.false) c.feed_on.ensures feeding.bytes feeding.fed);
       };
-      full = omega (arith, length-append c.read.new.buffer (drop c.bytes_to_ask-ask.result c.reads.buffer), c.read.auto.buffer, asked, dropped, before.full);
+      full =
+          omega (arith, length-append c.read.new.buffer (drop c.bytes_to_ask-ask.result c.reads.buffer), c.read.auto.buffer, asked, dropped, before.full);
       stays = λ failed. given.stays (before.stays failed);
     }

@@ -1,6 +1,5 @@
 use Rattle.std.proofs.Common.{◌≡◌, true, length}
-use Rattle.mpslp_convert.specs.declared.source_to_sink.TheConstants.{PIECE}
-use Rattle.mpslp_convert.proofs.FeedingLemmas.{Feeding}
+use Rattle.mpslp_convert.{specs.declared.source_to_sink.TheConstants.{PIECE}, proofs.FeedingLemmas.{Feeding}}
 use Rattle.mpslp_convert.proofs.fed_model.read_model.Given as goal
 
 abbrev pub invariant-reads : goal.invariant-reads

@@ -1,5 +1,4 @@
-use Rattle.std.proofs.Common.{take}
-use Rattle.std.specs.List.{flat_map}
+use Rattle.std.{proofs.Common.{take}, specs.List.{flat_map}}
 use Rattle.mpslp_model_core.specs.Views.{column_name, numbered_elements}
 use Rattle.mpslp_output.specs.Printing.{Puts}
 use Rattle.mpslp_convert.specs.ShownText.{entry_text}

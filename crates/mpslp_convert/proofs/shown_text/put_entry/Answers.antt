@@ -1,6 +1,4 @@
-use Rattle.std.proofs.Common.{sym, ap, ℕ, []}
-use Rattle.std.specs.Prelude.{Option}
-use Rattle.std.specs.Option.{option_map_or}
+use Rattle.std.{proofs.Common.{sym, ap, ℕ, []}, specs.{Prelude.{Option}, Option.{option_map_or}}}
 use Rattle.mpslp_decimal.specs.Decimal.{Number}
 use Rattle.mpslp_output.proofs.OutputLemmas.{puts_then, puts_same}
 use Rattle.mpslp_convert.specs.ShownText.{entry_text}
@@ -9,4 +7,5 @@ use Rattle.mpslp_convert.proofs.shown_text.put_entry.Goals as goal
 pub returns : goal.returns
 returns g c =
     puts_same (ap (λ (o : Option (Option ℕ × Number)). option_map_or (entry_text c.args.j) o []) (sym c.entry-i.ensures))
-    (puts_then c.put.ensures (puts_then c.put_count.ensures (puts_then c.put_count-2.ensures (puts_then c.put_number.ensures c.put-2.ensures))))
+    (puts_then c.put.ensures
+    (puts_then c.put_shown_count.ensures (puts_then c.put_shown_count-2.ensures (puts_then c.put_shown_number.ensures c.put-2.ensures))))

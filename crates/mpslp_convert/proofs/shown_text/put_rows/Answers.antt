@@ -1,13 +1,11 @@
-use Rattle.std.proofs.Common.{rules, arith}
-use Rattle.std.specs.List.{enumerate_from}
-use Rattle.std.specs.FinMap.{entries}
+use Rattle.std.{proofs.Common.{rules, arith}, specs.{List.{enumerate_from}, FinMap.{entries}}}
 use Rattle.mpslp_output.proofs.EachLemmas.{puts_each}
-use Rattle.mpslp_convert.specs.ShownText.{row_text}
-use Rattle.mpslp_convert.proofs.ShownLemmas.{all-numbered}
+use Rattle.mpslp_convert.{specs.ShownText.{row_text}, proofs.ShownLemmas.{all-numbered}}
 use Rattle.mpslp_convert.proofs.shown_text.put_rows.Goals as goal
 
 pub returns : goal.returns
 returns g c =
     let rows = entries c.args.model.now.rows in
-    puts_each row_text (enumerate_from 0 rows) (λ n within. all-numbered row_text rows n (omega (arith, within))) (λ i within x y call. search rules)
+    puts_each row_text (enumerate_from 0 rows) (λ n within. all-numbered row_text rows n (omega (arith, within)))
+    (λ i within x y call. search rules)
     c.put_each.ensures

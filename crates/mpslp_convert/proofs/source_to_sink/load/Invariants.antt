@@ -1,5 +1,4 @@
-use Rattle.std.proofs.Common.{◌≡◌, ◌≤◌, ◌+◌, true, length}
-use Rattle.std.specs.Io.KnownBytes.{Consumes}
+use Rattle.std.{proofs.Common.{◌≡◌, ◌≤◌, ◌+◌, true, length}, specs.Io.KnownBytes.{Consumes}}
 use Rattle.mpslp_convert.specs.declared.source_to_sink.TheConstants.{PIECE}
 use Rattle.mpslp_convert.proofs.source_to_sink.load.Given as goal
 

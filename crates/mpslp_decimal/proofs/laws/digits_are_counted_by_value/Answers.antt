@@ -1,4 +1,4 @@
-use Rattle.mpslp_decimal.proofs.RefusedLiterals.{digits-by_value}
+use Rattle.mpslp_decimal.proofs.SpellsLemmas.{digits-by_value}
 use Rattle.mpslp_decimal.proofs.laws.digits_are_counted_by_value.Goals as goal
 
 pub returns : goal.returns

@@ -1,4 +1,4 @@
-use Rattle.mpslp_decimal.proofs.SpellsLemmas.{spells-from_number, number-from_spells}
+use Rattle.mpslp_decimal.proofs.SpellsLemmas.{number-from_spells, spells-from_number}
 use Rattle.mpslp_decimal.proofs.laws.literals_are_read_by_value.Goals as goal
 
 pub returns : goal.returns

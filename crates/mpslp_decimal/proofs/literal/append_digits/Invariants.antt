@@ -1,6 +1,5 @@
-use Rattle.std.proofs.Common.{◌≡◌, ◌+◌, ◌*◌, ◌^◌, take, drop}
-use Rattle.std.specs.List.{prefix_len}
-use Rattle.mpslp_decimal.specs.Literal.{is_digit, digits_sum}
+use Rattle.std.{proofs.Common.{drop, take, ◌*◌, ◌+◌, ◌^◌, ◌≡◌}, specs.List.prefix_len}
+use Rattle.mpslp_decimal.specs.Literal.{digits_sum, is_digit}
 use Rattle.mpslp_decimal.proofs.literal.append_digits.Given as goal
 
 -- the bytes so far are digits, and are appended

@@ -1,4 +1,4 @@
-use Rattle.std.proofs.Common.{◌≡◌, ◌*◌, ◌^◌, ◌<◌}
+use Rattle.std.proofs.Common.{◌*◌, ◌<◌, ◌^◌, ◌≡◌}
 use Rattle.mpslp_decimal.proofs.literal.long_followed_by.Given as goal
 
 -- the mantissa with this number of zeros appended

@@ -1,7 +1,5 @@
-use Rattle.std.proofs.Common.{◌≡◌, ℕ, ◌+◌, ◌*◌, ◌^◌, ◌≤◌, take, drop}
-use Rattle.std.specs.List.{prefix_len}
-use Rattle.mpslp_decimal.specs.Literal.{is_digit, digits_sum}
-use Rattle.mpslp_decimal.specs.Scan.{IsSignificandOf, zeros_of}
+use Rattle.std.{proofs.Common.{drop, take, ℕ, ◌*◌, ◌+◌, ◌^◌, ◌≡◌, ◌≤◌}, specs.List.prefix_len}
+use Rattle.mpslp_decimal.specs.{Literal.{digits_sum, is_digit}, Scan.{IsSignificandOf, zeros_of}}
 use Rattle.mpslp_decimal.proofs.literal.scan_digits.Given as goal
 
 -- the bytes so far are digits, and are read

@@ -1,7 +1,5 @@
-use Rattle.std.proofs.Common.{◌≡◌, true, take}
-use Rattle.std.specs.Prelude.{min}
-use Rattle.std.specs.List.{list_all}
-use Rattle.mpslp_decimal.specs.Literal.{is_digit, digits_sum}
+use Rattle.std.{proofs.Common.{take, true, ◌≡◌}, specs.{List.list_all, Prelude.min}}
+use Rattle.mpslp_decimal.specs.Literal.{digits_sum, is_digit}
 use Rattle.mpslp_decimal.proofs.literal.scan_exponent.Given as goal
 
 -- the digits so far

@@ -1,5 +1,5 @@
-use Rattle.std.proofs.Common.{◌<◌, ◌^◌, arith}
-use Rattle.mpslp_decimal.proofs.SignificandLemmas.{zero-after, digit-after, one-more-zero}
+use Rattle.std.proofs.Common.{arith, ◌<◌, ◌^◌}
+use Rattle.mpslp_decimal.proofs.SpellsLemmas.{digit-after, one-more-zero, zero-after}
 use Rattle.mpslp_decimal.proofs.literal.short_followed_by.Goals as goal
 
 pub returns-then-digit-eq0-clause-value : goal.returns-then-digit-eq0-clause-value
@@ -8,8 +8,8 @@ returns-then-digit-eq0-clause-value c = λ n is. (zero-after n c.args.mantissa c
 pub returns-clause-value : goal.returns-clause-value
 returns-clause-value c = λ n is.
     let small : c.loop-place.shifted < 10 ^ 18 = c.loop-place.invariant.small (omega arith) in
-    digit-after n c.args.mantissa c.args.zeros c.loop-place._place c.loop-place.shifted c.args.digit c.from-2.result is.0 c.loop-place.invariant.value
-    (omega arith) (omega (arith, small)) c.from-2.ensures (omega arith) c.requires.digit
+    digit-after n c.args.mantissa c.args.zeros c.loop-place._place c.loop-place.shifted c.args.digit c.from-2.result is.0
+    c.loop-place.invariant.value (omega arith) (omega (arith, small)) c.from-2.ensures (omega arith) c.requires.digit
 
 pub loop-place-preserved : goal.loop-place-preserved
 loop-place-preserved c = record {

@@ -1,4 +1,4 @@
-use Rattle.std.proofs.Common.{◌≡◌, ◌*◌, ◌^◌, ◌<◌}
+use Rattle.std.proofs.Common.{◌*◌, ◌<◌, ◌^◌, ◌≡◌}
 use Rattle.mpslp_decimal.proofs.literal.significand_of.Given as goal
 
 -- the number without this number of trailing zeros

@@ -1,6 +1,5 @@
-use Rattle.std.proofs.Common.{◌≡◌, ap, ◌∙◌, rules, to_z, of_z, w32}
-use Rattle.std.specs.Prelude.{ℤ, pos, ◌-ℤ◌}
-use Rattle.mpslp_decimal.proofs.InfinityLemmas.{infinite-large, infinite-small, infinite-between, power-small}
+use Rattle.std.{proofs.Common.{ap, of_z, rules, to_z, w32, ◌∙◌, ◌≡◌}, specs.Prelude.{pos, ℤ, ◌-ℤ◌}}
+use Rattle.mpslp_decimal.proofs.SumLemmas.{infinite-between, infinite-large, infinite-small, power-small}
 use Rattle.mpslp_decimal.proofs.number.reaches_infinity.Goals as goal
 
 pub returns-then-exponent-ge-INFINITE_EXPONENT : goal.returns-then-exponent-ge-INFINITE_EXPONENT
@@ -12,11 +11,14 @@ returns-then-exponent c = infinite-small c.args.units c.args.exponent c.requires
 pub power_of_ten-requires : goal.power_of_ten-requires
 power_of_ten-requires c =
     let passed : to_z w32 (of_z w32 c.args.exponent) ≡ c.args.exponent = search rules in
-    let places : to_z w32 (of_z w32 (pos 20 -ℤ to_z w32 (of_z w32 c.args.exponent))) ≡ pos 20 -ℤ to_z w32 (of_z w32 c.args.exponent) = search rules in
+    let places : to_z w32 (of_z w32 (pos 20 -ℤ to_z w32 (of_z w32 c.args.exponent))) ≡ pos 20 -ℤ to_z w32 (of_z w32 c.args.exponent) =
+    search rules in
     power-small _ c.args.exponent (places ∙ ap (λ (e : ℤ). pos 20 -ℤ e) passed) (search rules) (search rules)
 
 pub returns : goal.returns
 returns c =
     let passed : to_z w32 (of_z w32 c.args.exponent) ≡ c.args.exponent = search rules in
-    let places : to_z w32 (of_z w32 (pos 20 -ℤ to_z w32 (of_z w32 c.args.exponent))) ≡ pos 20 -ℤ to_z w32 (of_z w32 c.args.exponent) = search rules in
-    infinite-between c.args.units c.args.exponent _ c.power_of_ten.result c.power_of_ten.ensures (places ∙ ap (λ (e : ℤ). pos 20 -ℤ e) passed) (search rules) (search rules)
+    let places : to_z w32 (of_z w32 (pos 20 -ℤ to_z w32 (of_z w32 c.args.exponent))) ≡ pos 20 -ℤ to_z w32 (of_z w32 c.args.exponent) =
+    search rules in
+    infinite-between c.args.units c.args.exponent _ c.power_of_ten.result c.power_of_ten.ensures (places
+    ∙ ap (λ (e : ℤ). pos 20 -ℤ e) passed) (search rules) (search rules)

@@ -1,4 +1,4 @@
-use Rattle.std.proofs.Common.{◌+◌, ◌-◌, ◌≤◌, length}
+use Rattle.std.proofs.Common.{length, ◌-◌, ◌≤◌}
 use Rattle.mpslp_lines.specs.LegalLanes.{AreLegal}
 use Rattle.mpslp_lines.proofs.legal_line.are_legal_by_lanes.Given as goal
 

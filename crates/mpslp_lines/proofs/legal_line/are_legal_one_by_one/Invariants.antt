@@ -1,5 +1,4 @@
-use Rattle.std.proofs.Common.{◌≡◌, take}
-use Rattle.std.specs.List.{list_all}
+use Rattle.std.{proofs.Common.{take, ◌≡◌}, specs.List.list_all}
 use Rattle.mpslp_lines.specs.FaultTests.{is_legal_byte}
 use Rattle.mpslp_lines.proofs.legal_line.are_legal_one_by_one.Given as goal
 

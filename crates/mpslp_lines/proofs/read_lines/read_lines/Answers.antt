@@ -1,7 +1,6 @@
-use Rattle.std.proofs.Common.{◌≡◌, sym, ◌∙◌}
-use Rattle.std.specs.Str.Lines.{lines}
-use Rattle.mpslp_lines.proofs.LineLemmas.{bstr-lines}
-use Rattle.mpslp_lines.proofs.ReadLinesLemmas.{passed-none, passed-line, passed-end, passed-all, passed-reader, ends-refused}
+use Rattle.std.{proofs.Common.{sym, ◌∙◌, ◌≡◌}, specs.Str.Lines.lines}
+use Rattle.mpslp_lines.proofs.{LineLemmas.bstr-lines, PieceLemmas.{ends-refused, passed-all, passed-end, passed-line, passed-none}}
+use Rattle.mpslp_lines.proofs.PieceLemmas.{passed-reader}
 use Rattle.mpslp_lines.proofs.read_lines.read_lines.Goals as goal
 
 pub loop-line-init : goal.loop-line-init
@@ -18,23 +17,28 @@ loop-line-init g c =
 pub read_line-requires-clause-reader : goal.read_line-requires-clause-reader
 read_line-requires-clause-reader g c =
     let before = c.loop-line in
-    passed-reader g.L.ReadLines.has_read c.args.reader.now before.reader (lines c.args.part.now) before.line-iterator before.invariant.passed c.requires.reader
+    passed-reader g.L.ReadLines.has_read c.args.reader.now before.reader (lines c.args.part.now) before.line-iterator
+    before.invariant.passed c.requires.reader
 
 pub returns-in_err-read_line : goal.returns-in_err-read_line
 returns-in_err-read_line g c =
     let r = g.L.ReadLines in
     let before = c.loop-line in
-    ends-refused r.has_read r.lines_fault g.met.L.ReadLines.fault_stays c.args.reader.now before.reader c.read_line.new.self (lines c.args.part.now) before.line-iterator c.next.new.self
-    c.in-Some.line.now c.in_err-read_line.field-0.0 c.from_residual.result c.from_residual.ensures.1 before.invariant.passed c.in-Some.ensures.steps c.in_err-read_line.ensures
+    ends-refused r.has_read r.lines_fault g.met.L.ReadLines.fault_stays c.args.reader.now before.reader c.read_line.new.self
+    (lines c.args.part.now) before.line-iterator c.next.new.self
+    c.in-Some.line.now c.in_err-read_line.field-0.0 c.from_residual.result c.from_residual.ensures.1 before.invariant.passed
+    c.in-Some.ensures.steps c.in_err-read_line.ensures
 
 pub returns-then-is_at_end : goal.returns-then-is_at_end
 returns-then-is_at_end g c =
     let r = g.L.ReadLines in
     let before = c.loop-line in
     let all = lines c.args.part.now in
-    let read = passed-line r.has_read r.lines_fault c.args.reader.now before.reader c.read_line.new.self all before.line-iterator c.next.new.self c.in-Some.line.now
+    let read = passed-line r.has_read r.lines_fault c.args.reader.now before.reader c.read_line.new.self all before.line-iterator
+    c.next.new.self c.in-Some.line.now
     before.invariant.passed c.in-Some.ensures.steps c.in_ok-read_line.ensures in
-    passed-end r.has_read r.at_end g.met.L.ReadLines.after_end c.args.reader.now c.read_line.new.self all c.next.new.self read (sym c.is_at_end.ensures ∙ c.if-is_at_end.true)
+    passed-end r.has_read r.at_end g.met.L.ReadLines.after_end c.args.reader.now c.read_line.new.self all c.next.new.self read
+    (sym c.is_at_end.ensures ∙ c.if-is_at_end.true)
 
 pub loop-line-preserved : goal.loop-line-preserved
 loop-line-preserved g c =
@@ -44,7 +48,8 @@ loop-line-preserved g c =
       next = tt;
       finite = tt;
       unended = sym c.is_at_end.ensures ∙ c.if-is_at_end.false;
-      passed = passed-line r.has_read r.lines_fault c.args.reader.now before.reader c.read_line.new.self (lines c.args.part.now) before.line-iterator c.next.new.self c.in-Some.line.now
+      passed = passed-line r.has_read r.lines_fault c.args.reader.now before.reader c.read_line.new.self (lines c.args.part.now)
+          before.line-iterator c.next.new.self c.in-Some.line.now
           before.invariant.passed c.in-Some.ensures.steps c.in_ok-read_line.ensures;
     }
 
@@ -52,4 +57,5 @@ pub returns : goal.returns
 returns g c =
     let r = g.L.ReadLines in
     let before = c.loop-line in
-    passed-all r.has_read r.lines_fault c.args.reader.now before.reader (lines c.args.part.now) before.line-iterator before.invariant.passed c.in-None.ensures.steps.0
+    passed-all r.has_read r.lines_fault c.args.reader.now before.reader (lines c.args.part.now) before.line-iterator before.invariant.passed
+    c.in-None.ensures.steps.0

@@ -1,6 +1,5 @@
-use Rattle.std.proofs.Common.{◌≡◌, false}
-use Rattle.std.specs.Str.Lines.{lines}
-use Rattle.mpslp_lines.proofs.ReadLinesLemmas.{Passed}
+use Rattle.std.{proofs.Common.{false, ◌≡◌}, specs.Str.Lines.lines}
+use Rattle.mpslp_lines.proofs.PieceLemmas.{Passed}
 use Rattle.mpslp_lines.proofs.read_lines.read_lines.Given as goal
 
 -- the lines before those that are left were read

@@ -1,5 +1,4 @@
-use Rattle.mpslp_lp.proofs.Prelude
-use Prelude.{sym, subst, refl, Ok, Err, terminal_with_text, InBounds, Between, BoundName, Begins, TakesSome}
+use Rattle.mpslp_lp.proofs.Prelude.{sym, subst, refl, Ok, Err, terminal_with_text, InBounds, Between, BoundName, Begins, TakesSome}
 use Rattle.mpslp_lp.proofs.PlainPhrases.{phrase-goes, phrase-refused, free-last, some-after-one}
 use Rattle.mpslp_lp.proofs.plain_bounds.take_after_column.Goals as goal
 

@@ -1,6 +1,5 @@
-use Rattle.mpslp_lp.proofs.Prelude
-use Prelude.{sym, subst, [], ◌∷◌, Some, Ok, Err, declare_column, limits_by, take_bound, TakesToken, InBounds, Between, TakesSome}
-use Rattle.mpslp_lp.proofs.PlainPhrases.{phrase-goes, phrase-refused, left-last, some-after}
+use Rattle.mpslp_lp.proofs.Prelude.{sym, subst, [], ◌∷◌, Some, Ok, Err, declare_column, limits_by, take_bound, TakesToken, InBounds}
+use Rattle.mpslp_lp.proofs.{Prelude.{Between, TakesSome}, PlainPhrases.{phrase-goes, phrase-refused, left-last, some-after}}
 use Rattle.mpslp_lp.proofs.plain_bounds.take_after_limit.Goals as goal
 
 pub returns-in-Ok : goal.returns-in-Ok

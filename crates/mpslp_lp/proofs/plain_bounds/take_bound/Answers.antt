@@ -1,5 +1,4 @@
-use Rattle.mpslp_lp.proofs.Prelude
-use Prelude.{subst, terminal_with_text, terminal_of_token, Begins}
+use Rattle.mpslp_lp.proofs.Prelude.{subst, terminal_with_text, terminal_of_token, Begins}
 use Rattle.mpslp_lp.proofs.plain_bounds.take_bound.Goals as goal
 
 pub returns-in-Name : goal.returns-in-Name

@@ -1,6 +1,5 @@
-use Rattle.mpslp_lp.proofs.Prelude
-use Prelude.{sym, subst, None, Ok, InBounds, SideOfBound, TakesSome}
-use Rattle.mpslp_lp.proofs.PlainPhrases.{phrase-goes, phrase-refused, right-last}
+use Rattle.mpslp_lp.proofs.{Prelude.{sym, subst, None, Ok, InBounds, SideOfBound, TakesSome}, PlainPhrases.{phrase-goes, phrase-refused}}
+use Rattle.mpslp_lp.proofs.PlainPhrases.{right-last}
 use Rattle.mpslp_lp.proofs.plain_bounds.take_right_side.Goals as goal
 
 pub returns-in-Ok : goal.returns-in-Ok

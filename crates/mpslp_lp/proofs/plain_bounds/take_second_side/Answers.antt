@@ -1,6 +1,4 @@
-use Rattle.mpslp_lp.proofs.Prelude
-use Prelude.{subst, ap, ◌∙◌, arith, Some, InBounds, Between, take_tokens, TakesSome}
-use Rattle.mpslp_lp.proofs.PlainPhrases.{bound-compared}
+use Rattle.mpslp_lp.proofs.{Prelude.{subst, ap, ◌∙◌, arith, Some, InBounds, Between, take_tokens, TakesSome}, PlainPhrases.{bound-compared}}
 use Rattle.mpslp_lp.proofs.plain_bounds.take_second_side.Goals as goal
 
 pub returns-in-Some : goal.returns-in-Some

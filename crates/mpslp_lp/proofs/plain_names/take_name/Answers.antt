@@ -1,6 +1,4 @@
-use Rattle.mpslp_lp.proofs.Prelude
-use Prelude.{listed_at, Between}
-use Rattle.mpslp_lp.proofs.PlainPhrases.{phrase-goes, phrase-refused, name-last}
+use Rattle.mpslp_lp.proofs.{Prelude.{listed_at, Between}, PlainPhrases.{phrase-goes, phrase-refused, name-last}}
 use Rattle.mpslp_lp.proofs.plain_names.take_name.Goals as goal
 
 pub returns-in-Ok : goal.returns-in-Ok

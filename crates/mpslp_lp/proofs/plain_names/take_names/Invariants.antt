@@ -1,5 +1,4 @@
-use Rattle.mpslp_lp.proofs.Prelude
-use Prelude.{◌≡◌, ◌≤◌, length, take_tokens, listed_at, Between}
+use Rattle.mpslp_lp.proofs.Prelude.{◌≡◌, ◌≤◌, length, take_tokens, listed_at, Between}
 use Rattle.mpslp_lp.proofs.plain_names.take_names.Given as goal
 
 -- the result depends on the tokens that are left

@@ -1,6 +1,4 @@
-use Rattle.mpslp_lp.proofs.Prelude
-use Prelude.{sym, ap, ◌∙◌, Goes}
-use Rattle.mpslp_lp.proofs.PlainPhrases.{name_of, context_of}
+use Rattle.mpslp_lp.proofs.{Prelude.{sym, ap, ◌∙◌, Goes}, PlainPhrases.{name_of, context_of}}
 use Rattle.mpslp_lp.proofs.plain_row_starts.default_name.Goals as goal
 
 pub returns-in-Ok-RowSign : goal.returns-in-Ok-RowSign

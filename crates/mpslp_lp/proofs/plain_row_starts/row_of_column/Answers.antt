@@ -1,6 +1,4 @@
-use Rattle.mpslp_lp.proofs.Prelude
-use Prelude.{◌≡◌, ◌∙◌, subst, ap, MatchResult, OutOfMemory, one, row_of_term}
-use Rattle.mpslp_lp.proofs.PlainPhrases.{row-and-context}
+use Rattle.mpslp_lp.proofs.{Prelude.{◌≡◌, ◌∙◌, subst, ap, MatchResult, OutOfMemory, one, row_of_term}, PlainPhrases.{row-and-context}}
 use Rattle.mpslp_lp.proofs.plain_row_starts.row_of_column.Goals as goal
 
 pub returns : goal.returns

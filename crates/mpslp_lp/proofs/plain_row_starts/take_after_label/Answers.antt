@@ -1,5 +1,4 @@
-use Rattle.mpslp_lp.proofs.Prelude
-use Prelude.{ap, ◌∙◌, subst, arith, RowLabel, take_tokens, TakesSome}
+use Rattle.mpslp_lp.proofs.Prelude.{ap, ◌∙◌, subst, arith, RowLabel, take_tokens, TakesSome}
 use Rattle.mpslp_lp.proofs.plain_row_starts.take_after_label.Goals as goal
 
 pub returns-in-Some : goal.returns-in-Some

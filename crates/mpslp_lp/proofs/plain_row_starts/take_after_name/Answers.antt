@@ -1,5 +1,4 @@
-use Rattle.mpslp_lp.proofs.Prelude
-use Prelude.{sym, subst, refl, Sign, terminal_of_token, terminal_with_text, Begins, TakesSome}
+use Rattle.mpslp_lp.proofs.Prelude.{sym, subst, refl, Sign, terminal_of_token, terminal_with_text, Begins, TakesSome}
 use Rattle.mpslp_lp.proofs.PlainPhrases.{label-taken, some-after, some-after-one}
 use Rattle.mpslp_lp.proofs.plain_row_starts.take_after_name.Goals as goal
 

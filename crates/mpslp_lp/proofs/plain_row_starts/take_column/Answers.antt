@@ -1,5 +1,4 @@
-use Rattle.mpslp_lp.proofs.Prelude
-use Prelude.{sym, ap, ◌∙◌, arith, one, default_row, InRow, Between, take_tokens, row_of_term}
+use Rattle.mpslp_lp.proofs.Prelude.{sym, ap, ◌∙◌, arith, one, default_row, InRow, Between, take_tokens, row_of_term}
 use Rattle.mpslp_lp.proofs.PlainPhrases.{same-first}
 use Rattle.mpslp_lp.proofs.plain_row_starts.take_column.Goals as goal
 

@@ -1,6 +1,4 @@
-use Rattle.mpslp_lp.proofs.Prelude
-use Prelude.{rules, ◌≡◌, ◌∙◌, ap, InRow, Between, take_tokens, row_of_term}
-use Rattle.mpslp_lp.proofs.PlainPhrases.{first-taken}
+use Rattle.mpslp_lp.proofs.{Prelude.{rules, ◌≡◌, ◌∙◌, ap, InRow, Between, take_tokens, row_of_term}, PlainPhrases.{first-taken}}
 use Rattle.mpslp_lp.proofs.plain_row_starts.take_first_term.Goals as goal
 
 pub returns : goal.returns

@@ -1,6 +1,5 @@
-use Rattle.mpslp_lp.proofs.Prelude
-use Prelude.{sym, subst, refl, IsTrue, one, default_row, fits_left, BetweenRows, InRow, Between, RowName, TakesSome, row_of_term}
-use Rattle.mpslp_lp.proofs.PlainPhrases.{same-first, same-start}
+use Rattle.mpslp_lp.proofs.Prelude.{sym, subst, refl, IsTrue, one, default_row, fits_left, BetweenRows, InRow, Between, RowName, TakesSome}
+use Rattle.mpslp_lp.proofs.{Prelude.{row_of_term}, PlainPhrases.{same-first, same-start}}
 use Rattle.mpslp_lp.proofs.plain_row_starts.take_row_of_column.Goals as goal
 
 -- a row without a left-hand side

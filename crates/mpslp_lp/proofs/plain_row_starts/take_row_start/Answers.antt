@@ -1,6 +1,5 @@
-use Rattle.mpslp_lp.proofs.Prelude
-use Prelude.{◌≡◌, sym, subst, refl, inl, inr, default_row, terminal_of_token, terminal_with_text, take, TerminalKind, BetweenRows, Between}
-use Prelude.{RowLabel, Begins}
+use Rattle.mpslp_lp.proofs.Prelude.{◌≡◌, sym, subst, refl, inl, inr, default_row, terminal_of_token, terminal_with_text, take, TerminalKind}
+use Rattle.mpslp_lp.proofs.Prelude.{BetweenRows, Between, RowLabel, Begins}
 use Rattle.mpslp_lp.proofs.plain_row_starts.take_row_start.Goals as goal
 
 pub returns-in-Name : goal.returns-in-Name

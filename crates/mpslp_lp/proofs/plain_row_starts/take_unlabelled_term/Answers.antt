@@ -1,6 +1,5 @@
-use Rattle.mpslp_lp.proofs.Prelude
-use Prelude.{sym, subst, default_row, BetweenRows, Between, RowLabel, TakesSome}
-use Rattle.mpslp_lp.proofs.PlainPhrases.{same-first, same-start}
+use Rattle.mpslp_lp.proofs.{Prelude.{sym, subst, default_row, BetweenRows, Between, RowLabel, TakesSome}, PlainPhrases.{same-first}}
+use Rattle.mpslp_lp.proofs.PlainPhrases.{same-start}
 use Rattle.mpslp_lp.proofs.plain_row_starts.take_unlabelled_term.Goals as goal
 
 pub returns : goal.returns

@@ -1,5 +1,4 @@
-use Rattle.mpslp_lp.proofs.Prelude
-use Prelude.{inl}
+use Rattle.mpslp_lp.proofs.Prelude.{inl}
 use Rattle.mpslp_lp.proofs.plain_row_starts.term_after.Goals as goal
 
 pub returns-in-Some-unsigned_from-clause-term : goal.returns-in-Some-unsigned_from-clause-term

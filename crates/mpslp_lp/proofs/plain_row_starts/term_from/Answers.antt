@@ -1,5 +1,4 @@
-use Rattle.mpslp_lp.proofs.Prelude
-use Prelude.{refl, subst, inr, Plus, terminal_with_text, Begins}
+use Rattle.mpslp_lp.proofs.Prelude.{refl, subst, inr, Plus, terminal_with_text, Begins}
 use Rattle.mpslp_lp.proofs.plain_row_starts.term_from.Goals as goal
 
 pub returns-in-Some-clause-term : goal.returns-in-Some-clause-term

@@ -1,6 +1,4 @@
-use Rattle.mpslp_lp.proofs.Prelude
-use Prelude.{BetweenRows, InRow, Between}
-use Rattle.mpslp_lp.proofs.PlainPhrases.{phrase-goes, phrase-refused, right-last, row-compared}
+use Rattle.mpslp_lp.proofs.{Prelude.{BetweenRows, InRow, Between}, PlainPhrases.{phrase-goes, phrase-refused, right-last, row-compared}}
 use Rattle.mpslp_lp.proofs.plain_rows.end_plain_row.Goals as goal
 
 pub returns-in-Ok : goal.returns-in-Ok

@@ -1,5 +1,4 @@
-use Rattle.mpslp_lp.proofs.Prelude
-use Prelude.{sym, subst, ap, ◌∙◌, BetweenRows, InRow, Between, TakesSome}
+use Rattle.mpslp_lp.proofs.Prelude.{sym, subst, ap, ◌∙◌, BetweenRows, InRow, Between, TakesSome}
 use Rattle.mpslp_lp.proofs.plain_rows.take_right_side.Goals as goal
 
 pub returns-then-fits_left : goal.returns-then-fits_left

@@ -1,8 +1,8 @@
-use Rattle.std.{proofs.Common.{rules, ◌≡◌, ◌≤◌, sym, ap, ◌∙◌, subst, arith, ℕ, List, length, inl, inr}, specs.Prelude.None}
-use Rattle.mpslp_lp_grammar.specs.declared.{signs.Sign.Sign, states.{Place.TheVariants.InRow, State.TheVariants.{Between, RowLabel}}}
+use Rattle.std.{proofs.Common.{rules, ◌≡◌, ◌≤◌, sym, ap, ◌∙◌, subst, arith, ℕ, List, length, inl, inr}, specs.Prelude.{None}}
+use Rattle.mpslp_lp_grammar.specs.declared.{signs.Sign.{Sign}, states.{Place.TheVariants.{InRow}, State.TheVariants.{Between, RowLabel}}}
 use Rattle.mpslp_lp_grammar.specs.Rows.{without_terms}
 use Rattle.mpslp_lp_tokens.specs.Token.{Token}
-use Rattle.mpslp_lp.specs.{PlainTerm.IsPlainTerm, LineByLine.take_tokens}
+use Rattle.mpslp_lp.specs.{PlainTerm.{IsPlainTerm}, LineByLine.{take_tokens}}
 use Rattle.mpslp_lp.proofs.plain_terms.take_first_terms.Goals as goal
 
 -- a term has tokens

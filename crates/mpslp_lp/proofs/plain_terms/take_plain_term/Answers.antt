@@ -1,8 +1,8 @@
 use Rattle.std.{proofs.Common.{◌∙◌, sym, subst, ap}, specs.Prelude.{Ok, Err, None}}
 use Rattle.mpslp_lines.specs.FaultTests.{value_of}
-use Rattle.mpslp_lp_grammar.specs.{AfterToken.take_term, Declares.{AddsTerm, TakesToken}, Rows.without_terms, Items.apply_sign}
-use Rattle.mpslp_lp_grammar.specs.{Terminal.Terminal.Name, declared.states.{ItemOwner.TheVariants.OfRow, Place.TheVariants.InRow}}
-use Rattle.mpslp_lp_grammar.{specs.declared.states.State.TheVariants.{Between, RowLabel}, proofs.NumberFaults.tested-number}
+use Rattle.mpslp_lp_grammar.specs.{AfterToken.{take_term}, Declares.{AddsTerm, TakesToken}, Rows.{without_terms}, Items.{apply_sign}}
+use Rattle.mpslp_lp_grammar.specs.{Terminal.Terminal.{Name}, declared.states.{ItemOwner.TheVariants.{OfRow}, Place.TheVariants.{InRow}}}
+use Rattle.mpslp_lp_grammar.{specs.declared.states.State.TheVariants.{Between, RowLabel}, proofs.NumberFaults.{tested-number}}
 use Rattle.mpslp_lp.specs.LineByLine.{take_tokens}
 use Rattle.mpslp_lp.proofs.PlainPhrases.{plain-goes, plain-refused, plain-number, in-row, after-label, row-taken, row-refused}
 use Rattle.mpslp_lp.proofs.plain_terms.take_plain_term.Goals as goal

@@ -1,5 +1,5 @@
 use Rattle.std.proofs.Common.{◌≡◌, ◌≤◌, length}
-use Rattle.mpslp_lp_grammar.specs.declared.states.{Place.TheVariants.InRow, State.TheVariants.Between}
+use Rattle.mpslp_lp_grammar.specs.declared.states.{Place.TheVariants.{InRow}, State.TheVariants.{Between}}
 use Rattle.mpslp_lp.specs.LineByLine.{take_tokens}
 use Rattle.mpslp_lp.proofs.plain_terms.take_plain_terms.Given as goal
 

@@ -1,6 +1,5 @@
-use Rattle.mpslp_lp.proofs.Prelude
-use Prelude.{sym, refl, subst, List, inl, inr, Option, Some, None, IfSome, Limit, Token, Plus, Terminal, terminal_with_text}
-use Prelude.{terminal_of_token, Begins, BeginsWithLimit, BeginsWithSide}
+use Rattle.mpslp_lp.proofs.Prelude.{sym, refl, subst, List, inl, inr, Option, Some, None, IfSome, Limit, Token, Plus, Terminal}
+use Rattle.mpslp_lp.proofs.Prelude.{terminal_with_text, terminal_of_token, Begins, BeginsWithLimit, BeginsWithSide}
 use Rattle.mpslp_lp_grammar.specs.declared.signs.Sign.{Sign}
 use Rattle.mpslp_lp.proofs.plain_tokens.limit_from.Goals as goal
 

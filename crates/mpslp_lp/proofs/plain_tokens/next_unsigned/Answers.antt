@@ -1,5 +1,4 @@
-use Rattle.mpslp_lp.proofs.Prelude
-use Prelude.{sym, terminal_of_token}
+use Rattle.mpslp_lp.proofs.Prelude.{sym, terminal_of_token}
 use Rattle.mpslp_lp.proofs.plain_tokens.next_unsigned.Goals as goal
 
 pub returns-in-Some-limit_of_terminal : goal.returns-in-Some-limit_of_terminal

@@ -1,6 +1,4 @@
-use Rattle.mpslp_lp.proofs.Prelude
-use Prelude.{sym, ap, ◌∙◌, ◌∷◌, cons_option, least_kind, token_faults}
-use Rattle.mpslp_lp.proofs.PlainPhrases.{least-next}
+use Rattle.mpslp_lp.proofs.{Prelude.{sym, ap, ◌∙◌, ◌∷◌, cons_option, least_kind, token_faults}, PlainPhrases.{least-next}}
 use Rattle.mpslp_lp.proofs.read_line.lexical_fault_of.Goals as goal
 
 pub loop-raw_token-preserved-in-Err : goal.loop-raw_token-preserved-in-Err

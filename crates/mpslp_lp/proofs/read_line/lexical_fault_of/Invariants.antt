@@ -1,5 +1,4 @@
-use Rattle.mpslp_lp.proofs.Prelude
-use Prelude.{◌≡◌, cons_option, least_kind, token_faults}
+use Rattle.mpslp_lp.proofs.Prelude.{◌≡◌, cons_option, least_kind, token_faults}
 use Rattle.mpslp_lp.proofs.read_line.lexical_fault_of.Given as goal
 
 -- the result depends on the least error so far and on the tokens that are left

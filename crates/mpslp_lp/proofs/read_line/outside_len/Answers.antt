@@ -1,7 +1,6 @@
 -- The bytes before the first backslash.
-use Rattle.mpslp_lp.proofs.Prelude
-use Prelude.{◌≡◌, ℕ, ap, sym, true, false, refl, arith, begins_comment}
-use Rattle.std.proofs.{Common.not, lemmas.List.Sums.prefix_len_is}
+use Rattle.mpslp_lp.proofs.Prelude.{◌≡◌, ℕ, ap, sym, true, false, refl, arith, begins_comment}
+use Rattle.std.proofs.{Common.{not}, lemmas.List.Sums.{prefix_len_is}}
 use Rattle.mpslp_lp.proofs.read_line.outside_len.Goals as goal
 
 other : (byte : ℕ) → (begins_comment byte ≡ true → ⊥) → not (begins_comment byte) ≡ true

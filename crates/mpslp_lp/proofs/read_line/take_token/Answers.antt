@@ -1,5 +1,4 @@
-use Rattle.mpslp_lp.proofs.Prelude
-use Prelude.{sym, subst, ◌∷◌, Err, token_of, terminal_of_token, take, take_tokens, TakesToken}
+use Rattle.mpslp_lp.proofs.Prelude.{sym, subst, ◌∷◌, Err, token_of, terminal_of_token, take, take_tokens, TakesToken}
 use Rattle.mpslp_lp.proofs.PlainPhrases.{tokens-refused}
 use Rattle.mpslp_lp.proofs.read_line.take_token.Goals as goal
 

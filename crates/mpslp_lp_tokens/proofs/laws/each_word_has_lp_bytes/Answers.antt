@@ -1,6 +1,5 @@
 use Rattle.std.proofs.Common.{subst}
-use Rattle.mpslp_lp_tokens.specs.Laws.{HaveLpBytes}
-use Rattle.mpslp_lp_tokens.proofs.NameTokens.{after-bytes}
+use Rattle.mpslp_lp_tokens.{proofs.NameTokens.after-bytes, specs.Laws.HaveLpBytes}
 use Rattle.mpslp_lp_tokens.proofs.laws.each_word_has_lp_bytes.Goals as goal
 
 pub returns : goal.returns

@@ -1,4 +1,4 @@
-use Rattle.mpslp_lp_tokens.proofs.JoinedTokens.{lines-joined}
+use Rattle.mpslp_lp_tokens.proofs.SliceLemmas.{lines-joined}
 use Rattle.mpslp_lp_tokens.proofs.laws.lines_are_tokens.Goals as goal
 
 pub returns : goal.returns

@@ -1,4 +1,4 @@
-use Rattle.mpslp_lp_tokens.proofs.LongestTokens.{tokens-unique}
+use Rattle.mpslp_lp_tokens.proofs.SliceLemmas.{tokens-unique}
 use Rattle.mpslp_lp_tokens.proofs.laws.longest_are_tokens.Goals as goal
 
 pub returns : goal.returns

@@ -1,5 +1,4 @@
-use Rattle.std.proofs.Common.{◌≡◌, ◌+◌, drop}
-use Rattle.std.specs.List.{prefix_len}
+use Rattle.std.{proofs.Common.{drop, ◌+◌, ◌≡◌}, specs.List.prefix_len}
 use Rattle.mpslp_decimal.specs.Literal.{is_digit}
 use Rattle.mpslp_lp_tokens.proofs.scan.digits_len.Given as goal
 

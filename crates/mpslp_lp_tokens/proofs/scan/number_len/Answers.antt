@@ -1,7 +1,5 @@
 use Rattle.std.proofs.Common.{subst, sym, ℕ}
-use Rattle.mpslp_lp_tokens.specs.Token.{is_number}
-use Rattle.mpslp_lp_tokens.specs.Scan.{IsLongestFront}
-use Rattle.mpslp_lp_tokens.proofs.NumberSize.{number-longest}
+use Rattle.mpslp_lp_tokens.{proofs.NumberRun.number-longest, specs.{Scan.IsLongestFront, Token.is_number}}
 use Rattle.mpslp_lp_tokens.proofs.scan.number_len.Goals as goal
 
 pub returns : goal.returns

@@ -1,5 +1,4 @@
-use Rattle.std.proofs.Common.{◌≡◌, ◌+◌, drop}
-use Rattle.std.specs.List.{prefix_len}
+use Rattle.std.{proofs.Common.{drop, ◌+◌, ◌≡◌}, specs.List.prefix_len}
 use Rattle.mpslp_lp_tokens.specs.Token.{continues_word}
 use Rattle.mpslp_lp_tokens.proofs.scan.word_len.Given as goal
 

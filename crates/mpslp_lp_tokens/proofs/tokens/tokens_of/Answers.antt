@@ -1,4 +1,4 @@
-use Rattle.mpslp_lp_tokens.proofs.TokenLemmas.{count-within}
+use Rattle.mpslp_lp_tokens.proofs.SliceLemmas.{count-within}
 use Rattle.mpslp_lp_tokens.proofs.tokens.tokens_of.Goals as goal
 
 pub returns-clause-count : goal.returns-clause-count

@@ -1,4 +1,4 @@
-use Rattle.std.proofs.Common.{◌≡◌, ◌++◌, ◌-◌, ◌≤◌, map, take, drop, length}
+use Rattle.std.proofs.Common.{drop, length, map, take, ◌++◌, ◌-◌, ◌≡◌, ◌≤◌}
 use Rattle.arrayvec.specs.ArrayVec.{array_vec_len}
 use Rattle.mpslp_mps_fields.specs.Line.{fields}
 use Rattle.mpslp_mps_fields.proofs.fields.short_fields.Given as goal

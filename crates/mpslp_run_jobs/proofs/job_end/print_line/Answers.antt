@@ -9,7 +9,8 @@ returns-clause-answer g c =
     let text = c.args.front.now ++ c.args.middle.now ++ c.args.end.now in
     let all = puts_then (puts_then c.put.ensures c.put-2.ensures) c.put-3.ensures in
     let put = all.puts first [] [] (c.new-output.ensures.empty c.new-buffer.ensures) in
-    let stated : IsReported (sink_change g.E.Sink first c.finish.new.self.sink.now) text = (c.finish.result, c.finish.ensures.answer first text [] put, c.finish.ensures.calls first text [] put) in
+    let stated : IsReported (sink_change g.E.Sink first c.finish.new.self.sink.now) text =
+    (c.finish.result, c.finish.ensures.answer first text [] put, c.finish.ensures.calls first text [] put) in
     search rules
 
 pub returns-clause-err_stays : goal.returns-clause-err_stays

@@ -7,4 +7,5 @@ pub returns-in-Lp-clause-answer : goal.returns-in-Lp-clause-answer
 returns-in-Lp-clause-answer g c = rw (c.in-Lp.is) (c.show-in-Lp.result, c.show-in-Lp.ensures.answer, c.ended_by-in-Lp.ensures)
 
 pub returns-in-Lp-clause-source : goal.returns-in-Lp-clause-source
-returns-in-Lp-clause-source g c = record { asked = c.show-in-Lp.ensures.asked; calls = c.show-in-Lp.ensures.calls; stays = c.show-in-Lp.ensures.source_stays }
+returns-in-Lp-clause-source g c =
+    record { asked = c.show-in-Lp.ensures.asked; calls = c.show-in-Lp.ensures.calls; stays = c.show-in-Lp.ensures.source_stays }

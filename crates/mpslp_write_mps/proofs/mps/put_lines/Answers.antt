@@ -8,8 +8,8 @@ pub returns : goal.returns
 returns g c =
     section_then (section_text {lines = header_line Name ∷ []} refl c.put.ensures)
     (section_then (section_same (ap sense_lines c.objective_sense.ensures) c.put_sense.ensures)
-    (section_then c.put_rows_section.ensures
+    (section_then c.put_mps_rows_section.ensures
     (section_then c.put_columns_section.ensures
     (section_then c.put_rhs_section.ensures
     (section_then c.put_ranges_section.ensures
-    (section_then c.put_bounds_section.ensures (section_text {lines = header_line EndData ∷ []} refl c.put-2.ensures)))))))
+    (section_then c.put_mps_bounds_section.ensures (section_text {lines = header_line EndData ∷ []} refl c.put-2.ensures)))))))

@@ -1,8 +1,8 @@
-use Rattle.std.proofs.Common.{◌≡◌, sym, ap, subst, ◌∙◌, ℕ, ◌<◌, List, length, slice_index, IsPermutation}
-use Rattle.std.specs.{Prelude.filter, List.All, Cmp.nat_cmp_total}
+use Rattle.std.{proofs.Common.{IsPermutation, List, ap, length, slice_index, subst, sym, ℕ, ◌<◌, ◌∙◌, ◌≡◌}, specs.Cmp.nat_cmp_total}
+use Rattle.std.specs.{List.All, Prelude.filter}
 use Rattle.mpslp_decimal.specs.Decimal.{Number}
-use Rattle.mpslp_model_core.{specs.Numbered.{moved_cells, is_kept}, proofs.CellLemmas.never_falls-from_sort}
-use Rattle.mpslp_model_core.proofs.RenumberLemmas.{renamed, all-from_each, each-of_map, each-kept, moved-from_any_order}
+use Rattle.mpslp_model_core.proofs.{CellLemmas.never_falls-from_sort, RenumberLemmas.{all-from_each, each-kept, each-of_map}}
+use Rattle.mpslp_model_core.{proofs.RenumberLemmas.{moved-from_any_order, renamed}, specs.Numbered.{is_kept, moved_cells}}
 use Rattle.mpslp_builder_parts.proofs.cells.Cells.into_renumbered.Goals as goal
 
 pub renumbered-requires : goal.renumbered-requires
@@ -22,7 +22,8 @@ returns c =
     let map_is = c.in_ok-entries_of.ensures.sorted ∙ c.self.view_is in
     let once = c.in_ok-entries_of.ensures.once in
     let within = each-of_map holds stored once (subst (All holds) (sym map_is) c.requires.within) in
-    let kept : c.renumbered.result.items ≡ renamed rank (filter is_kept stored) = c.renumbered.ensures ∙ ap (renamed rank) c.without_zeros-cells.ensures in
+    let kept : c.renumbered.result.items ≡ renamed rank (filter is_kept stored) = c.renumbered.ensures
+    ∙ ap (renamed rank) c.without_zeros-cells.ensures in
     moved-from_any_order (length c.args.ranks.now) rank c.requires.apart stored cells once within
     (subst (λ (es : List (ℕ × Number)). IsPermutation es cells) kept c.in_order_of_numbers.ensures.permutation)
     (never_falls-from_sort nat_cmp_total (λ (e : ℕ × Number). e.0) cells c.in_order_of_numbers.ensures.sorted)

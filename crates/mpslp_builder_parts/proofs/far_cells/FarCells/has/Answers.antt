@@ -1,4 +1,4 @@
-use Rattle.std.{proofs.Common.{sym, ap, ◌∙◌, ℕ, List}, specs.{Prelude.is_some, Ordering.nat_cmp, FinMap.find}}
+use Rattle.std.{proofs.Common.{List, ap, sym, ℕ, ◌∙◌}, specs.{FinMap.find, Ordering.nat_cmp, Prelude.is_some}}
 use Rattle.mpslp_decimal.specs.Decimal.{Number}
 use Rattle.mpslp_model_core.proofs.CellLemmas.{lookup_is_find}
 use Rattle.mpslp_builder_parts.specs.FarCells.{cells_stored}

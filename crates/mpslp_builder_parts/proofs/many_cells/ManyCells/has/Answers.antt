@@ -1,4 +1,4 @@
-use Rattle.std.{proofs.Common.{sym, ap, ◌∙◌, ℕ, List}, specs.{Prelude.is_some, Ordering.nat_cmp, Cmp.nat_cmp_total, FinMap.find}}
+use Rattle.std.{proofs.Common.{List, ap, sym, ℕ, ◌∙◌}, specs.{Cmp.nat_cmp_total, FinMap.find, Ordering.nat_cmp, Prelude.is_some}}
 use Rattle.mpslp_decimal.specs.Decimal.{Number}
 use Rattle.mpslp_model_core.proofs.CellLemmas.{has_two, or_left, or_right}
 use Rattle.mpslp_builder_parts.proofs.many_cells.ManyCells.has.Goals as goal

@@ -1,6 +1,6 @@
-use Rattle.std.{proofs.Common.{ap, ◌∙◌, ℕ, List}, specs.{Ordering.nat_cmp, Cmp.nat_cmp_total, FinMap.{find, put, nat_cmp-IsAntisymmetric}}}
+use Rattle.std.{proofs.Common.{List, ap, ℕ, ◌∙◌}, specs.{Cmp.nat_cmp_total, FinMap.{find, nat_cmp-IsAntisymmetric, put}, Ordering.nat_cmp}}
 use Rattle.mpslp_decimal.specs.Decimal.{Number}
-use Rattle.mpslp_model_core.proofs.CellLemmas.{absent_first, put_first, put_second, once-from_rising, once-put_first, once-put_second}
+use Rattle.mpslp_model_core.proofs.CellLemmas.{absent_first, once-from_rising, once-put_first, once-put_second, put_first, put_second}
 use Rattle.mpslp_builder_parts.proofs.many_cells.ManyCells.put.Goals as goal
 
 pub put_near-requires : goal.put_near-requires

@@ -1,7 +1,5 @@
 use Rattle.std.proofs.Common.{subst}
-use Rattle.mpslp_decimal.specs.Scan.{IsSignificandOf}
-use Rattle.mpslp_decimal.specs.declared.literal.Significand.{Significand}
-use Rattle.mpslp_decimal.proofs.SignificandLemmas.{many-more}
+use Rattle.mpslp_decimal.{proofs.SpellsLemmas.many-more, specs.{Scan.IsSignificandOf, declared.literal.Significand.Significand}}
 use Rattle.mpslp_decimal.proofs.literal.Significand.followed_by.Goals as goal
 
 pub returns-in-Many-clause-value : goal.returns-in-Many-clause-value

@@ -1,5 +1,4 @@
-use Rattle.std.proofs.Common.{ap, ◌∙◌}
-use Rattle.std.specs.Ordering.{is_eq}
+use Rattle.std.{proofs.Common.{ap, ◌∙◌}, specs.Ordering.is_eq}
 use Rattle.mpslp_decimal.proofs.OrderOfValues.{order-decimal}
 use Rattle.mpslp_decimal.proofs.number.Decimal.has_same_value.Goals as goal
 

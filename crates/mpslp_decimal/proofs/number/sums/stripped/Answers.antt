@@ -1,10 +1,11 @@
-use Rattle.std.proofs.Common.{◌<◌, arith}
-use Rattle.mpslp_decimal.proofs.SumLemmas.{zeros-below, one-zero-less}
+use Rattle.std.proofs.Common.{arith, ◌<◌}
+use Rattle.mpslp_decimal.proofs.SumLemmas.{one-zero-less, zeros-below}
 use Rattle.mpslp_decimal.proofs.number.sums.stripped.Goals as goal
 
 pub overflow_add-zeros : goal.overflow_add-zeros
 overflow_add-zeros c =
-    let few : c.loop-digits.zeros < 39 = zeros-below c.args.number c.loop-digits.digits c.loop-digits.zeros 39 c.loop-digits.invariant.value c.loop-digits.invariant.some c.requires.small in omega arith
+    let few : c.loop-digits.zeros < 39 = zeros-below c.args.number c.loop-digits.digits c.loop-digits.zeros 39 c.loop-digits.invariant.value
+    c.loop-digits.invariant.some c.requires.small in omega arith
 
 pub loop-digits-preserved : goal.loop-digits-preserved
 loop-digits-preserved c = record {
@@ -13,4 +14,5 @@ loop-digits-preserved c = record {
 }
 
 pub returns-clause-zeros : goal.returns-clause-zeros
-returns-clause-zeros c = zeros-below c.args.number c.loop-digits.digits c.loop-digits.zeros 39 c.loop-digits.invariant.value c.loop-digits.invariant.some c.requires.small
+returns-clause-zeros c = zeros-below c.args.number c.loop-digits.digits c.loop-digits.zeros 39 c.loop-digits.invariant.value
+    c.loop-digits.invariant.some c.requires.small

@@ -1,5 +1,4 @@
-use Rattle.std.proofs.Common.{rules, ◌≡◌, ◌∙◌, ap, sym, subst, ℕ, ℤ, to_z, of_z, w32}
-use Rattle.std.specs.Int.{w128, cast_signed}
+use Rattle.std.{proofs.Common.{ap, of_z, rules, subst, sym, to_z, w32, ℕ, ℤ, ◌∙◌, ◌≡◌}, specs.Int.{cast_signed, w128}}
 use Rattle.mpslp_decimal.specs.Decimal.{IsDecimal}
 use Rattle.mpslp_decimal.proofs.packed.PackedDecimal.of.Goals as goal
 

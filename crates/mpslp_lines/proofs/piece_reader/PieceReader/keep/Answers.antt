@@ -6,4 +6,4 @@ pub returns-in-Ok-clause-answer : goal.returns-in-Ok-clause-answer
 returns-in-Ok-clause-answer g c =
     let r = g.L.ReadLines in
     let old = c.args.self.now in
-    keep-fed r.has_read r.at_end old (record { lines = old.lines; open_line = c.push.new.self }) c.args.part.now c.requires.unended c.requires.one_line refl c.in-Ok.ensures
+    keep-fed _ r.at_end old _ _ c.requires.unended c.requires.one_line refl c.in-Ok.ensures

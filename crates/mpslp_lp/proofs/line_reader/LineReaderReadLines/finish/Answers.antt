@@ -1,6 +1,5 @@
-use Rattle.mpslp_lp.proofs.Prelude
-use Prelude.{◌≡◌, sym, subst, ap, ◌∙◌, is_some, Draft, Finishes, Context}
-use Rattle.mpslp_lp.proofs.LineReaderLemmas.{led-named, ends-missing, ends-text}
+use Rattle.mpslp_lp.proofs.{Prelude.{◌≡◌, sym, subst, ap, ◌∙◌, is_some, Draft, Finishes, Context}, LineReaderLemmas.{led-named}}
+use Rattle.mpslp_lp.proofs.LineReaderLemmas.{ends-missing, ends-text}
 use Rattle.mpslp_lp.proofs.line_reader.LineReaderReadLines.finish.Goals as goal
 
 -- the builder has all declarations

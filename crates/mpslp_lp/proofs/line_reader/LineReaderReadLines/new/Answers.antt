@@ -1,6 +1,4 @@
-use Rattle.mpslp_lp.proofs.Prelude
-use Prelude.{sym, subst, [], LedTo, Between, AtStart}
-use Rattle.mpslp_lp.proofs.LineReaderLemmas.{led-none}
+use Rattle.mpslp_lp.proofs.{Prelude.{sym, subst, [], LedTo, Between, AtStart}, LineReaderLemmas.{led-none}}
 use Rattle.mpslp_lp.proofs.line_reader.LineReaderReadLines.new.Goals as goal
 
 pub returns : goal.returns

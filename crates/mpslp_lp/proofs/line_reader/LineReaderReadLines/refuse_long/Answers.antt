@@ -1,6 +1,4 @@
-use Rattle.mpslp_lp.proofs.Prelude
-use Prelude.{LineTooLong, Fault}
-use Rattle.mpslp_lp.proofs.LineReaderLemmas.{refuses-line, take-long}
+use Rattle.mpslp_lp.proofs.{Prelude.{LineTooLong, Fault}, LineReaderLemmas.{refuses-line, take-long}}
 use Rattle.mpslp_lp.proofs.line_reader.LineReaderReadLines.refuse_long.Goals as goal
 
 pub returns : goal.returns

@@ -1,5 +1,4 @@
-use Rattle.std.proofs.Common.{sym, ap, ◌∙◌, ℕ, List}
-use Rattle.std.proofs.lemmas.List.{take_rest}
+use Rattle.std.proofs.{Common.{List, ap, sym, ℕ, ◌∙◌}, lemmas.List.take_rest}
 use Rattle.mpslp_lp_tokens.specs.Token.{tokens_from}
 use Rattle.mpslp_lp_tokens.proofs.tokens.Tokens.bytes_left.Goals as goal
 

@@ -1,5 +1,5 @@
 use Rattle.std.specs.Prelude.{length}
-use borrow.Author.Tests.{le-leb, lt-leb, lt-ltb, le-ltb}
+use borrow.Author.Tests.{le-leb, le-ltb, lt-leb, lt-ltb}
 use Rattle.mpslp_types.specs.NameHash.{read_short}
 use Rattle.mpslp_types.proofs.names.hashing.read_short.Goals as goal
 

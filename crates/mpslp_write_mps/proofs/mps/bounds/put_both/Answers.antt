@@ -1,7 +1,5 @@
-use Rattle.std.proofs.Common.{sym}
-use Rattle.mpslp_canonical_mps.specs.PrintedValues.{printed_lower, printed_upper}
-use Rattle.mpslp_canonical_mps.specs.CanonicalMps.{bound_line}
-use Rattle.mpslp_write_mps.proofs.BoundLines.{map-append}
+use Rattle.mpslp_canonical_mps.specs.{PrintedValues.{printed_lower, printed_upper}, CanonicalMps.{bound_line}}
+use Rattle.std.proofs.{Common.{sym}, lemmas.List.{map-append}}
 use Rattle.mpslp_output.proofs.OutputLemmas.{prints_then, prints_same}
 use Rattle.mpslp_write_mps.proofs.mps.bounds.put_both.Goals as goal
 

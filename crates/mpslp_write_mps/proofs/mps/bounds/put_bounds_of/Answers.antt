@@ -1,21 +1,17 @@
-use Rattle.std.proofs.Common.{sym, ap, ◌∙◌, map}
+use Rattle.std.proofs.Common.{arith, sym, ap, ◌∙◌, map}
 use Rattle.mpslp_canonical_mps.specs.CanonicalMps.{bound_line}
-use Rattle.mpslp_write_mps.proofs.BoundLines.{free-bounds, fixed-bounds, other-bounds}
+use Rattle.mpslp_write_mps.proofs.BoundLines.{fixed-bounds, other-bounds}
 use Rattle.mpslp_output.proofs.OutputLemmas.{prints_same}
 use Rattle.mpslp_write_mps.proofs.mps.bounds.put_bounds_of.Goals as goal
 
 pub returns-then-are_free : goal.returns-then-are_free
-returns-then-are_free g c =
-    prints_same (ap (map (bound_line c.args.column.now)) (free-bounds c.args.kind c.args.lower.now c.args.upper.now (sym c.are_free.ensures ∙ c.if-are_free.true)))
-    c.put_bare_bound.ensures
+returns-then-are_free = grind arith
 
 pub returns-in-Some : goal.returns-in-Some
 returns-in-Some g c =
-    prints_same (ap (map (bound_line c.args.column.now)) (fixed-bounds c.args.kind c.args.lower.now c.args.upper.now c.in-Some.value (sym c.fixed_value.ensures ∙ c.in-Some.is)))
+    prints_same (ap (map (bound_line c.args.column.now))
+    (fixed-bounds c.args.kind c.args.lower.now c.args.upper.now c.in-Some.value (sym c.fixed_value.ensures ∙ c.in-Some.is)))
     c.put_valued_bound.ensures
 
 pub returns-in-None : goal.returns-in-None
-returns-in-None g c =
-    prints_same (ap (map (bound_line c.args.column.now))
-    (other-bounds c.args.kind c.args.lower.now c.args.upper.now (sym c.are_free.ensures ∙ c.if-are_free.false) (sym c.fixed_value.ensures ∙ c.in-None.is)))
-    c.put_both.ensures
+returns-in-None = grind (arith, prints_same, other-bounds)

@@ -1,7 +1,5 @@
-use Rattle.std.proofs.Common.{◌∙◌, map}
-use Rattle.std.specs.FinMap.{entries}
-use Rattle.mpslp_model_core.specs.Views.{column_name}
-use Rattle.mpslp_model_core.specs.Model.{listing_of}
+use Rattle.std.{proofs.Common.{◌∙◌, map}, specs.FinMap.{entries}}
+use Rattle.mpslp_model_core.specs.{Views.{column_name}, Model.{listing_of}}
 use Rattle.mpslp_canonical_mps.specs.CanonicalMps.{coefficient_line, printed_coefficients, column_coefficients}
 use Rattle.mpslp_write_mps.proofs.ColumnLemmas.{column-joined, named-lines}
 use Rattle.mpslp_output.proofs.OutputLemmas.{prints_then, prints_same}
@@ -11,5 +9,6 @@ pub returns : goal.returns
 returns g c =
     let m = c.args.model.now in
     prints_same (column-joined m c.each_model_is_sound.ensures (column_name m c.args.j)
-    ∙ named-lines (λ name. map (coefficient_line name) (printed_coefficients m.objective (column_coefficients (listing_of m) name))) (entries m.columns) c.args.j c.requires)
+    ∙ named-lines (λ name. map (coefficient_line name) (printed_coefficients m.objective (column_coefficients (listing_of m) name)))
+    (entries m.columns) c.args.j c.requires)
     (prints_then c.put_objective_coefficient.ensures c.put_elements.ensures)

@@ -1,9 +1,8 @@
 use Rattle.std.proofs.Common.{sym, ap, ◌∙◌, Bool, cond, []}
 use Rattle.mpslp_model_core.specs.Model.{listing_of}
 use Rattle.mpslp_canonical_mps.specs.CanonicalMps.{column_lines}
-use Rattle.mpslp_output.specs.LinesAt.{lines_at}
+use Rattle.mpslp_output.{specs.LinesAt.{lines_at}, proofs.OutputLemmas.{prints_same, prints_nothing}}
 use Rattle.mpslp_write_mps.proofs.ColumnLemmas.{part-lines}
-use Rattle.mpslp_output.proofs.OutputLemmas.{prints_same, prints_nothing}
 use Rattle.mpslp_write_mps.proofs.mps.columns.put_column_of_part.Goals as goal
 
 pub returns-then-is_wanted : goal.returns-then-is_wanted

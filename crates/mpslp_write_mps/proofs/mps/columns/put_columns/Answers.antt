@@ -1,5 +1,4 @@
-use Rattle.std.proofs.Common.{rules, arith}
-use Rattle.std.specs.FinMap.{entries}
+use Rattle.std.{proofs.Common.{rules, arith}, specs.FinMap.{entries}}
 use Rattle.mpslp_canonical_mps.specs.CanonicalMps.{column_lines}
 use Rattle.mpslp_model_core.specs.Model.{listing_of}
 use Rattle.mpslp_write_mps.specs.MpsLinesAt.{of_part}
@@ -7,4 +6,6 @@ use Rattle.mpslp_output.proofs.EachLemmas.{prints_each}
 use Rattle.mpslp_write_mps.proofs.mps.columns.put_columns.Goals as goal
 
 pub returns : goal.returns
-returns g c = prints_each (of_part c.args.part (column_lines (listing_of c.args.model.now))) (entries c.args.model.now.columns) (omega arith) (λ i within x y call. search rules) c.put_each.ensures
+returns g c =
+    prints_each (of_part c.args.part (column_lines (listing_of c.args.model.now))) (entries c.args.model.now.columns) (omega arith)
+    (λ i within x y call. search rules) c.put_each.ensures

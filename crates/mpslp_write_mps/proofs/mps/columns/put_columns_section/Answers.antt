@@ -2,8 +2,7 @@ use Rattle.std.proofs.Common.{refl, [], ◌∷◌, ◌++◌}
 use Rattle.mpslp_mps_fields.specs.declared.sections.Section.TheVariants.{Columns}
 use Rattle.mpslp_model_core.specs.Model.{listing_of}
 use Rattle.mpslp_canonical_mps.specs.CanonicalMps.{header_line, column_lines, is_plain_column, is_integer_column, integer_part}
-use Rattle.mpslp_output.proofs.LinesAtLemmas.{flat_map-filter}
-use Rattle.mpslp_output.proofs.OutputLemmas.{section_of, section_then, section_same, section_text}
+use Rattle.mpslp_output.proofs.{LinesAtLemmas.{flat_map-filter}, OutputLemmas.{section_of, section_then, section_same, section_text}}
 use Rattle.mpslp_write_mps.proofs.mps.columns.put_columns_section.Goals as goal
 
 pub returns : goal.returns
@@ -12,4 +11,5 @@ returns g c =
     let plain = flat_map-filter (column_lines m) is_plain_column m.columns in
     let integer = flat_map-filter (column_lines m) is_integer_column m.columns in
     section_same (λ i. header_line Columns ∷ (plain i ++ integer_part (integer i)))
-    (section_then (section_text {lines = header_line Columns ∷ []} refl c.put.ensures) (section_then (section_of c.put_columns.ensures) c.put_integer_part.ensures))
+    (section_then (section_text {lines = header_line Columns ∷ []} refl c.put.ensures)
+    (section_then (section_of c.put_columns.ensures) c.put_integer_part.ensures))

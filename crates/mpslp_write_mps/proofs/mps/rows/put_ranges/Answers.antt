@@ -1,5 +1,4 @@
-use Rattle.std.proofs.Common.{rules, arith}
-use Rattle.std.specs.FinMap.{entries}
+use Rattle.std.{proofs.Common.{rules, arith}, specs.FinMap.{entries}}
 use Rattle.mpslp_canonical_mps.specs.CanonicalMps.{range_lines}
 use Rattle.mpslp_output.proofs.EachLemmas.{prints_each}
 use Rattle.mpslp_write_mps.proofs.mps.rows.put_ranges.Goals as goal

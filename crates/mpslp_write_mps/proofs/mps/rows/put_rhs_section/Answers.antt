@@ -1,8 +1,7 @@
-use Rattle.std.proofs.Common.{◌∙◌, refl}
-use Rattle.std.specs.Prelude.{codes}
+use Rattle.std.{proofs.Common.{◌∙◌, refl}, specs.Prelude.{codes}}
 use Rattle.mpslp_mps_fields.specs.declared.sections.Section.TheVariants.{Rhs}
 use Rattle.mpslp_canonical_mps.specs.CanonicalMps.{rhs_lines}
-use Rattle.mpslp_write_mps.proofs.LineTexts.{under-text}
+use Rattle.mpslp_write_mps.proofs.IntegerPart.{under-text}
 use Rattle.mpslp_output.proofs.OutputLemmas.{prints_then, prints_same, section_under}
 use Rattle.mpslp_write_mps.proofs.mps.rows.put_rhs_section.Goals as goal
 
@@ -10,4 +9,5 @@ pub returns : goal.returns
 returns g c =
     let objective = c.as_bytes-objective.ensures ∙ c.objective_name.ensures in
     section_under (codes "RHS\n") (under-text Rhs _ _ refl) c.open_section.ensures
-    (prints_then (prints_same (λ i. rhs_lines (objective i) (c.objective_offset.ensures i)) c.put_rhs_line.ensures) c.put_all_rhs.ensures) c.close_section.ensures.closed
+    (prints_then (prints_same (λ i. rhs_lines (objective i) (c.objective_offset.ensures i)) c.put_rhs_line.ensures) c.put_all_rhs.ensures)
+    c.close_section.ensures.closed

@@ -1,4 +1,4 @@
-use Rattle.std.specs.Prelude.{◌≡◌, ℕ, suc, ◌+◌, ◌-◌, ◌*◌, ◌/◌, length}
+use Rattle.std.specs.Prelude.{length, suc, ◌*◌, ◌+◌, ◌-◌, ◌/◌, ◌≡◌}
 use mathlib.Core.Path.{refl}
 use native.Mathlib.Omega.{arith}
 use borrow.Author.Tests.{le-leb, lt-leb}
@@ -16,7 +16,7 @@ loop-at-init c = (refl, omega arith, refl)
 pub loop-at-preserved : goal.loop-at-preserved
 unfolding mix_blocks
 loop-at-preserved c =
-    let at : ℕ = c.loop-at.at in
+    let at = c.loop-at.at in
     let whole : at ≡ 16 * (at / 16) = omega (arith, c.loop-at.invariant.0) in
     let more : (at + 16) / 16 ≡ suc (at / 16) = omega arith in (
       omega arith,
@@ -27,6 +27,14 @@ loop-at-preserved c =
 pub returns : goal.returns
 unfolding write
 returns c =
-    let n : ℕ = length c.args.bytes.now in
+    let n = length c.args.bytes.now in
     let count : (n - 1) / 16 ≡ c.loop-at.at / 16 = omega (arith, c.loop-at.invariant.0, c.loop-at.invariant.1, c.loop-at-test.false) in
-    rw (lt-leb n 8 c.if-len-le8.false, count, ← c.loop-at.invariant.2, c.folded_multiply-self-2.ensures, c.read_u64-2.ensures, c.read_u64-3.ensures, c.saturating_sub.ensures)
+    rw (
+      lt-leb n 8 c.if-len-le8.false,
+      count,
+      ← c.loop-at.invariant.2,
+      c.folded_multiply-self-2.ensures,
+      c.read_u64-2.ensures,
+      c.read_u64-3.ensures,
+      c.saturating_sub.ensures,
+    )

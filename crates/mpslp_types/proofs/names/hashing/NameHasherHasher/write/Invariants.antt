@@ -1,4 +1,4 @@
-use Rattle.std.specs.Prelude.{◌≡◌, ◌-◌, ◌/◌, ◌%◌, ◌<◌}
+use Rattle.std.specs.Prelude.{◌%◌, ◌-◌, ◌/◌, ◌<◌, ◌≡◌}
 use Rattle.mpslp_types.specs.NameHash.{mix_blocks}
 use Rattle.mpslp_types.proofs.names.hashing.NameHasherHasher.write.Given as goal
 

@@ -1,5 +1,0 @@
-use Rattle.mpslp_decimal.proofs.ExactLaws.{order-by_value}
-use Rattle.mpslp_decimal.proofs.laws.order_is_by_value.Goals as goal
-
-pub returns : goal.returns
-returns c = order-by_value

@@ -1,5 +1,0 @@
-use Rattle.mpslp_decimal.proofs.ExactLaws.{sums-exact}
-use Rattle.mpslp_decimal.proofs.laws.sums_are_exact.Goals as goal
-
-pub returns : goal.returns
-returns c = sums-exact

@@ -1,5 +1,0 @@
-use Rattle.mpslp_decimal.proofs.NumberTextLemmas.{number-text}
-use Rattle.mpslp_decimal.proofs.laws.text_is_read_back.Goals as goal
-
-pub returns : goal.returns
-returns c = number-text

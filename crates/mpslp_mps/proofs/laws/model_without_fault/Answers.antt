@@ -1,5 +1,0 @@
-use Rattle.mpslp_mps.proofs.ModelOrFault.{model-unless_faulty}
-use Rattle.mpslp_mps.proofs.laws.model_without_fault.Goals as goal
-
-pub returns : goal.returns
-returns c = model-unless_faulty

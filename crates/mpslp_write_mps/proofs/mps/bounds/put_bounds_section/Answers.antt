@@ -1,9 +1,0 @@
-use Rattle.std.proofs.Common.{refl}
-use Rattle.std.specs.Prelude.{codes}
-use Rattle.mpslp_mps_fields.specs.declared.sections.Section.TheVariants.{Bounds}
-use Rattle.mpslp_write_mps.proofs.LineTexts.{under-text}
-use Rattle.mpslp_output.proofs.OutputLemmas.{section_under}
-use Rattle.mpslp_write_mps.proofs.mps.bounds.put_bounds_section.Goals as goal
-
-pub returns : goal.returns
-returns g c = section_under (codes "BOUNDS\n") (under-text Bounds _ _ refl) c.open_section.ensures c.put_all_bounds.ensures c.close_section.ensures.closed
