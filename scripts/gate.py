@@ -4,7 +4,8 @@
 `rt ci` proves every crate and its tests, and runs the tests and programs, on a copy of the crates in build/ci/. The copy has no
 mutants, since `rt ci` would check a whole crate for each: scripts/mutants.py checks that the prover rejects them, those of a
 crate as soon as `rt ci` has built what it needs, on processors that `rt ci` leaves idle. The scripts of TESTS test what was built.
-One line is printed for each crate, its mutants and each script; all of their output goes to build/log/.
+One line is printed for each crate, its mutants and each script; all of their output goes to build/log/. A mutant that cannot be
+applied is found before `rt ci` begins.
 """
 
 import os
@@ -23,7 +24,7 @@ from threading import Lock
 
 from crates import Crate, below, crates_of_repository, mark, sums_of
 from kit import ROOT, require_kit
-from mutants import Outcome, crates_with_mutants, test_crate
+from mutants import Outcome, crates_with_mutants, test_crate, unusable_edits
 from prove import LOGS, MEMORY_OF_A_LANE, default_lanes, free_memory
 
 # Where `rt ci` runs, and what it leaves there: the library of each crate, its program and its tests.
@@ -381,6 +382,10 @@ def main() -> int:
     require_kit()
     LOGS.mkdir(parents=True, exist_ok=True)
     report = Report()
+    # These would be found only in an hour, with the mutants of their crate.
+    if unusable := unusable_edits(crates_of_repository()):
+        print(*unusable, f"0 passed, {len(unusable)} failed", sep="\n")
+        return 1
     report.say(f"rt ci proves on {processors()} processors; the prover's output is in {LOGS.relative_to(ROOT)}/")
     tally = Gate(report).run()
     for what in tally.skipped:

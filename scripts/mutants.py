@@ -498,6 +498,12 @@ def test_crate(crate: Crate, crates: dict[str, Crate], libraries: Path, turn: Tu
     return Outcome(crate, len(mutants), prover.checks, time.monotonic() - begun, problems)
 
 
+def unusable_edits(crates: dict[str, Crate]) -> list[str]:
+    """What is wrong with edits that cannot be applied."""
+    mutants = (read_mutant(crate, path) for crate in crates.values() for path in edits_of(crate))
+    return [f"{it.name}: {it.problem}" for it in mutants if it.problem]
+
+
 def crates_with_mutants(crates: dict[str, Crate]) -> list[Crate]:
     """The crates that have mutants, first those whose mutants take longest."""
     known = seconds_of_crates("mutant-seconds.tsv")
