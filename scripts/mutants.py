@@ -29,7 +29,7 @@ import subprocess
 import sys
 import tempfile
 import time
-from collections.abc import Callable
+from collections.abc import Callable, Iterable
 from concurrent.futures import ThreadPoolExecutor, as_completed
 from contextlib import AbstractContextManager, nullcontext
 from dataclasses import dataclass, field
@@ -483,11 +483,21 @@ class Outcome:
         return f"{self.crate.name}: {self.rejected} of {self.mutants} mutants rejected, {self.checks} checks in {self.seconds:.0f} s"
 
 
+def problems_of(mutants: Iterable[Mutant]) -> list[str]:
+    """What is wrong with those that cannot be applied."""
+    return [f"{it.name}: {it.problem}" for it in mutants if it.problem]
+
+
+def unusable_edits(crates: dict[str, Crate]) -> list[str]:
+    """What is wrong with the edits of all crates that cannot be applied."""
+    return problems_of(read_mutant(crate, path) for crate in crates.values() for path in edits_of(crate))
+
+
 def test_crate(crate: Crate, crates: dict[str, Crate], libraries: Path, turn: Turn = nullcontext) -> Outcome:
     """Tests all mutants of a crate, over the proved libraries in this directory. Each check waits for its turn."""
     begun = time.monotonic()
     mutants = [read_mutant(crate, path) for path in edits_of(crate)]
-    problems = [f"{it.name}: {it.problem}" for it in mutants if it.problem]
+    problems = problems_of(mutants)
     log = LOGS / f"mutants-{crate.name}.log"
     log.unlink(missing_ok=True)
     with tempfile.TemporaryDirectory(prefix="mutants-") as kept:
@@ -496,12 +506,6 @@ def test_crate(crate: Crate, crates: dict[str, Crate], libraries: Path, turn: Tu
         if not prover.is_sound():
             problems = [f"{it.name}: the crate itself is not proved over what its mutants left" for it in mutants]
     return Outcome(crate, len(mutants), prover.checks, time.monotonic() - begun, problems)
-
-
-def unusable_edits(crates: dict[str, Crate]) -> list[str]:
-    """What is wrong with edits that cannot be applied."""
-    mutants = (read_mutant(crate, path) for crate in crates.values() for path in edits_of(crate))
-    return [f"{it.name}: {it.problem}" for it in mutants if it.problem]
 
 
 def crates_with_mutants(crates: dict[str, Crate]) -> list[Crate]:

@@ -232,6 +232,14 @@ class Mutants(unittest.TestCase):
         self.assertIn("low/absent: its text is in src/lib.rt 0 times", said)
         self.assertIn("low/thrice: its text is in src/lib.rt 3 times", said)
 
+    def test_an_edit_that_cannot_be_applied_is_found_without_the_prover(self) -> None:
+        self.add("one", "    1", "    wrong")
+        self.add("absent", "    7", "    wrong")
+        asked = "from crates import crates_of_repository; from mutants import unusable_edits; print(*unusable_edits(crates_of_repository()), sep='\\n')"
+        ran = subprocess.run([sys.executable, "-c", asked], cwd=self.folder / "scripts", capture_output=True, text=True, timeout=60, check=True)
+        self.assertEqual(ran.stdout, "low/absent: its text is in src/lib.rt 0 times, and not once\n")
+        self.assertFalse(self.checks.exists())
+
 
 class Rejections(unittest.TestCase):
     """Of which functions a check says that they are rejected for themselves."""
