@@ -7,4 +7,5 @@ pub mod DeclaredBounds
 pub mod StoredBounds
 pub mod FarCells
 pub mod Cells
+pub mod CoefficientLog
 pub mod RowForm

@@ -5,6 +5,7 @@
 #![tactic(auto)]
 
 mod cells;
+mod coefficient_log;
 mod declared_bounds;
 mod far_cells;
 mod many_cells;
