@@ -4,3 +4,4 @@ pub mod RankLemmas
 pub mod PassLemmas
 pub mod TakenLemmas
 pub mod LogLemmas
+pub mod KnownLemmas

@@ -8,4 +8,5 @@ pub mod StoredBounds
 pub mod FarCells
 pub mod Cells
 pub mod CoefficientLog
+pub mod KnownPairs
 pub mod RowForm

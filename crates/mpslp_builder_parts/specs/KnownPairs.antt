@@ -1,0 +1,33 @@
+-- What is known of the pairs of a row and a column that have a coefficient, beside the log of these.
+use Rattle.std.specs.Prelude.{◌≡◌, ◌<◌, ◌≤◌, ◌^◌, ◌*◌, ◌+◌, ℕ, zero, suc, Bool, true, false, List, Option, Some, is_some, length, slice_index}
+use Rattle.std.specs.Option.{IfSome}
+use Rattle.std.specs.Ordering.{nat_cmp}
+use Rattle.std.specs.FinMap.{find}
+use Rattle.std.specs.BTreeSet.{BTreeSet, contains}
+use Rattle.mpslp_model_core.specs.Numbered.{IsOnceBy}
+use Rattle.mpslp_builder_parts.specs.CoefficientLog.{LogEntries, chain, IsLog}
+
+-- whether there is a coefficient of a row in the chain that begins at the place of a column
+abbrev pub has_pair : LogEntries → (ℕ → ℕ) → ℕ → ℕ → Bool
+has_pair log last column row = is_some (find nat_cmp row (chain log (last column)))
+
+-- a pair as one number
+abbrev pub pair_key : ℕ → ℕ → ℕ
+pair_key column row = column * 4294967296 + row
+
+abbrev pub in_pairs : BTreeSet ℕ → ℕ → ℕ → Bool
+in_pairs pairs column row = contains nat_cmp pairs (pair_key column row)
+
+-- The place and the row of the last coefficient of each column, and the column of the last one of each row, counted from 1. The open
+-- row is one of which all coefficients are the last ones of their columns, and the open column one of which all are the last ones of
+-- their rows. All pairs are in a set once that was made.
+pub record AreKnown (all : LogEntries) (last row : ℕ → ℕ) (stamps : List ℕ) (open_row open_column : Option ℕ) (set : Option (BTreeSet ℕ)) : Type 0 where
+  pub log : IsLog all
+  pub within : (i : ℕ) → last i ≤ length all.cells
+  pub once : (i : ℕ) → IsOnceBy nat_cmp (chain all (last i))
+  pub own : (i : ℕ) → 0 < last i → has_pair all last i (row i) ≡ true
+  pub empty : (r : ℕ) → slice_index stamps r ≡ 0 → (i : ℕ) → has_pair all last i r ≡ false
+  pub stamped : (r i : ℕ) → slice_index stamps r ≡ suc i → has_pair all last i r ≡ true
+  pub by_row : (r : ℕ) → open_row ≡ Some r → (i : ℕ) → has_pair all last i r ≡ true → row i ≡ r
+  pub by_column : (i : ℕ) → open_column ≡ Some i → (r : ℕ) → has_pair all last i r ≡ true → slice_index stamps r ≡ suc i
+  pub pairs : IfSome set (λ pairs. (i r : ℕ) → r < 4294967296 → in_pairs pairs i r ≡ has_pair all last i r)
