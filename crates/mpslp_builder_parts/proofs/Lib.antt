@@ -3,3 +3,4 @@ pub mod OrderLemmas
 pub mod RankLemmas
 pub mod PassLemmas
 pub mod TakenLemmas
+pub mod ColumnLemmas
