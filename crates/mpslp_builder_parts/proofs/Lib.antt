@@ -5,3 +5,4 @@ pub mod PassLemmas
 pub mod TakenLemmas
 pub mod LogLemmas
 pub mod KnownLemmas
+pub mod ColumnLemmas

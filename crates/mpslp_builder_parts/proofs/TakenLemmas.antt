@@ -5,7 +5,7 @@ use Rattle.mpslp_model_core.specs.Numbered.{each_part}
 use Rattle.mpslp_builder_parts.specs.Ordered.{entries_at}
 
 module _ {V X : Type 0} (f : V → X) where
-  part_at : (es : List (List ℕ × V)) (n : ℕ) → slice_get (each_part f es) n ≡ option_map (λ e. (e.0, f e.1)) (slice_get es n)
+  pub part_at : (es : List (List ℕ × V)) (n : ℕ) → slice_get (each_part f es) n ≡ option_map (λ e. (e.0, f e.1)) (slice_get es n)
   part_at [] n = refl
   part_at (e ∷ es) zero = refl
   part_at (e ∷ es) (suc n) = part_at es n

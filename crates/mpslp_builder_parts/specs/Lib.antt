@@ -2,9 +2,11 @@
 pub mod Ordered
 pub mod RowParts
 pub mod Parts
+pub mod ColumnTable
 pub mod DeclaredBounds
 -- ---- what only the code cites
 pub mod StoredBounds
+pub mod StoredColumns
 pub mod FarCells
 pub mod Cells
 pub mod CoefficientLog

@@ -1,5 +1,7 @@
 -- What is declared of the objective, of a row and of a column, and what it becomes in a model.
 use Rattle.std.specs.Prelude.{ℕ, Bool, false, List, [], Option, Some, None, unwrap_or, if◌then◌else◌}
+use Rattle.std.specs.Ordering.{nat_cmp}
+use Rattle.std.specs.FinMap.{put}
 use Rattle.mpslp_decimal.specs.Decimal.{Number, zero_number}
 use Rattle.mpslp_types.specs.declared.kinds.Limit.{Limit}
 use Rattle.mpslp_types.specs.declared.kinds.RowType.TheVariants.{Free}
@@ -7,12 +9,20 @@ use Rattle.mpslp_model_core.specs.Model.{Row, Column}
 use Rattle.mpslp_model_core.specs.Limits.{RowDefinition, limits_of, plain_limits, declared_column}
 use Rattle.mpslp_model_core.specs.Numbered.{moved_cells}
 use Rattle.mpslp_model_core.specs.declared.bounds.DeclaredColumn.{DeclaredColumn}
-use Rattle.mpslp_builder_parts.specs.DeclaredBounds.{no_sides, sides_put}
+use Rattle.mpslp_builder_parts.specs.DeclaredBounds.{LowerAndUpper, no_sides, sides_put}
 use Rattle.mpslp_builder_parts.specs.declared.parts.ObjectiveParts.{ObjectiveParts}
 use Rattle.mpslp_builder_parts.specs.RowParts.{RowParts}
-use Rattle.mpslp_builder_parts.specs.declared.parts.ColumnParts.{ColumnParts}
+use Rattle.mpslp_builder_parts.specs.declared.parts.ColumnDefinition.{ColumnDefinition}
 
 -- ---- what is declared of a row or of a column
+
+pub record ColumnParts : Type 0 where
+  pub cells : List (ℕ × Number)
+  pub sides : LowerAndUpper
+  pub marked : Bool
+  pub integer : Bool
+  pub binary : Bool
+  pub semi : Bool
 
 abbrev pub new_row : RowDefinition → RowParts
 new_row definition = record { definition = definition; rhs = None; range = None }
@@ -71,6 +81,31 @@ declared_in column = record {
   binary = column.binary;
   semi = column.semi;
 }
+
+-- ---- the coefficients of a column, and what else is declared of it
+
+abbrev pub parts_with : List (ℕ × Number) → ColumnDefinition → ColumnParts
+parts_with cells definition = record {
+  cells = cells;
+  sides = definition.sides;
+  marked = definition.marked;
+  integer = definition.integer;
+  binary = definition.binary;
+  semi = definition.semi;
+}
+
+abbrev pub definition_in : ColumnParts → ColumnDefinition
+definition_in column = record {
+  sides = column.sides;
+  marked = column.marked;
+  integer = column.integer;
+  binary = column.binary;
+  semi = column.semi;
+}
+
+-- with one more coefficient
+abbrev pub with_cell : ℕ → Number → ColumnParts → ColumnParts
+with_cell row value column = record column { cells = put nat_cmp row value column.cells }
 
 -- ---- in a model
 

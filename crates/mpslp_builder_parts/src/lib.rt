@@ -6,6 +6,7 @@
 
 mod cells;
 mod coefficient_log;
+mod column_table;
 mod declared_bounds;
 mod far_cells;
 mod many_cells;
@@ -17,9 +18,10 @@ mod ranks;
 mod row_parts;
 
 pub use cells::Cells;
+pub use column_table::{ColumnTable, StoredColumn};
 pub use declared_bounds::DeclaredBounds;
-pub use model_rows_and_columns::{column_of, ordered, row_of};
+pub use model_rows_and_columns::{ordered, row_of};
 pub use order::{in_order, order_of};
-pub use parts::{ColumnParts, ObjectiveParts};
+pub use parts::{ColumnDefinition, ObjectiveParts};
 pub use ranks::ranks_of;
 pub use row_parts::RowParts;

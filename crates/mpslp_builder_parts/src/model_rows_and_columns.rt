@@ -10,10 +10,11 @@ ghost use Rattle.mpslp_model_core.specs.Limits.{limits_of, plain_limits};
 ghost use Rattle.mpslp_model_core.specs.RowForms.{row_definition};
 ghost use Rattle.mpslp_model_core.specs.Numbered.{each_part};
 ghost use Rattle.mpslp_builder_parts.specs.Ordered.{name_at, entries_at};
-ghost use Rattle.mpslp_builder_parts.specs.Parts.{itself, limits_in, bounds_of, moved_in};
+ghost use Rattle.mpslp_builder_parts.specs.Parts.{limits_in, bounds_of, moved_in, parts_with};
 
+use crate::cells::Cells;
 use crate::order::{in_order, order_of};
-use crate::parts::ColumnParts;
+use crate::parts::ColumnDefinition;
 use crate::row_parts::RowParts;
 use mpslp_decimal::Decimal;
 use mpslp_model_core::{
@@ -59,18 +60,19 @@ pub fn row_of(alloc: Global, row: &RowParts) -> Result<ModelRow, AllocError>
 /// # Errors
 ///
 /// [`AllocError`] if there is no memory for its bounds, or for one vector of its coefficients.
-pub fn column_of(
+pub(crate) fn column_of(
     alloc: Global,
-    column: ColumnParts,
+    definition: ColumnDefinition,
+    column_cells: Cells,
     ranks: &[u32],
 ) -> Result<ModelColumn, AllocError>
-    requires within { All (λ cell. cell.0 < length ranks.now) column.cells }
+    requires within { All (λ cell. cell.0 < length ranks.now) column_cells }
     requires apart { (n m : ℕ) → n < length ranks.now → m < length ranks.now → slice_index ranks.now n ≡ slice_index ranks.now m → n ≡ m }
-    ensures bounds { IfOk result (λ made. made.bounds ≡ bounds_of column) }
-    ensures cells { IfOk result (λ made. made.cells.items ≡ moved_in ranks.now column) }
+    ensures bounds { IfOk result (λ made. made.bounds ≡ bounds_of (parts_with column_cells definition)) }
+    ensures cells { IfOk result (λ made. made.cells.items ≡ moved_in ranks.now (parts_with column_cells definition)) }
 {
-    let bounds = ModelBounds::of(alloc, column.declared().bounds())?;
-    let cells = column.cells.into_renumbered(ranks)?;
+    let bounds = ModelBounds::of(alloc, definition.declared().bounds())?;
+    let cells = column_cells.into_renumbered(ranks)?;
     Ok(ModelColumn { bounds, cells })
 }
 

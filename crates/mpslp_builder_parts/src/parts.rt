@@ -1,14 +1,12 @@
 //! What is declared of the objective and of a column.
 
-ghost use Rattle.std.specs.Prelude.{◌≡◌};
-ghost use Rattle.mpslp_builder_parts.specs.Parts.{new_column, declared_in};
+ghost use Rattle.std.specs.Prelude.{◌≡◌, []};
+ghost use Rattle.mpslp_builder_parts.specs.Parts.{new_column, definition_in, parts_with, declared_in};
 
-use crate::cells::Cells;
 use crate::declared_bounds::DeclaredBounds;
 use mpslp_decimal::PackedDecimal;
 use mpslp_model_core::DeclaredColumn;
 use mpslp_types::Name;
-use std::alloc::Global;
 
 /// The objective, with its right-hand side if one is declared.
 #[derive(Debug, Drop)]
@@ -17,10 +15,9 @@ pub struct ObjectiveParts {
     pub rhs: Option<PackedDecimal>,
 }
 
-/// What is declared of a column.
+/// What is declared of a column, apart from its name and its coefficients.
 #[derive(Debug, Drop)]
-pub struct ColumnParts {
-    pub cells: Cells,
+pub struct ColumnDefinition {
     pub sides: DeclaredBounds,
     pub marked: bool,
     pub integer: bool,
@@ -28,13 +25,12 @@ pub struct ColumnParts {
     pub semi: bool,
 }
 
-impl ColumnParts {
+impl ColumnDefinition {
     /// A column of which only the name is declared. Allocates nothing.
-    pub fn new(alloc: Global) -> ColumnParts
-        ensures { result ≡ new_column }
+    pub(crate) fn new() -> ColumnDefinition
+        ensures { result ≡ definition_in new_column }
     {
-        ColumnParts {
-            cells: Cells::new(alloc),
+        ColumnDefinition {
             sides: DeclaredBounds::none(),
             marked: false,
             integer: false,
@@ -43,9 +39,9 @@ impl ColumnParts {
         }
     }
 
-    /// What is declared of the column, apart from its coefficients.
+    /// What is declared of the column, with its bounds as limits.
     pub fn declared(&self) -> DeclaredColumn
-        ensures { result ≡ declared_in self.now }
+        ensures { result ≡ declared_in (parts_with [] self.now) }
     {
         DeclaredColumn {
             lower: self.sides.lower(),
