@@ -18,6 +18,11 @@ pair_key column row = column * 4294967296 + row
 abbrev pub in_pairs : BTreeSet ℕ → ℕ → ℕ → Bool
 in_pairs pairs column row = contains nat_cmp pairs (pair_key column row)
 
+-- one more pair is in the set
+pub record IsPairPut (column row : ℕ) (old new : BTreeSet ℕ) : Type 0 where
+  pub here : in_pairs new column row ≡ true
+  pub others : (i r : ℕ) → r < 4294967296 → (i ≡ column → r ≡ row → ⊥) → in_pairs new i r ≡ in_pairs old i r
+
 -- The place and the row of the last coefficient of each column, and the column of the last one of each row, counted from 1. The open
 -- row is one of which all coefficients are the last ones of their columns, and the open column one of which all are the last ones of
 -- their rows. All pairs are in a set once that was made.

@@ -13,6 +13,7 @@ mod many_cells;
 mod model_rows_and_columns;
 mod moving;
 mod order;
+mod pair_set;
 mod parts;
 mod ranks;
 mod row_parts;
