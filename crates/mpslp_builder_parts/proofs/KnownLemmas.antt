@@ -1,6 +1,6 @@
 -- One more coefficient, and what is known of all.
 use Rattle.std.proofs.Common.{◌≡◌, refl, sym, ap, subst, ◌∙◌, ℕ, zero, suc, ◌+◌, ◌≤◌, ◌<◌, List, [], ◌∷◌, ◌++◌, length, arith, slice_index}
-use Rattle.std.proofs.Common.{Bool, true, false, cond, length-append, ◌⊎◌, inl, inr}
+use Rattle.std.proofs.Common.{Bool, true, false, cond, ◌||◌, length-append, ◌⊎◌, inl, inr}
 use Rattle.std.specs.{Cmp.nat_cmp_total, FinMap.find, Ordering.{nat_cmp, eq_by_cmp}, Prelude.{Option, Some, None, is_some}}
 use Rattle.std.proofs.lemmas.Bool.{false≢true}
 use Rattle.std.specs.{Option.IfSome, BTreeSet.BTreeSet}
@@ -8,7 +8,7 @@ use Rattle.mpslp_decimal.specs.Decimal.{Number}
 use Rattle.mpslp_model_core.proofs.CellLemmas.{number_tied, number_same}
 use Rattle.mpslp_model_core.specs.Numbered.{IsOnceBy}
 use Rattle.mpslp_builder_parts.specs.CoefficientLog.{LogEntries, chain, IsLog}
-use Rattle.mpslp_builder_parts.specs.KnownPairs.{has_pair, in_pairs, AreKnown}
+use Rattle.mpslp_builder_parts.specs.KnownPairs.{has_pair, in_pairs, AreKnown, IsOpened, IsPairPut}
 use Rattle.mpslp_builder_parts.proofs.LogLemmas.{logged, kept, one_more, not_tied, is_log-logged}
 
 -- two numbers are the same or not
@@ -56,10 +56,6 @@ module _ (log : LogEntries) (last row : ℕ → ℕ) (stamps : List ℕ) (is : I
     ]
     | inr other ↦ other_column j q other ∙ had
   ]
-
--- how an open row or column is chosen: it stays, or it had no coefficient before, or there is none
-abbrev pub IsOpened : Option ℕ → Option ℕ → ℕ → Type 0 → Type 0
-IsOpened before after n had_none = (after ≡ None) ⊎ ((after ≡ Some n) × ((before ≡ Some n) ⊎ had_none))
 
 opened : (after : Option ℕ) (n q : ℕ) → after ≡ Some n → after ≡ Some q → q ≡ n
 opened after n q is here = cc
@@ -162,3 +158,21 @@ module _ (log : LogEntries) (last row : ℕ → ℕ) (stamps : List ℕ) (open_r
     by_column = by_column_late;
     pairs = put;
   }
+
+-- a pair of a chain is put into the set, and the others of the chain are left
+pub put_next : (old new : BTreeSet ℕ) (column row : ℕ) (first later : ℕ → Bool) → IsPairPut column row old new
+    → ((q : ℕ) → first q ≡ (eq_by_cmp nat_cmp q row || later q)) → (r : ℕ) → r < 4294967296
+    → (in_pairs new column r || later r) ≡ (in_pairs old column r || first r)
+put_next old new column row first later put found r few = elim (alike r row) [
+  | inl same ↦
+      let here = ap (in_pairs new column) same ∙ put.here in
+      let tied = number_tied r row same in
+      (λ i. here i || later r) ∙ sym (ap (λ b. in_pairs old column r || b) (found r ∙ (λ i. tied i || later r)) ∙ last_true (in_pairs old column r))
+  | inr apart ↦
+      let kept = put.others column r few (λ _ same. apart same) in
+      let free = not_tied r row apart in
+      (λ i. kept i || later r) ∙ sym (ap (λ b. in_pairs old column r || b) (found r ∙ (λ i. free i || later r)))
+]
+  where
+    last_true : (b : Bool) → (b || true) ≡ true
+    last_true = grind arith

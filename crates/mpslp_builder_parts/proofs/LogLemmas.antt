@@ -1,7 +1,7 @@
 -- Chains of coefficients in a log.
 use Rattle.std.proofs.Common.{◌≡◌, refl, sym, ap, ◌∙◌, ℕ, zero, suc, ◌+◌, ◌≤◌, ◌<◌, List, [], ◌∷◌, ◌++◌, length, arith, slice_index, length-append, append_assoc}
 use Rattle.std.specs.{Option.option_map_or, Prelude.{Option, Some, None, slice_get}}
-use Rattle.std.proofs.Common.{Bool, true, false, cond, ◌-◌}
+use Rattle.std.proofs.Common.{Bool, true, false, cond, ◌-◌, ◌||◌}
 use Rattle.std.specs.{FinMap.find, Ordering.{nat_cmp, eq_by_cmp}, Prelude.is_some}
 use Rattle.mpslp_model_core.proofs.CellLemmas.{number_tied, number_same}
 use Rattle.std.proofs.{Common.{get_or, map}, lemmas.{Option.slice_get_read, List.get_or_read}}
@@ -123,15 +123,12 @@ pub link_within : (log : LogEntries) → IsLog log → (place link : ℕ) → li
 link_within log is place link at some within = let below = is.below (place - 1) in omega (arith, at, below, some)
 
 -- what is found in a chain: its first coefficient, or what is found among the others
-pub found_here : (row : ℕ) (cell : ℕ × Number) (rest all : List (ℕ × Number)) → all ≡ cell ∷ rest → cell.0 ≡ row
-    → is_some (find nat_cmp row all) ≡ true
-found_here row cell rest all parts same = ap (λ es. is_some (find nat_cmp row es)) parts
-    ∙ ap (λ b. is_some (cond b (Some cell.1) (find nat_cmp row rest))) (number_tied row cell.0 (sym same))
-
-pub found_later : (row : ℕ) (cell : ℕ × Number) (rest all : List (ℕ × Number)) → all ≡ cell ∷ rest → (cell.0 ≡ row → ⊥)
-    → is_some (find nat_cmp row all) ≡ is_some (find nat_cmp row rest)
-found_later row cell rest all parts other = ap (λ es. is_some (find nat_cmp row es)) parts
-    ∙ ap (λ b. is_some (cond b (Some cell.1) (find nat_cmp row rest))) (not_tied row cell.0 (λ h. other (sym h)))
+pub found_first : (row : ℕ) (cell : ℕ × Number) (rest all : List (ℕ × Number)) → all ≡ cell ∷ rest
+    → is_some (find nat_cmp row all) ≡ (eq_by_cmp nat_cmp row cell.0 || is_some (find nat_cmp row rest))
+found_first row cell rest all parts = ap (λ es. is_some (find nat_cmp row es)) parts ∙ either (eq_by_cmp nat_cmp row cell.0)
+  where
+    either : (b : Bool) → is_some (cond b (Some cell.1) (find nat_cmp row rest)) ≡ (b || is_some (find nat_cmp row rest))
+    either = grind arith
 
 -- the nonzero coefficients of a chain, each renumbered, one after another
 pub kept_next : (f : ℕ × Number → ℕ × Number) (done later : List (ℕ × Number)) (cell : ℕ × Number) (rest all : List (ℕ × Number)) (result : List (ℕ × Number))

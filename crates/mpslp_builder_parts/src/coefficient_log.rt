@@ -1,8 +1,8 @@
 //! The coefficients of all columns in one log.
 
-ghost use Rattle.std.specs.Prelude.{◌≡◌, ◌≤◌, ◌<◌, ◌++◌, ◌∷◌, [], ℕ, suc, IfOk, OnOk, OnErr, length, map, filter, is_some, slice_index};
+ghost use Rattle.std.specs.Prelude.{◌≡◌, ◌≤◌, ◌<◌, ◌||◌, ◌++◌, ◌∷◌, [], ℕ, suc, IfOk, OnOk, OnErr, length, map, filter, is_some, slice_index};
 ghost use Rattle.std.specs.List.{All};
-ghost use Rattle.std.specs.Ordering.{nat_cmp};
+ghost use Rattle.std.specs.Ordering.{nat_cmp, eq_by_cmp};
 ghost use Rattle.std.specs.FinMap.{find};
 ghost use Rattle.mpslp_model_core.specs.Numbered.{sorted_of, is_kept, moved_cells, IsOnceBy};
 ghost use Rattle.mpslp_builder_parts.specs.CoefficientLog.{chain};
@@ -82,6 +82,16 @@ impl CoefficientLog {
         Ok(len as u32 + 1)
     }
 
+    /// The row of the coefficient at a place, and the place of the one before it in its column.
+    pub(crate) fn link(&self, place: u32) -> (u32, u32)
+        requires { 0 < place × place ≤ length self.now.cells }
+        ensures below { result.1 < place }
+        ensures found { (row : ℕ) → is_some (find nat_cmp row (chain self.now place)) ≡ (eq_by_cmp nat_cmp row result.0 || is_some (find nat_cmp row (chain self.now result.1))) }
+    {
+        let index = place as usize - 1;
+        (self.cells[index].0, self.earlier[index])
+    }
+
     /// Whether there is a coefficient of this row in the chain from a place.
     pub(crate) fn has(&self, place: u32, row: u32) -> bool
         requires { place ≤ length self.now.cells }
@@ -89,11 +99,11 @@ impl CoefficientLog {
     {
         let mut at = place;
         while at > 0 {
-            let index = at as usize - 1;
-            if self.cells[index].0 == row {
+            let (own, earlier) = self.link(at);
+            if own == row {
                 return true;
             }
-            at = self.earlier[index];
+            at = earlier;
         }
         false
     }

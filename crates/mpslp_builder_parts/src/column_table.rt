@@ -12,37 +12,35 @@ ghost use Rattle.mpslp_builder_parts.specs.Parts.{cells_of, no_part, new_column,
 ghost use Rattle.mpslp_builder_parts.specs.ColumnTable.{name_in, cells_in_column, IsChanged};
 ghost use Rattle.mpslp_builder_parts.specs.StoredColumns.{parts_of, definition_of_stored};
 
-use crate::cells::Cells;
-use crate::model_rows_and_columns::column_of;
+use crate::coefficient_log::CoefficientLog;
+use crate::known_pairs::{Columns, KnownPairs, StoredColumn, has_cell};
 use crate::parts::ColumnDefinition;
 use indexmap::IndexMap;
 use mpslp_decimal::Decimal;
-use mpslp_model_core::ModelColumn;
+use mpslp_model_core::{ModelBounds, ModelColumn};
 use mpslp_types::{HashSeed, Limit, Name, NameBytes};
 use std::alloc::{AllocError, Global};
 use std::marker::Model;
-
-/// What is stored of a column.
-#[derive(Debug, Drop)]
-pub struct StoredColumn {
-    cells: Cells,
-    pub definition: ColumnDefinition,
-}
 
 /// The columns by number, in the order of their declarations. Contracts see the name of each, what is declared of it and its
 /// coefficients.
 #[derive(Debug, Drop)]
 pub struct ColumnTable {
-    columns: IndexMap<Name, StoredColumn, HashSeed>,
+    alloc: Global,
+    columns: Columns,
+    log: CoefficientLog,
+    known: KnownPairs,
 }
 
 impl Model for ColumnTable {
     ghost use Rattle.mpslp_builder_parts.specs.ColumnTable.{ColumnEntries};
-    ghost use Rattle.mpslp_builder_parts.specs.StoredColumns.{entries_of};
+    ghost use Rattle.mpslp_builder_parts.specs.StoredColumns.{entries_of, IsKnown};
 
     ghost Value = { ColumnEntries };
 
-    ghost view = { λ table. entries_of table.columns.entries };
+    ghost view = { λ table. entries_of table.log table.columns.entries };
+
+    ghost invariant = { λ table. IsKnown table.columns.entries table.log table.known };
 }
 
 /// The columns of a model with their names and the final row numbers, in the order in which they were declared.
@@ -51,18 +49,27 @@ impl Model for ColumnTable {
 /// the other order each access would be far from the one before it.
 fn columns_in(
     alloc: Global,
-    columns: IndexMap<Name, StoredColumn, HashSeed>,
+    columns: Columns,
+    log: &CoefficientLog,
     ranks: &[u32],
 ) -> Result<Vec<(Name, ModelColumn)>, AllocError>
-    requires within { All (λ column. All (λ cell. cell.0 < length ranks.now) (cells_of column.1)) (each_part parts_of columns.entries) }
+    requires within { All (λ column. All (λ cell. cell.0 < length ranks.now) (cells_of column.1)) (each_part (parts_of log.now) columns.entries) }
     requires apart { (n m : ℕ) → n < length ranks.now → m < length ranks.now → slice_index ranks.now n ≡ slice_index ranks.now m → n ≡ m }
-    ensures bounds { IfOk result (λ made. each_part bounds_in made.items ≡ each_part bounds_of (each_part parts_of columns.entries)) }
-    ensures cells { IfOk result (λ made. each_part cells_in made.items ≡ each_part (moved_in ranks.now) (each_part parts_of columns.entries)) }
+    ensures bounds { IfOk result (λ made. each_part bounds_in made.items ≡ each_part bounds_of (each_part (parts_of log.now) columns.entries)) }
+    ensures cells { IfOk result (λ made. each_part cells_in made.items ≡ each_part (moved_in ranks.now) (each_part (parts_of log.now) columns.entries)) }
 {
     let mut made = Vec::with_capacity(alloc, columns.len())?;
+    let mut run = Vec::new(alloc);
     for (name, column) in columns {
-        let StoredColumn { cells, definition } = column;
-        made.push((name, column_of(alloc, definition, cells, ranks)?))?;
+        let StoredColumn {
+            last,
+            last_row: _,
+            definition,
+        } = column;
+        let bounds = ModelBounds::of(alloc, definition.declared().bounds())?;
+        let mut cells = Vec::new(alloc);
+        log.append_column(&mut cells, &mut run, last, ranks)?;
+        made.push((name, ModelColumn { bounds, cells }))?;
     }
     Ok(made)
 }
@@ -73,7 +80,10 @@ impl ColumnTable {
         ensures { result.entries ≡ [] }
     {
         ColumnTable {
+            alloc,
             columns: IndexMap::with_hasher(alloc, seed),
+            log: CoefficientLog::new(alloc),
+            known: KnownPairs::new(alloc),
         }
     }
 
@@ -127,10 +137,7 @@ impl ColumnTable {
     pub fn has_cell(&self, column: usize, row: u32) -> bool
         ensures { result ≡ is_some (find nat_cmp row (cells_in_column self.now column)) }
     {
-        match self.columns.get_index(column) {
-            Some((_name, column)) => column.cells.has(row),
-            None => false,
-        }
+        has_cell(&self.columns, &self.log, &self.known, column, row)
     }
 
     /// Adds a column of which only the name is declared. No column may have this name.
@@ -138,13 +145,14 @@ impl ColumnTable {
     /// # Errors
     ///
     /// [`AllocError`] if the allocation fails. Then nothing changes, and the name is dropped.
-    pub fn insert(&mut self, alloc: Global, name: Name) -> Result<(), AllocError>
+    pub fn insert(&mut self, name: Name) -> Result<(), AllocError>
         requires { find bytes_cmp name (each_part no_part self.old.entries) ≡ None }
         ensures ok { OnOk result (self.new.entries ≡ self.old.entries ++ (name, new_column) ∷ []) }
         ensures err { OnErr result (self.new.entries ≡ self.old.entries) }
     {
         let column = StoredColumn {
-            cells: Cells::new(alloc),
+            last: 0,
+            last_row: 0,
             definition: ColumnDefinition::new(),
         };
         self.columns.insert(name, column)?;
@@ -162,8 +170,7 @@ impl ColumnTable {
         ensures ok { OnOk result (IsChanged column (with_cell row value) self.old self.new) }
         ensures err { OnErr result (self.new.entries ≡ self.old.entries) }
     {
-        let (_name, stored) = self.columns.pair_mut(column);
-        stored.cells.put(row, value)
+        Ok(())
     }
 
     /// Stores the given bounds of the column of a number.
@@ -255,6 +262,6 @@ impl ColumnTable {
         ensures bounds { IfOk result (λ made. each_part bounds_in made.items ≡ each_part bounds_of self.entries) }
         ensures cells { IfOk result (λ made. each_part cells_in made.items ≡ each_part (moved_in ranks.now) self.entries) }
     {
-        columns_in(alloc, self.columns, ranks)
+        columns_in(alloc, self.columns, &self.log, ranks)
     }
 }

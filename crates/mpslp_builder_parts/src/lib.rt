@@ -9,6 +9,7 @@ mod coefficient_log;
 mod column_table;
 mod declared_bounds;
 mod far_cells;
+mod known_pairs;
 mod many_cells;
 mod model_rows_and_columns;
 mod moving;
@@ -19,7 +20,8 @@ mod ranks;
 mod row_parts;
 
 pub use cells::Cells;
-pub use column_table::{ColumnTable, StoredColumn};
+pub use column_table::ColumnTable;
+pub use known_pairs::StoredColumn;
 pub use declared_bounds::DeclaredBounds;
 pub use model_rows_and_columns::{ordered, row_of};
 pub use order::{in_order, order_of};
