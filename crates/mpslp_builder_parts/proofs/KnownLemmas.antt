@@ -18,7 +18,7 @@ alike n m = elim (eq_by_cmp nat_cmp n m) as (λ b. eq_by_cmp nat_cmp n m ≡ b �
   | false ↦ λ apart. inr (λ same. let tie = number_tied n m same in cc)
 ] refl
 
-module _ (log : LogEntries) (last row : ℕ → ℕ) (stamps : List ℕ) (is : IsLog log) (within : (i : ℕ) → last i ≤ length log.cells)
+module _ (log : LogEntries) (last : ℕ → ℕ) (is : IsLog log) (within : (i : ℕ) → last i ≤ length log.cells)
     (i r : ℕ) (v : Number) (last_too : ℕ → ℕ) (here : last_too i ≡ suc (length log.cells)) (there : (j : ℕ) → (j ≡ i → ⊥) → last_too j ≡ last j) where
   abbrev after : LogEntries
   after = logged log (last i) (r, v)
@@ -57,6 +57,17 @@ module _ (log : LogEntries) (last row : ℕ → ℕ) (stamps : List ℕ) (is : I
     | inr other ↦ other_column j q other ∙ had
   ]
 
+  -- the set with one more pair is that of all pairs
+  pub pair_late : (old new : ℕ → ℕ → Bool) → new i r ≡ true → ((j q : ℕ) → q < 4294967296 → (j ≡ i → q ≡ r → ⊥) → new j q ≡ old j q)
+      → ((j q : ℕ) → q < 4294967296 → old j q ≡ has_pair log last j q) → (j q : ℕ) → q < 4294967296 → new j q ≡ has_pair after last_too j q
+  pair_late old new here_too others all j q few = elim (alike j i) [
+    | inl column ↦ elim (alike q r) [
+      | inl same ↦ (λ d. new (column d) (same d)) ∙ here_too ∙ sym ((λ d. has_pair after last_too (column d) (same d)) ∙ own_pair)
+      | inr apart ↦ others j q few (λ _ tie. apart tie) ∙ all j q few ∙ sym (row_apart j q apart)
+    ]
+    | inr other ↦ others j q few (λ tie _. other tie) ∙ all j q few ∙ sym (other_column j q other)
+  ]
+
 opened : (after : Option ℕ) (n q : ℕ) → after ≡ Some n → after ≡ Some q → q ≡ n
 opened after n q is here = cc
 
@@ -72,16 +83,16 @@ module _ (log : LogEntries) (last row : ℕ → ℕ) (stamps : List ℕ) (open_r
   late = has_pair (logged log (last i) (r, v)) last_too
 
   own_late : late i r ≡ true
-  own_late = own_pair log last row stamps k.log k.within i r v last_too here there
+  own_late = own_pair log last k.log k.within i r v last_too here there
 
   other_late : (j q : ℕ) → (q ≡ r → ⊥) → late j q ≡ has_pair log last j q
-  other_late = row_apart log last row stamps k.log k.within i r v last_too here there
+  other_late = row_apart log last k.log k.within i r v last_too here there
 
   column_late : (j q : ℕ) → (j ≡ i → ⊥) → late j q ≡ has_pair log last j q
-  column_late = other_column log last row stamps k.log k.within i r v last_too here there
+  column_late = other_column log last k.log k.within i r v last_too here there
 
   kept_late : (j q : ℕ) → has_pair log last j q ≡ true → late j q ≡ true
-  kept_late = more log last row stamps k.log k.within i r v last_too here there
+  kept_late = more log last k.log k.within i r v last_too here there
 
   within_late : (j : ℕ) → last_too j ≤ length (log.cells ++ (r, v) ∷ [])
   within_late j = let long = length-append log.cells ((r, v) ∷ []) in elim (alike j i) [
@@ -99,8 +110,8 @@ module _ (log : LogEntries) (last row : ℕ → ℕ) (stamps : List ℕ) (open_r
   once_late : (j : ℕ) → IsOnceBy nat_cmp (chain (logged log (last i) (r, v)) (last_too j))
   once_late j = elim (alike j i) [
     | inl same ↦ subst (λ es. IsOnceBy nat_cmp es) (sym (ap (λ j. chain (logged log (last i) (r, v)) (last_too j)) same
-        ∙ own_chain log last row stamps k.log k.within i r v last_too here there)) (none_before, k.once i)
-    | inr apart ↦ subst (λ es. IsOnceBy nat_cmp es) (sym (other_chain log last row stamps k.log k.within i r v last_too here there j apart)) (k.once j)
+        ∙ own_chain log last k.log k.within i r v last_too here there)) (none_before, k.once i)
+    | inr apart ↦ subst (λ es. IsOnceBy nat_cmp es) (sym (other_chain log last k.log k.within i r v last_too here there j apart)) (k.once j)
   ]
 
   own_row : (j : ℕ) → 0 < last_too j → late j (row_too j) ≡ true

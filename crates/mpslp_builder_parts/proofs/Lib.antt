@@ -5,4 +5,5 @@ pub mod PassLemmas
 pub mod TakenLemmas
 pub mod LogLemmas
 pub mod KnownLemmas
+pub mod TableLemmas
 pub mod ColumnLemmas

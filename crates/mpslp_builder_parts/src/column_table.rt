@@ -13,7 +13,9 @@ ghost use Rattle.mpslp_builder_parts.specs.ColumnTable.{name_in, cells_in_column
 ghost use Rattle.mpslp_builder_parts.specs.StoredColumns.{parts_of, definition_of_stored};
 
 use crate::coefficient_log::CoefficientLog;
-use crate::known_pairs::{Columns, KnownPairs, StoredColumn, has_cell};
+use crate::known_pairs::{
+    Columns, KnownPairs, MOST_COLUMNS, StoredColumn, forget_pairs, has_cell, last_of, note, prepare, put_known, set_last,
+};
 use crate::parts::ColumnDefinition;
 use indexmap::IndexMap;
 use mpslp_decimal::Decimal;
@@ -163,13 +165,29 @@ impl ColumnTable {
     ///
     /// # Errors
     ///
-    /// [`AllocError`] if the allocation fails. Then nothing changes.
+    /// [`AllocError`] if the allocation fails, for a column of number 4,294,967,295 or more, or for as many coefficients: their
+    /// places would not fit. Then nothing changes.
     pub fn put_cell(&mut self, column: usize, row: u32, value: Decimal) -> Result<(), AllocError>
         requires column { is_some (name_in self.old column) ≡ true }
         requires absent { find nat_cmp row (cells_in_column self.old column) ≡ None }
         ensures ok { OnOk result (IsChanged column (with_cell row value) self.old self.new) }
         ensures err { OnErr result (self.new.entries ≡ self.old.entries) }
     {
+        if column >= MOST_COLUMNS {
+            return Err(AllocError);
+        }
+        prepare(self.alloc, &self.columns, &self.log, &mut self.known, column, row)?;
+        put_known(&mut self.known, column as u32, row)?;
+        let last = last_of(&self.columns, column);
+        let place = match self.log.push(last, row, value) {
+            Ok(place) => place,
+            Err(error) => {
+                forget_pairs(&mut self.known);
+                return Err(error);
+            }
+        };
+        note(&mut self.known, column as u32, row, last);
+        set_last(&mut self.columns, column, place, row);
         Ok(())
     }
 

@@ -4,7 +4,7 @@
 //! coefficient of a column, and the column of the last one of a row, decide whether there is a coefficient of both. For any other
 //! order of calls all pairs are put into a set.
 
-ghost use Rattle.std.specs.Prelude.{◌≡◌, ◌≢◌, ◌≤◌, ◌<◌, ◌||◌, ℕ, suc, IsTrue, OnOk, OnErr, IfOk, Some, None, true, length, slice_index, is_some};
+ghost use Rattle.std.specs.Prelude.{◌≡◌, ◌≢◌, ◌≤◌, ◌<◌, ◌||◌, ℕ, [], suc, IsTrue, OnOk, OnErr, IfOk, Some, None, true, length, slice_index, is_some};
 ghost use Rattle.std.specs.Ordering.{nat_cmp};
 ghost use Rattle.std.specs.FinMap.{find};
 ghost use Rattle.mpslp_builder_parts.specs.CoefficientLog.{chain};
@@ -60,7 +60,12 @@ fn is_number(number: &Option<u32>, other: usize) -> bool
 
 impl KnownPairs {
     /// Of no coefficients. Allocates nothing.
-    pub(crate) fn new(alloc: Global) -> KnownPairs {
+    pub(crate) fn new(alloc: Global) -> KnownPairs
+        ensures stamps { result.stamps.items ≡ [] }
+        ensures open_row { result.open_row ≡ None }
+        ensures open_column { result.open_column ≡ None }
+        ensures pairs { result.pairs ≡ None }
+    {
         KnownPairs {
             stamps: Vec::new(alloc),
             open_row: None,
@@ -258,18 +263,18 @@ fn opened(open: &Option<u32>, number: u32, had_none: bool) -> Option<u32>
     }
 }
 
-/// Notes that the last coefficient of a row is in this column. `had_none`: the column had no coefficient before.
-pub(crate) fn note(known: &mut KnownPairs, column: u32, row: u32, had_none: bool)
+/// Notes that the last coefficient of a row is in this column. `last` is the place of the one before it in the column, or 0.
+pub(crate) fn note(known: &mut KnownPairs, column: u32, row: u32, last: u32)
     requires column { column < 4294967295 }
     requires room { row < length known.old.stamps.items }
     ensures here { slice_index known.new.stamps.items row ≡ suc column }
     ensures others { (r : ℕ) → r ≢ row → slice_index known.new.stamps.items r ≡ slice_index known.old.stamps.items r }
     ensures open_row { IsOpened known.old.open_row known.new.open_row row (slice_index known.old.stamps.items row ≡ 0) }
-    ensures open_column { IsOpened known.old.open_column known.new.open_column column (had_none ≡ true) }
+    ensures open_column { IsOpened known.old.open_column known.new.open_column column (last ≡ 0) }
     ensures pairs { known.new.pairs ≡ known.old.pairs }
 {
     known.open_row = opened(&known.open_row, row, known.stamp(row) == 0);
-    known.open_column = opened(&known.open_column, column, had_none);
+    known.open_column = opened(&known.open_column, column, last == 0);
     known.stamps[row as usize] = column + 1;
 }
 

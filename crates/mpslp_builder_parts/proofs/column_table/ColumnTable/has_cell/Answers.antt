@@ -1,13 +1,9 @@
-use Rattle.std.{proofs.Common.{ap, ◌∙◌, List, ℕ}, specs.{FinMap.find, Ordering.nat_cmp, Prelude.{is_some}}}
+use Rattle.std.{proofs.Common.{ap, sym, ◌∙◌, List, ℕ}, specs.{Cmp.nat_cmp_total, FinMap.find, Ordering.nat_cmp, Option.option_map_or, Prelude.{is_some, slice_get}}}
 use Rattle.mpslp_decimal.specs.Decimal.{Number}
-use Rattle.mpslp_builder_parts.specs.{StoredColumns.parts_of}
-use Rattle.mpslp_builder_parts.proofs.ColumnLemmas.{cells_there}
+use Rattle.mpslp_builder_parts.specs.{ColumnTable.{ColumnEntries, cells_in_column}, StoredColumns.parts_of}
+use Rattle.mpslp_builder_parts.proofs.TableLemmas.{has_in_column}
 use Rattle.mpslp_builder_parts.proofs.column_table.ColumnTable.has_cell.Goals as goal
 
-pub returns-in-Some : goal.returns-in-Some
-returns-in-Some c = c.has.ensures ∙ ap (λ (cells : List (ℕ × Number)). is_some (find nat_cmp c.args.row cells)) (cells_there parts_of
-    c.self.inside.columns.entries c.args.self.now c.self.view_is c.args.column _ c.in-Some.ensures.entry)
-
-pub returns-in-None : goal.returns-in-None
-returns-in-None c = ap (λ (cells : List (ℕ × Number)). is_some (find nat_cmp c.args.row cells)) (cells_there parts_of
-    c.self.inside.columns.entries c.args.self.now c.self.view_is c.args.column _ c.in-None.ensures.entry)
+pub returns : goal.returns
+returns c = c.has_cell.ensures ∙ has_in_column c.self.inside.log c.self.inside.columns.entries c.args.column c.args.row
+    ∙ ap (λ (columns : ColumnEntries). is_some (find nat_cmp c.args.row (cells_in_column columns c.args.column))) c.self.view_is

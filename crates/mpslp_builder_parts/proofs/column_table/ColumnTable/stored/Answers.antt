@@ -5,5 +5,5 @@ use Rattle.mpslp_builder_parts.proofs.ColumnLemmas.{each_part-twice}
 use Rattle.mpslp_builder_parts.proofs.column_table.ColumnTable.stored.Goals as goal
 
 pub returns : goal.returns
-returns c = sym (each_part-twice parts_of definition_in c.self.inside.columns.entries)
+returns c = sym (each_part-twice (parts_of c.self.inside.log) definition_in c.self.inside.columns.entries)
     ∙ ap (λ (columns : ColumnEntries). each_part definition_in columns.entries) c.self.view_is
