@@ -1,6 +1,6 @@
 use Rattle.std.{proofs.Common.{◌≡◌, sym, ap, subst, ◌∙◌, ℕ, List, true}, specs.{Prelude.position, FinMap.is_sorted}}
 use Rattle.mpslp_types.specs.Name.{same_bytes, bytes_cmp}
-use Rattle.mpslp_model_core.specs.declared.model.ModelColumn.{ModelColumn}
+use Rattle.mpslp_model_core.specs.ModelColumns.{ModelColumn}
 use Rattle.mpslp_model_core.proofs.ViewLemmas.{columns_rise, column_names_seen, position-map}
 use Rattle.mpslp_model_core.proofs.model.Model.column_index.Goals as goal
 

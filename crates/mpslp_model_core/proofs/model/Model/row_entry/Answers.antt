@@ -1,6 +1,6 @@
 use Rattle.std.proofs.Common.{◌≡◌, sym, ap, subst, ◌∙◌, ℕ, ◌<◌, List, length}
 use Rattle.std.specs.{Prelude.{IsTrue, Some, slice_get}, List.list_all, Ordering.nat_cmp, FinMap.is_sorted}
-use Rattle.mpslp_model_core.specs.declared.model.ModelColumn.{ModelColumn}
+use Rattle.mpslp_model_core.specs.ModelColumns.{ModelColumn}
 use Rattle.mpslp_model_core.proofs.{ViewLemmas.{all_sorted, count_columns}, ByRowLemmas.{row_below, listed_in, columns_seen, column_below}}
 use Rattle.mpslp_model_core.proofs.ByRowLemmas.{row_seen_length, element_column, element_below, element_placed, element_value, has_list}
 use Rattle.mpslp_model_core.proofs.model.Model.row_entry.Goals as goal
@@ -25,8 +25,8 @@ entry_at-cell-requires c = element_placed c.in-Some.lists c.self.view_is (listed
 
 pub column_with-j-requires-clause-sorted : goal.column_with-j-requires-clause-sorted
 column_with-j-requires-clause-sorted c =
-    subst (λ (columns : List (List ℕ × ModelColumn)). IsTrue (list_all (λ column. is_sorted nat_cmp column.1.cells.items) columns))
-    (sym c.deref.ensures.value) (all_sorted c.self.inside.parts.columns.items c.self.invariant.parts.cells)
+    subst (λ (columns : List (List ℕ × ModelColumn)). IsTrue (list_all (λ column. is_sorted nat_cmp column.1.cells) columns))
+    (sym c.deref.ensures.value) (all_sorted c.self.inside.parts.columns c.self.invariant.parts.cells)
 
 pub column_with-j-requires-clause-element : goal.column_with-j-requires-clause-element
 column_with-j-requires-clause-element c = subst (λ (len : ℕ). c.args.k < len) (sym (ap length

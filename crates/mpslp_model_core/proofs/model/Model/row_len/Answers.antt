@@ -1,6 +1,6 @@
 use Rattle.std.proofs.Common.{sym, ap, subst, ◌∙◌, ℕ, List, length}
 use Rattle.std.specs.{Prelude.IsTrue, List.list_all, Ordering.nat_cmp, FinMap.is_sorted}
-use Rattle.mpslp_model_core.specs.declared.model.ModelColumn.{ModelColumn}
+use Rattle.mpslp_model_core.specs.ModelColumns.{ModelColumn}
 use Rattle.mpslp_model_core.proofs.{ViewLemmas.all_sorted, ByRowLemmas.{row_below, listed_in, columns_seen, row_seen_length, has_list}}
 use Rattle.mpslp_model_core.proofs.model.Model.row_len.Goals as goal
 
@@ -10,8 +10,8 @@ row_list-requires c = has_list (listed_in c.in-Some.lists c.self.invariant c.in-
 
 pub count_columns_with-requires : goal.count_columns_with-requires
 count_columns_with-requires c =
-    subst (λ (columns : List (List ℕ × ModelColumn)). IsTrue (list_all (λ column. is_sorted nat_cmp column.1.cells.items) columns))
-    (sym c.deref.ensures.value) (all_sorted c.self.inside.parts.columns.items c.self.invariant.parts.cells)
+    subst (λ (columns : List (List ℕ × ModelColumn)). IsTrue (list_all (λ column. is_sorted nat_cmp column.1.cells) columns))
+    (sym c.deref.ensures.value) (all_sorted c.self.inside.parts.columns c.self.invariant.parts.cells)
 
 pub returns-in-Some : goal.returns-in-Some
 returns-in-Some c = ap length c.row_list.ensures
