@@ -257,22 +257,25 @@ noted_all = grind (arith, take_all, columns_more)
 
 -- ---- a coefficient of a column, as a loop reads it
 
--- the cells of a column that was read at an index
-pub cells_read : (columns : List (List ℕ × ModelColumn)) (k : ℕ) (column : List ℕ × ModelColumn) → k < length columns
-    → column ≡ get_or columns k column → column.1.cells ≡ cells_of columns k
-cells_read = grind (arith, slice_get-get_or)
+within_here : (rows : ℕ) (columns : List (List ℕ × ModelColumn)) (k : ℕ) (cells : List (ℕ × Number))
+    → All (λ (c : List ℕ × ModelColumn). AreWithin rows c.1.cells) columns
+    → option_map (λ (column : List ℕ × ModelColumn). column.1.cells) (slice_get columns k) ≡ Some cells → AreWithin rows cells
+within_here rows [] k cells all at = absurd cc
+within_here rows (column ∷ columns) zero cells all at =
+    subst (λ (es : List (ℕ × Number)). AreWithin rows es) (same_Some column.1.cells cells at) (all 0 column (omega arith))
+within_here rows (column ∷ columns) (suc k) cells all at = within_here rows columns k cells (λ j d below. all (suc j) d (omega arith)) at
 
-module _ (columns : List (List ℕ × ModelColumn)) (k : ℕ) (column : List ℕ × ModelColumn) (cells : List (ℕ × Number)) (m : ℕ) (cell : ℕ × Number)
-    (below : k < length columns) (read : column ≡ get_or columns k column) (items : cells ≡ column.1.cells) (under : m < length cells)
+module _ (columns : List (List ℕ × ModelColumn)) (k : ℕ) (cells : List (ℕ × Number)) (m : ℕ) (cell : ℕ × Number)
+    (read : option_map (λ (column : List ℕ × ModelColumn). column.1.cells) (slice_get columns k) ≡ Some cells) (under : m < length cells)
     (is : cell ≡ get_or cells m cell) where
   there : cells ≡ cells_of columns k
-  there = grind (arith, cells_read)
+  there = sym (cells_found (slice_get columns k) cells read)
 
   pub cell_placed : option_map (λ (c : ℕ × Number). c.0) (slice_get (cells_of columns k) m) ≡ Some cell.0
   cell_placed = grind (arith, there, slice_get-get_or)
 
   own_order : list_all (λ (c : List ℕ × ModelColumn). is_sorted nat_cmp c.1.cells) columns ≡ true → is_sorted nat_cmp cells ≡ true
-  own_order = grind (arith, all_at, slice_get-get_or)
+  own_order rise = cells_rise columns k cells rise read
 
   -- so the index has 32 bits if the number has
   pub cell_index : list_all (λ (c : List ℕ × ModelColumn). is_sorted nat_cmp c.1.cells) columns ≡ true → m ≤ cell.0
@@ -283,13 +286,13 @@ module _ (columns : List (List ℕ × ModelColumn)) (k : ℕ) (column : List ℕ
   cell_noted = grind (arith, there, own_order, noted_more, once-sorted, nat_cmp_total)
 
   pub cell_within : (rows : ℕ) → All (λ (c : List ℕ × ModelColumn). AreWithin rows c.1.cells) columns → cell.0 ≤ rows
-  cell_within = grind arith
+  cell_within rows within = grind (arith, within_here rows columns k cells within read)
 
 -- a column whose coefficients are all noted
-pub column_noted : (columns : List (List ℕ × ModelColumn)) (k : ℕ) (column : List ℕ × ModelColumn) (cells : List (ℕ × Number)) (m : ℕ)
-    → k < length columns → column ≡ get_or columns k column → cells ≡ column.1.cells → length cells ≡ m → (i : ℕ)
+pub column_noted : (columns : List (List ℕ × ModelColumn)) (k : ℕ) (cells : List (ℕ × Number)) (m : ℕ)
+    → option_map (λ (column : List ℕ × ModelColumn). column.1.cells) (slice_get columns k) ≡ Some cells → length cells ≡ m → (i : ℕ)
     → noted columns k m i ≡ columns_with columns (suc i) (k + 1)
-column_noted = grind (arith, cells_read, noted_all)
+column_noted columns k cells m read = grind (arith, cells_found (slice_get columns k) cells read, noted_all)
 
 -- ---- how long the lists are
 
