@@ -18,7 +18,7 @@ use Rattle.mpslp_model_core.specs.declared.by_row.{RowElement.RowElement, RowLis
 use Rattle.mpslp_model_core.specs.{ModelColumns.ModelColumn, declared.{model.ModelParts.ModelParts, row_names.RowNames.RowNames}}
 use Rattle.mpslp_model_core.proofs.CellLemmas.{number_same, once-sorted, number_tied, or_else, find-two}
 use Rattle.mpslp_model_core.proofs.ViewLemmas.{slice_get-part, all_at, found_by, rows_seen, count_seen, count_columns, row_numbered}
-use Rattle.mpslp_model_core.proofs.ViewLemmas.{cells_seen, cells_here, found_seen, value_seen, index_within}
+use Rattle.mpslp_model_core.proofs.ViewLemmas.{cells_seen, found_seen, value_seen, index_within}
 
 -- ---- the lists of columns by rows, and the model
 
@@ -77,21 +77,21 @@ pub listed_in : {m : ModelParts} {made : Option RowLists} {names : RowNames} (li
 listed_in = grind arith
 
 -- the columns with a coefficient in a row, and those of the row in the model
-pub columns_seen : {m : ModelParts} {v : LinearModel} (columns : List (List ℕ × ModelColumn)) → columns ≡ m.columns → linear_model m
-    ≡ v → AreModelParts m → (i : ℕ) → i < num_rows v → columns_with columns (suc i) (length columns) ≡ row_columns v (row_name v i)
-columns_seen {m} {v} columns same seen parts i below = let own = m.columns in let row = row_name v i in let n = num_columns v in
+pub columns_seen : {m : ModelParts} {v : LinearModel} → linear_model m ≡ v → AreModelParts m → (i : ℕ) → i < num_rows v
+    → columns_with m.columns (suc i) (length m.columns) ≡ row_columns v (row_name v i)
+columns_seen {m} {v} seen parts i below = let own = m.columns in let row = row_name v i in let n = num_columns v in
     let as_many : length own ≡ n = count_columns seen parts in let alike : (j : ℕ) → j < n
     → has_number (suc i) (cells_of own j) ≡ has_coefficient v row (column_name v j) = (λ j under. let cells = cells_of own j in
     let there = cells_seen m parts v seen j cells (cells_there own j (subst (λ (len : ℕ). j < len) (sym as_many) under)) in
-    ap is_some (sym (found_seen m parts v seen j cells there (suc i) row (row_numbered seen parts i below)))) in ap
-    (λ (cs : List (List ℕ × ModelColumn)). columns_with cs (suc i) (length cs)) same ∙ ap (columns_with own (suc i)) as_many ∙ filter_alike
+    ap is_some (sym (found_seen m parts v seen j cells there (suc i) row (row_numbered seen parts i below)))) in
+    ap (columns_with own (suc i)) as_many ∙ filter_alike
     (λ j. has_number (suc i) (cells_of own j)) (λ j. has_coefficient v row (column_name v j)) (range_with_len 0 n) (all_below _ n alike)
 
 -- the list of a row, and its columns in the model
 pub row_seen : {m : ModelParts} {v : LinearModel} (lists : RowLists) → linear_model m ≡ v → AreListed m lists → (i : ℕ) → i < num_rows v
     → map (λ (element : RowElement). element.column) (list_at lists i) ≡ row_columns v (row_name v i)
 row_seen {m} {v} lists seen are i below = are.by_row.own i (row_below seen are.parts i below)
-    ∙ columns_seen m.columns refl seen are.parts i below
+    ∙ columns_seen seen are.parts i below
 
 pub row_seen_length : {m : ModelParts} {v : LinearModel} (lists : RowLists) → linear_model m ≡ v → AreListed m lists → (i : ℕ)
     → i < num_rows v → length (list_at lists i) ≡ length (row_columns v (row_name v i))
@@ -184,7 +184,7 @@ module _ {m : ModelParts} {v : LinearModel} (lists : RowLists) (seen : linear_mo
   element_below = column_below v i k element.column element_column
 
   -- its coefficient is at its place in its column
-  module _ (columns : List (List ℕ × ModelColumn)) (cells : List (ℕ × Number)) (same : columns ≡ m.columns) (at : option_map (λ (column : List ℕ × ModelColumn). column.1.cells) (slice_get columns element.column) ≡ Some cells) where
+  module _ (cells : List (ℕ × Number)) (at : option_map (λ (column : List ℕ × ModelColumn). column.1.cells) (slice_get m.columns element.column) ≡ Some cells) where
     number_placed : option_map (λ (cell : ℕ × Number). cell.0) (slice_get cells element.place) ≡ Some (suc i)
     number_placed =
         grind (
@@ -192,7 +192,7 @@ module _ {m : ModelParts} {v : LinearModel} (lists : RowLists) (seen : linear_mo
           row_below seen are.parts i below,
           get_or_from_slice_get (list_at lists i) k element element is,
           slice_get_within (list_at lists i) k element is,
-          cells_found (slice_get columns element.column) cells at,
+          cells_found (slice_get m.columns element.column) cells at,
         )
 
     pub element_placed : element.place < length cells
@@ -202,7 +202,7 @@ module _ {m : ModelParts} {v : LinearModel} (lists : RowLists) (seen : linear_mo
         → cell.1 ≡ coefficient_at v (row_name v i) (column_name v element.column)
     element_value cell there =
         let number : cell.0 ≡ suc i = same_Some cell.0 (suc i) (ap (option_map (λ (c : ℕ × Number). c.0)) (sym there) ∙ number_placed) in
-        let own_cells = cells_here m are.parts v seen element.column columns cells same at in
+        let own_cells = cells_seen m are.parts v seen element.column cells at in
         ap (λ (o : Option Number). unwrap_or o zero_number) (sym (found_by nat_cmp nat_cmp_total number_same cells element.place cell
         (once-sorted nat_cmp nat_cmp_total cells own_cells.sorted) there) ∙ ap (λ (n : ℕ). find nat_cmp n cells) number)
         ∙ value_seen m are.parts v seen element.column cells own_cells (suc i) (row_name v i) (row_numbered seen are.parts i below)

@@ -1,5 +1,5 @@
 -- The columns of a model, with the coefficients of all of them in one vector: what is read of them.
-use Rattle.std.proofs.Common.{◌≡◌, refl, sym, ap, ◌∙◌, ℕ, zero, suc, ◌+◌, ◌<◌, List, [], ◌∷◌, length, drop, arith, subst, Bool, true, false, add-one}
+use Rattle.std.proofs.Common.{◌≡◌, refl, sym, ap, ◌∙◌, ℕ, zero, suc, ◌+◌, List, [], ◌∷◌, length, drop, arith, subst, Bool, true, false, add-one}
 use Rattle.std.specs.{Prelude.{Some, None, slice_get, position, ◌&&◌}, Cmp.Lexicographic.pointwise, List.All, Option.option_map, FinMap.is_sorted}
 use Rattle.std.proofs.lemmas.Option.{same_Some, slice_get_within, get_or_from_slice_get}
 use Rattle.mpslp_decimal.specs.Decimal.{Number}

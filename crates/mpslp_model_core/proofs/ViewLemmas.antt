@@ -447,9 +447,14 @@ pub entry_seen : {X Y : Type 0} {es items : List (List ℕ × X)} (f : List ℕ 
     → slice_get items i ≡ Some e → slice_get (map f es) i ≡ Some (f e)
 entry_seen = grind (arith, at, slice_get-map)
 
+-- what is read of a column by its number
+pub column_read : {Y : Type 0} {m : ModelParts} {v : LinearModel} (f : List ℕ × Column → Y) (j : ℕ) → linear_model m ≡ v → AreModelParts m
+    → slice_get (map f (maps.entries v.columns)) j ≡ option_map (λ (e : List ℕ × ModelColumn). f (e.0, e.1.bounds)) (slice_get m.columns j)
+column_read {Y} {m} f j seen parts = grind (arith, columns_seen seen parts, slice_get-map, slice_get-part bounds_in m.columns j)
+
 pub column_seen : {Y : Type 0} {m : ModelParts} {v : LinearModel} (f : List ℕ × Column → Y) (j : ℕ) {e : List ℕ × ModelColumn} → linear_model m ≡ v
     → AreModelParts m → slice_get m.columns j ≡ Some e → slice_get (map f (maps.entries v.columns)) j ≡ Some (f (e.0, e.1.bounds))
-column_seen {Y} {m} f j seen parts at = grind (arith, entry_seen, columns_seen seen parts, slice_get-part bounds_in m.columns j, at)
+column_seen f j seen parts at = column_read f j seen parts ∙ ap (option_map (λ (e : List ℕ × ModelColumn). f (e.0, e.1.bounds))) at
 
 position_or_len-map : {X Y : Type 0} (p : Y → Bool) (f : X → Y) (xs : List X) → position_or_len p (map f xs) ≡ position_or_len (λ x. p (f x)) xs
 position_or_len-map p f [] = refl
@@ -524,12 +529,6 @@ module _ (m : ModelParts) (parts : AreModelParts m) where
               named = all_at (λ c. list_all (λ d. is_some (name_of_row_key m d.0)) c.1) (cells_by_name m) j (e.0, cells) parts.named entry;
             }
       ] refl at
-
-  -- the same for a slice of the columns
-  pub cells_here : (v : LinearModel) → linear_model m ≡ v → (j : ℕ) (columns : List (List ℕ × ModelColumn)) (cells : List (ℕ × Number))
-      → columns ≡ m.columns → option_map (λ (column : List ℕ × ModelColumn). column.1.cells) (slice_get columns j) ≡ Some cells
-      → AreCellsAt v j cells
-  cells_here v seen j columns cells same at = grind (arith, cells_seen v seen j cells, at)
 
   -- what is found by the number of a row
   pub found_seen : (v : LinearModel) → linear_model m ≡ v → (j : ℕ) (cells : List (ℕ × Number)) → AreCellsAt v j cells → (n : ℕ) (r : List

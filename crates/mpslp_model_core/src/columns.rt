@@ -3,9 +3,8 @@
 //! The objective has the number 0, so its coefficient comes first, if a column has one. The row at index `i` has the number
 //! `i + 1` here.
 
-ghost use Rattle.std.specs.Prelude.{◌≡◌, ◌<◌, ◌&&◌, ◌+◌, IsTrue, Some, length, suc, unwrap_or, slice_get};
+ghost use Rattle.std.specs.Prelude.{◌≡◌, ◌<◌, ◌&&◌, ◌+◌, IsTrue, Some, length, suc, unwrap_or};
 ghost use Rattle.std.specs.List.{list_all};
-ghost use Rattle.std.specs.Option.{option_copied, option_map};
 ghost use Rattle.std.specs.Ordering.{nat_cmp};
 ghost use Rattle.std.specs.FinMap.{find, is_sorted};
 ghost use Rattle.std.specs.Cmp.Lexicographic.{pointwise};
@@ -17,8 +16,7 @@ ghost use Rattle.mpslp_model_core.specs.Columned.{row_cells, count_row_cells, co
 use crate::model_columns::ModelColumns;
 use crate::sides::is_same_number;
 use mpslp_decimal::{Decimal, PackedDecimal};
-use mpslp_maps::{Query, entry_at, find_entry};
-use mpslp_types::Name;
+use mpslp_maps::{Query, find_entry};
 use std::cmp::Ordering;
 
 /// The index of a row in the model. It may exceed the row numbers of all coefficients.

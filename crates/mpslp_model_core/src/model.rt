@@ -16,8 +16,7 @@ use crate::by_row::{
     RowLists, column_with, count_columns_with, element_at, elements_by_row, row_list,
 };
 use crate::columns::{
-    count_elements, index_of_row_number, objective_value, row_cells, same_columns,
-    value_at,
+    count_elements, index_of_row_number, objective_value, row_cells, same_columns, value_at,
 };
 use crate::iterators::{ColumnEntries, Columns, Rows};
 use crate::model_columns::ModelColumns;
@@ -25,8 +24,8 @@ use crate::model_row::ModelRow;
 use crate::row_entries::RowEntries;
 use crate::row_names::{RowNames, name_at, names_of};
 use crate::sides::{ColumnBounds, RowLimits};
-use mpslp_decimal::laws::each_value_is_a_decimal;
 use mpslp_decimal::Decimal;
+use mpslp_decimal::laws::each_value_is_a_decimal;
 use mpslp_maps::{entry_at, find_index};
 use mpslp_types::{Kind, Limit, Name, Sense};
 use std::alloc::{AllocError, Global};

@@ -32,8 +32,8 @@ pub struct ColumnSpan {
 /// The columns of a model in byte order of their names, with the coefficients of all of them in one vector. So there is no
 /// allocation for each column, and coefficients that are read one after another are next to one another.
 ///
-/// Contracts see a list of names, each with the column's type and bounds, and its nonzero coefficients in the order of their row
-/// numbers. The objective has the number 0, and the row at index `i` has `i + 1` here.
+/// Contracts see the list of the columns' names, each with the type and bounds of its column, and its coefficients by row number.
+/// The objective has the number 0, and the row at index `i` has `i + 1` here.
 #[derive(Debug, Drop)]
 pub struct ModelColumns {
     columns: Vec<(Name, ColumnSpan)>,

@@ -1,6 +1,6 @@
-use Rattle.std.{proofs.Common.{◌≡◌, sym, ap, ◌∙◌, true, false, Bool}, specs.{Prelude.{Some, ◌&&◌}, Cmp.Lexicographic.pointwise}}
+use Rattle.std.{proofs.Common.{◌≡◌, sym, ap, ◌∙◌, true, Bool}, specs.{Prelude.{Some, ◌&&◌}}}
 use Rattle.mpslp_types.specs.Name.{same_bytes}
-use Rattle.mpslp_model_core.{specs.Same.{same_cell, same_column}, proofs.ColumnLemmas.{IsColumnAt, same_here, other_name, other_bounds}}
+use Rattle.mpslp_model_core.{specs.Same.{same_column}, proofs.ColumnLemmas.{same_here, other_name, other_bounds}}
 use Rattle.mpslp_model_core.proofs.columns.is_same_column.Goals as goal
 
 pub returns-then-eq-2 : goal.returns-then-eq-2

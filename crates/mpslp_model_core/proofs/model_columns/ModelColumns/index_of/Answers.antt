@@ -1,4 +1,4 @@
-use Rattle.std.{proofs.Common.{◌≡◌, sym, ap, subst, ◌∙◌, ℕ, List, true}, specs.{Prelude.position, FinMap.is_sorted}}
+use Rattle.std.{proofs.Common.{sym, ap, ◌∙◌, ℕ, List}, specs.{Prelude.position, FinMap.is_sorted}}
 use Rattle.mpslp_types.specs.Name.{same_bytes, bytes_cmp}
 use Rattle.mpslp_model_core.specs.{ModelColumns.ModelColumn, declared.model_columns.ColumnSpan.ColumnSpan}
 use Rattle.mpslp_model_core.proofs.ColumnLemmas.{is_sorted-columns_of, position-columns_of}
