@@ -15,10 +15,10 @@ use Rattle.mpslp_model_core.specs.{Views.coefficient_at, Numbered.{name_of, IsOn
 use Rattle.mpslp_model_core.specs.ByRow.{list_at, column_if, has_number, cells_of, columns_with, AreIndexed, AreListed, HasList, AreWithin}
 use Rattle.mpslp_model_core.specs.ByRow.{HasCounted, AreCounts, start_of, IsPlaced, AreByRow}
 use Rattle.mpslp_model_core.specs.declared.by_row.{RowElement.RowElement, RowLists.RowLists}
-use Rattle.mpslp_model_core.specs.declared.{model.{ModelColumn.ModelColumn, ModelParts.ModelParts}, row_names.RowNames.RowNames}
+use Rattle.mpslp_model_core.specs.{ModelColumns.ModelColumn, declared.{model.ModelParts.ModelParts, row_names.RowNames.RowNames}}
 use Rattle.mpslp_model_core.proofs.CellLemmas.{number_same, once-sorted, number_tied, or_else, find-two}
 use Rattle.mpslp_model_core.proofs.ViewLemmas.{slice_get-part, all_at, found_by, rows_seen, count_seen, count_columns, row_numbered}
-use Rattle.mpslp_model_core.proofs.ViewLemmas.{cells_seen, cells_here, found_seen, value_seen, index_within}
+use Rattle.mpslp_model_core.proofs.ViewLemmas.{cells_seen, found_seen, value_seen, index_within}
 
 -- ---- the lists of columns by rows, and the model
 
@@ -38,7 +38,7 @@ columns_more = grind (arith, range_more, filter-append, one_filtered)
 -- ---- the lists and the model
 
 cells_there : (columns : List (List ℕ × ModelColumn)) (j : ℕ) → j < length columns
-    → option_map (λ (column : List ℕ × ModelColumn). column.1.cells.items) (slice_get columns j) ≡ Some (cells_of columns j)
+    → option_map (λ (column : List ℕ × ModelColumn). column.1.cells) (slice_get columns j) ≡ Some (cells_of columns j)
 cells_there [] j below = absurd (omega arith)
 cells_there (c ∷ columns) zero below = refl
 cells_there (c ∷ columns) (suc j) below = cells_there columns j (omega arith)
@@ -77,21 +77,21 @@ pub listed_in : {m : ModelParts} {made : Option RowLists} {names : RowNames} (li
 listed_in = grind arith
 
 -- the columns with a coefficient in a row, and those of the row in the model
-pub columns_seen : {m : ModelParts} {v : LinearModel} (columns : List (List ℕ × ModelColumn)) → columns ≡ m.columns.items → linear_model m
-    ≡ v → AreModelParts m → (i : ℕ) → i < num_rows v → columns_with columns (suc i) (length columns) ≡ row_columns v (row_name v i)
-columns_seen {m} {v} columns same seen parts i below = let own = m.columns.items in let row = row_name v i in let n = num_columns v in
+pub columns_seen : {m : ModelParts} {v : LinearModel} → linear_model m ≡ v → AreModelParts m → (i : ℕ) → i < num_rows v
+    → columns_with m.columns (suc i) (length m.columns) ≡ row_columns v (row_name v i)
+columns_seen {m} {v} seen parts i below = let own = m.columns in let row = row_name v i in let n = num_columns v in
     let as_many : length own ≡ n = count_columns seen parts in let alike : (j : ℕ) → j < n
     → has_number (suc i) (cells_of own j) ≡ has_coefficient v row (column_name v j) = (λ j under. let cells = cells_of own j in
     let there = cells_seen m parts v seen j cells (cells_there own j (subst (λ (len : ℕ). j < len) (sym as_many) under)) in
-    ap is_some (sym (found_seen m parts v seen j cells there (suc i) row (row_numbered seen parts i below)))) in ap
-    (λ (cs : List (List ℕ × ModelColumn)). columns_with cs (suc i) (length cs)) same ∙ ap (columns_with own (suc i)) as_many ∙ filter_alike
+    ap is_some (sym (found_seen m parts v seen j cells there (suc i) row (row_numbered seen parts i below)))) in
+    ap (columns_with own (suc i)) as_many ∙ filter_alike
     (λ j. has_number (suc i) (cells_of own j)) (λ j. has_coefficient v row (column_name v j)) (range_with_len 0 n) (all_below _ n alike)
 
 -- the list of a row, and its columns in the model
 pub row_seen : {m : ModelParts} {v : LinearModel} (lists : RowLists) → linear_model m ≡ v → AreListed m lists → (i : ℕ) → i < num_rows v
     → map (λ (element : RowElement). element.column) (list_at lists i) ≡ row_columns v (row_name v i)
 row_seen {m} {v} lists seen are i below = are.by_row.own i (row_below seen are.parts i below)
-    ∙ columns_seen m.columns.items refl seen are.parts i below
+    ∙ columns_seen seen are.parts i below
 
 pub row_seen_length : {m : ModelParts} {v : LinearModel} (lists : RowLists) → linear_model m ≡ v → AreListed m lists → (i : ℕ)
     → i < num_rows v → length (list_at lists i) ≡ length (row_columns v (row_name v i))
@@ -101,7 +101,7 @@ row_seen_length lists seen are i below = sym (length-map (list_at lists i) (λ (
 -- ---- a coefficient of a row
 
 cells_found : (o : Option (List ℕ × ModelColumn)) (cells : List (ℕ × Number)) → option_map (λ (column : List ℕ × ModelColumn).
-    column.1.cells.items) o ≡ Some cells → option_map_or (λ (column : List ℕ × ModelColumn). column.1.cells.items) o [] ≡ cells
+    column.1.cells) o ≡ Some cells → option_map_or (λ (column : List ℕ × ModelColumn). column.1.cells) o [] ≡ cells
 cells_found = grind arith
 
 placed_within : (cells : List (ℕ × Number)) (p n : ℕ) → option_map (λ (cell : ℕ × Number). cell.0) (slice_get cells p) ≡ Some n → p < length cells
@@ -113,25 +113,25 @@ placed_within (cell ∷ cells) (suc p) n at = grind (arith, placed_within cells 
 
 -- one more column, whose coefficients these are
 pub columns_next : (columns : List (List ℕ × ModelColumn)) (n count : ℕ) (cells : List (ℕ × Number))
-    → option_map (λ (column : List ℕ × ModelColumn). column.1.cells.items) (slice_get columns count) ≡ Some cells
+    → option_map (λ (column : List ℕ × ModelColumn). column.1.cells) (slice_get columns count) ≡ Some cells
     → columns_with columns n (count + 1) ≡ columns_with columns n count ++ column_if (has_number n cells) count
 columns_next = grind (arith, columns_more, cells_found)
 
 -- a column without a coefficient adds nothing
 pub columns_without : (columns : List (List ℕ × ModelColumn)) (n count : ℕ) (cells : List (ℕ × Number))
-    → option_map (λ (column : List ℕ × ModelColumn). column.1.cells.items) (slice_get columns count) ≡ Some cells
+    → option_map (λ (column : List ℕ × ModelColumn). column.1.cells) (slice_get columns count) ≡ Some cells
     → has_number n cells ≡ false → columns_with columns n (count + 1) ≡ columns_with columns n count
 columns_without columns n count cells at none = grind (arith, columns_next columns n count cells at, append-nil (columns_with columns n count))
 
 -- and one with a coefficient adds itself
 pub columns_and : (columns : List (List ℕ × ModelColumn)) (n count : ℕ) (cells : List (ℕ × Number))
-    → option_map (λ (column : List ℕ × ModelColumn). column.1.cells.items) (slice_get columns count) ≡ Some cells
+    → option_map (λ (column : List ℕ × ModelColumn). column.1.cells) (slice_get columns count) ≡ Some cells
     → has_number n cells ≡ true → columns_with columns n (count + 1) ≡ columns_with columns n count ++ count ∷ []
 columns_and columns n count cells at one = grind (arith, columns_next columns n count cells at)
 
 pub cells_rise : (columns : List (List ℕ × ModelColumn)) (j : ℕ) (cells : List (ℕ × Number))
-    → list_all (λ column. is_sorted nat_cmp column.1.cells.items) columns ≡ true → option_map
-    (λ (column : List ℕ × ModelColumn). column.1.cells.items) (slice_get columns j) ≡ Some cells → is_sorted nat_cmp cells ≡ true
+    → list_all (λ column. is_sorted nat_cmp column.1.cells) columns ≡ true → option_map
+    (λ (column : List ℕ × ModelColumn). column.1.cells) (slice_get columns j) ≡ Some cells → is_sorted nat_cmp cells ≡ true
 cells_rise [] j cells rise at = absurd cc
 cells_rise (column ∷ columns) zero cells rise at = grind arith
 cells_rise (column ∷ columns) (suc j) cells rise at = grind (arith, cells_rise columns j cells)
@@ -159,7 +159,7 @@ kept_after columns n count k j (suc more) at =
 
 -- a column with a coefficient is listed where as many come before it
 pub column_listed : (columns : List (List ℕ × ModelColumn)) (n j k : ℕ) (cells : List (ℕ × Number))
-    → option_map (λ (column : List ℕ × ModelColumn). column.1.cells.items) (slice_get columns j) ≡ Some cells → has_number n cells ≡ true
+    → option_map (λ (column : List ℕ × ModelColumn). column.1.cells) (slice_get columns j) ≡ Some cells → has_number n cells ≡ true
     → k ≡ length (columns_with columns n j) → j < length columns → slice_get (columns_with columns n (length columns)) k ≡ Some j
 column_listed columns n j k cells at one place below =
     grind (
@@ -184,7 +184,7 @@ module _ {m : ModelParts} {v : LinearModel} (lists : RowLists) (seen : linear_mo
   element_below = column_below v i k element.column element_column
 
   -- its coefficient is at its place in its column
-  module _ (columns : List (List ℕ × ModelColumn)) (cells : List (ℕ × Number)) (same : columns ≡ m.columns.items) (at : option_map (λ (column : List ℕ × ModelColumn). column.1.cells.items) (slice_get columns element.column) ≡ Some cells) where
+  module _ (cells : List (ℕ × Number)) (at : option_map (λ (column : List ℕ × ModelColumn). column.1.cells) (slice_get m.columns element.column) ≡ Some cells) where
     number_placed : option_map (λ (cell : ℕ × Number). cell.0) (slice_get cells element.place) ≡ Some (suc i)
     number_placed =
         grind (
@@ -192,7 +192,7 @@ module _ {m : ModelParts} {v : LinearModel} (lists : RowLists) (seen : linear_mo
           row_below seen are.parts i below,
           get_or_from_slice_get (list_at lists i) k element element is,
           slice_get_within (list_at lists i) k element is,
-          cells_found (slice_get columns element.column) cells at,
+          cells_found (slice_get m.columns element.column) cells at,
         )
 
     pub element_placed : element.place < length cells
@@ -202,7 +202,7 @@ module _ {m : ModelParts} {v : LinearModel} (lists : RowLists) (seen : linear_mo
         → cell.1 ≡ coefficient_at v (row_name v i) (column_name v element.column)
     element_value cell there =
         let number : cell.0 ≡ suc i = same_Some cell.0 (suc i) (ap (option_map (λ (c : ℕ × Number). c.0)) (sym there) ∙ number_placed) in
-        let own_cells = cells_here m are.parts v seen element.column columns cells same at in
+        let own_cells = cells_seen m are.parts v seen element.column cells at in
         ap (λ (o : Option Number). unwrap_or o zero_number) (sym (found_by nat_cmp nat_cmp_total number_same cells element.place cell
         (once-sorted nat_cmp nat_cmp_total cells own_cells.sorted) there) ∙ ap (λ (n : ℕ). find nat_cmp n cells) number)
         ∙ value_seen m are.parts v seen element.column cells own_cells (suc i) (row_name v i) (row_numbered seen are.parts i below)
@@ -216,10 +216,10 @@ named_within objective [] (suc i) named = absurd cc
 named_within objective (row ∷ rows) (suc zero) named = omega arith
 named_within objective (row ∷ rows) (suc (suc i)) named = grind (arith, named_within objective rows (suc i) named)
 
-pub numbers_within : (m : ModelParts) → AreModelParts m → (k : ℕ) (column : List ℕ × ModelColumn) → slice_get m.columns.items k
-    ≡ Some column → (l : ℕ) (cell : ℕ × Number) → slice_get column.1.cells.items l ≡ Some cell → cell.0 ≤ length m.rows.items
+pub numbers_within : (m : ModelParts) → AreModelParts m → (k : ℕ) (column : List ℕ × ModelColumn) → slice_get m.columns k
+    ≡ Some column → (l : ℕ) (cell : ℕ × Number) → slice_get column.1.cells l ≡ Some cell → cell.0 ≤ length m.rows.items
 numbers_within m parts k column at l cell there =
-    grind (arith, slice_get-part cells_in m.columns.items k, named_within m.objective m.rows.items cell.0, all_at, first_so, second_so)
+    grind (arith, slice_get-part cells_in m.columns k, named_within m.objective m.rows.items cell.0, all_at, first_so, second_so)
 
 -- ---- how the lists by rows are filled, coefficient by coefficient
 
@@ -257,39 +257,42 @@ noted_all = grind (arith, take_all, columns_more)
 
 -- ---- a coefficient of a column, as a loop reads it
 
--- the cells of a column that was read at an index
-pub cells_read : (columns : List (List ℕ × ModelColumn)) (k : ℕ) (column : List ℕ × ModelColumn) → k < length columns
-    → column ≡ get_or columns k column → column.1.cells.items ≡ cells_of columns k
-cells_read = grind (arith, slice_get-get_or)
+within_here : (rows : ℕ) (columns : List (List ℕ × ModelColumn)) (k : ℕ) (cells : List (ℕ × Number))
+    → All (λ (c : List ℕ × ModelColumn). AreWithin rows c.1.cells) columns
+    → option_map (λ (column : List ℕ × ModelColumn). column.1.cells) (slice_get columns k) ≡ Some cells → AreWithin rows cells
+within_here rows [] k cells all at = absurd cc
+within_here rows (column ∷ columns) zero cells all at =
+    subst (λ (es : List (ℕ × Number)). AreWithin rows es) (same_Some column.1.cells cells at) (all 0 column (omega arith))
+within_here rows (column ∷ columns) (suc k) cells all at = within_here rows columns k cells (λ j d below. all (suc j) d (omega arith)) at
 
-module _ (columns : List (List ℕ × ModelColumn)) (k : ℕ) (column : List ℕ × ModelColumn) (cells : List (ℕ × Number)) (m : ℕ) (cell : ℕ × Number)
-    (below : k < length columns) (read : column ≡ get_or columns k column) (items : cells ≡ column.1.cells.items) (under : m < length cells)
+module _ (columns : List (List ℕ × ModelColumn)) (k : ℕ) (cells : List (ℕ × Number)) (m : ℕ) (cell : ℕ × Number)
+    (read : option_map (λ (column : List ℕ × ModelColumn). column.1.cells) (slice_get columns k) ≡ Some cells) (under : m < length cells)
     (is : cell ≡ get_or cells m cell) where
   there : cells ≡ cells_of columns k
-  there = grind (arith, cells_read)
+  there = sym (cells_found (slice_get columns k) cells read)
 
   pub cell_placed : option_map (λ (c : ℕ × Number). c.0) (slice_get (cells_of columns k) m) ≡ Some cell.0
   cell_placed = grind (arith, there, slice_get-get_or)
 
-  own_order : list_all (λ (c : List ℕ × ModelColumn). is_sorted nat_cmp c.1.cells.items) columns ≡ true → is_sorted nat_cmp cells ≡ true
-  own_order = grind (arith, all_at, slice_get-get_or)
+  own_order : list_all (λ (c : List ℕ × ModelColumn). is_sorted nat_cmp c.1.cells) columns ≡ true → is_sorted nat_cmp cells ≡ true
+  own_order rise = cells_rise columns k cells rise read
 
   -- so the index has 32 bits if the number has
-  pub cell_index : list_all (λ (c : List ℕ × ModelColumn). is_sorted nat_cmp c.1.cells.items) columns ≡ true → m ≤ cell.0
+  pub cell_index : list_all (λ (c : List ℕ × ModelColumn). is_sorted nat_cmp c.1.cells) columns ≡ true → m ≤ cell.0
   cell_index = grind (arith, index_within, own_order)
 
-  pub cell_noted : list_all (λ (c : List ℕ × ModelColumn). is_sorted nat_cmp c.1.cells.items) columns ≡ true → (i : ℕ)
+  pub cell_noted : list_all (λ (c : List ℕ × ModelColumn). is_sorted nat_cmp c.1.cells) columns ≡ true → (i : ℕ)
       → noted columns k (m + 1) i ≡ noted columns k m i ++ column_if (eq_by_cmp nat_cmp (suc i) cell.0) k
   cell_noted = grind (arith, there, own_order, noted_more, once-sorted, nat_cmp_total)
 
-  pub cell_within : (rows : ℕ) → All (λ (c : List ℕ × ModelColumn). AreWithin rows c.1.cells.items) columns → cell.0 ≤ rows
-  cell_within = grind arith
+  pub cell_within : (rows : ℕ) → All (λ (c : List ℕ × ModelColumn). AreWithin rows c.1.cells) columns → cell.0 ≤ rows
+  cell_within rows within = grind (arith, within_here rows columns k cells within read)
 
 -- a column whose coefficients are all noted
-pub column_noted : (columns : List (List ℕ × ModelColumn)) (k : ℕ) (column : List ℕ × ModelColumn) (cells : List (ℕ × Number)) (m : ℕ)
-    → k < length columns → column ≡ get_or columns k column → cells ≡ column.1.cells.items → length cells ≡ m → (i : ℕ)
+pub column_noted : (columns : List (List ℕ × ModelColumn)) (k : ℕ) (cells : List (ℕ × Number)) (m : ℕ)
+    → option_map (λ (column : List ℕ × ModelColumn). column.1.cells) (slice_get columns k) ≡ Some cells → length cells ≡ m → (i : ℕ)
     → noted columns k m i ≡ columns_with columns (suc i) (k + 1)
-column_noted = grind (arith, cells_read, noted_all)
+column_noted columns k cells m read = grind (arith, cells_found (slice_get columns k) cells read, noted_all)
 
 -- ---- how long the lists are
 

@@ -7,7 +7,7 @@ use Rattle.mpslp_types.{specs.Name.bytes_cmp, proofs.BoolLemmas.T_from}
 use Rattle.mpslp_model_core.specs.{Model.{Column, LinearModel, key_cmp}, Columned.column_entries}
 use Rattle.mpslp_model_core.specs.ModelParts.{linear_model, AreModelParts, bounds_in, cells_in, columns_in, cells_by_name, name_of_row_key}
 use Rattle.mpslp_model_core.specs.{Numbered.{sorted_of, each_part, name_of, all_cells, all_named, IsOnce}, Same.IsSameObjective}
-use Rattle.mpslp_model_core.specs.declared.model.{ModelColumn.ModelColumn, ModelParts.ModelParts}
+use Rattle.mpslp_model_core.specs.{ModelColumns.ModelColumn, declared.model.ModelParts.ModelParts}
 use Rattle.mpslp_model_core.proofs.CellLemmas.{bytes_total, key_total, find-sorted_of, at, find-all_cells, name_same}
 use Rattle.mpslp_model_core.proofs.ViewLemmas.{rows_seen, columns_seen, coefficients_seen, apart_in, once_in}
 use Rattle.std.specs.FinMap as maps
@@ -16,7 +16,7 @@ use Rattle.std.specs.FinMap as maps
 pub record AreSameParts (v w : LinearModel) (m n : ModelParts) : Type 0 where
   pub objective : IsSameObjective v w
   pub rows : m.rows.items ≡ n.rows.items
-  pub columns : column_entries m.columns.items ≡ column_entries n.columns.items
+  pub columns : column_entries m.columns ≡ column_entries n.columns
 
 abbrev cells_of : List (List ℕ × ModelColumn) → List (List ℕ × List (ℕ × Number))
 cells_of columns = each_part cells_in columns
@@ -44,11 +44,11 @@ same-parts {m} {n} {v} {w} see seen p =
     let constant : m.constant ≡ n.constant = ap (λ (x : LinearModel). x.constant) see ∙ p.objective.2
     ∙ sym (ap (λ (x : LinearModel). x.constant) seen) in
     let bounds : columns_in m ≡ columns_in n =
-    sym (bounds_stated m.columns.items) ∙ ap (map (λ (t : List ℕ × (Column × List (ℕ × Number))). (t.0, t.1.0))) p.columns
-    ∙ bounds_stated n.columns.items in
+    sym (bounds_stated m.columns) ∙ ap (map (λ (t : List ℕ × (Column × List (ℕ × Number))). (t.0, t.1.0))) p.columns
+    ∙ bounds_stated n.columns in
     let cells : cells_by_name m ≡ cells_by_name n =
-    sym (cells_stated m.columns.items) ∙ ap (map (λ (t : List ℕ × (Column × List (ℕ × Number))). (t.0, t.1.1))) p.columns
-    ∙ cells_stated n.columns.items in
+    sym (cells_stated m.columns) ∙ ap (map (λ (t : List ℕ × (Column × List (ℕ × Number))). (t.0, t.1.1))) p.columns
+    ∙ cells_stated n.columns in
     let inside : linear_model m ≡ linear_model n = λ i. record {
       sense = sense i;
       objective = objective i;
@@ -106,14 +106,14 @@ same_stated [] (b ∷ ys) once once_too g h same alike = absurd cc
 same_stated (a ∷ xs) [] once once_too g h same alike = absurd cc
 same_stated (a ∷ xs) (b ∷ ys) once once_too g h same alike = let heads : ◌≡◌ {A = List ℕ × Column} (a.0, a.1.bounds) (b.0, b.1.bounds) = cc in
     let rest : bounds_of xs ≡ bounds_of ys = cc in let names : a.0 ≡ b.0 = ap (λ (p : List ℕ × Column). p.0) heads in
-    let sorted = first_so (is_sorted nat_cmp a.1.cells.items) (list_all (λ c. is_sorted nat_cmp c.1) (cells_of xs)) g in
-    let sorted_too = first_so (is_sorted nat_cmp b.1.cells.items) (list_all (λ c. is_sorted nat_cmp c.1) (cells_of ys)) h in
-    let cells : a.1.cells.items ≡ b.1.cells.items = same_entries nat_cmp nat_cmp_total nat_cmp-IsAntisymmetric a.1.cells.items b.1.cells.items (T_from _ sorted)
-    (T_from _ sorted_too) (λ n. ap (option_and_then (find nat_cmp n)) (sym (first_found a.0 a.0 a.1.cells.items (cells_of xs) refl))
-    ∙ alike a.0 n ∙ ap (option_and_then (find nat_cmp n)) (first_found a.0 b.0 b.1.cells.items (cells_of ys) names)) in
-    let more = same_stated xs ys once.1 once_too.1 (second_so (is_sorted nat_cmp a.1.cells.items) (list_all (λ c. is_sorted nat_cmp c.1)
-    (cells_of xs)) g) (second_so (is_sorted nat_cmp b.1.cells.items) (list_all (λ c. is_sorted nat_cmp c.1) (cells_of ys)) h) rest
-    (same_after a.0 b.0 a.1.cells.items b.1.cells.items (cells_of xs) (cells_of ys) names once once_too alike) in
+    let sorted = first_so (is_sorted nat_cmp a.1.cells) (list_all (λ c. is_sorted nat_cmp c.1) (cells_of xs)) g in
+    let sorted_too = first_so (is_sorted nat_cmp b.1.cells) (list_all (λ c. is_sorted nat_cmp c.1) (cells_of ys)) h in
+    let cells : a.1.cells ≡ b.1.cells = same_entries nat_cmp nat_cmp_total nat_cmp-IsAntisymmetric a.1.cells b.1.cells (T_from _ sorted)
+    (T_from _ sorted_too) (λ n. ap (option_and_then (find nat_cmp n)) (sym (first_found a.0 a.0 a.1.cells (cells_of xs) refl))
+    ∙ alike a.0 n ∙ ap (option_and_then (find nat_cmp n)) (first_found a.0 b.0 b.1.cells (cells_of ys) names)) in
+    let more = same_stated xs ys once.1 once_too.1 (second_so (is_sorted nat_cmp a.1.cells) (list_all (λ c. is_sorted nat_cmp c.1)
+    (cells_of xs)) g) (second_so (is_sorted nat_cmp b.1.cells) (list_all (λ c. is_sorted nat_cmp c.1) (cells_of ys)) h) rest
+    (same_after a.0 b.0 a.1.cells b.1.cells (cells_of xs) (cells_of ys) names once once_too alike) in
     λ i. (names i, ((ap (λ (p : List ℕ × Column). p.1) heads) i, cells i)) ∷ more i
 
 pub parts-same : {m n : ModelParts} {v w : LinearModel} → linear_model m ≡ v → AreModelParts m → linear_model n ≡ w → AreModelParts n
@@ -146,5 +146,5 @@ parts-same {m} {n} {v} {w} see p seen q same =
       objective =
           (ap (λ (x : LinearModel). x.sense) same, ap (λ (x : LinearModel). x.objective) same, ap (λ (x : LinearModel). x.constant) same);
       rows = rows;
-      columns = same_stated m.columns.items n.columns.items (once_in m p) (once_in n q) p.cells q.cells columns alike;
+      columns = same_stated m.columns n.columns (once_in m p) (once_in n q) p.cells q.cells columns alike;
     }

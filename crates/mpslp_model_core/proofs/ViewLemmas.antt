@@ -18,7 +18,7 @@ use Rattle.mpslp_model_core.specs.Views.{num_rows, row_name, row_index, column_n
 use Rattle.mpslp_model_core.specs.Views.{column_elements, numbered_elements, row_columns, row_elements, row_names}
 use Rattle.mpslp_model_core.specs.Iterators.{entry_of_cell, IsOfRow, AreCounted}
 use Rattle.mpslp_model_core.specs.ModelParts.{linear_model, AreModelParts, bounds_in, cells_in, columns_in, cells_by_name, name_of_row_key}
-use Rattle.mpslp_model_core.specs.declared.{model.{ModelColumn.ModelColumn, ModelParts.ModelParts}, row_names.RowNames.RowNames}
+use Rattle.mpslp_model_core.specs.{ModelColumns.ModelColumn, declared.{model.ModelParts.ModelParts, row_names.RowNames.RowNames}}
 use Rattle.mpslp_model_core.specs.RowNames.{joined_names, name_in, AreNames}
 use Rattle.mpslp_model_core.proofs.CellLemmas.{equal_from, same_key, bytes_total, key_total, tied_names, find-sorted_of}
 use Rattle.mpslp_model_core.proofs.CellLemmas.{is_sorted-sorted_of, at, or_else, find-two, find-other_column, name_same, find-all_cells}
@@ -436,10 +436,10 @@ count_seen = grind (arith, length-map)
 
 -- names of columns are those of their entries
 pub column_names_seen : {m : ModelParts} {v : LinearModel} → linear_model m ≡ v → AreModelParts m
-    → column_names v ≡ map (λ (e : List ℕ × ModelColumn). e.0) m.columns.items
+    → column_names v ≡ map (λ (e : List ℕ × ModelColumn). e.0) m.columns
 column_names_seen = grind (arith, columns_seen, names-part)
 
-pub count_columns : {m : ModelParts} {v : LinearModel} → linear_model m ≡ v → AreModelParts m → length m.columns.items ≡ length (column_names v)
+pub count_columns : {m : ModelParts} {v : LinearModel} → linear_model m ≡ v → AreModelParts m → length m.columns ≡ length (column_names v)
 count_columns {m} seen parts = grind (arith, column_names_seen seen parts, length-map)
 
 -- the entry of a number, through a function
@@ -447,9 +447,14 @@ pub entry_seen : {X Y : Type 0} {es items : List (List ℕ × X)} (f : List ℕ 
     → slice_get items i ≡ Some e → slice_get (map f es) i ≡ Some (f e)
 entry_seen = grind (arith, at, slice_get-map)
 
+-- what is read of a column by its number
+pub column_read : {Y : Type 0} {m : ModelParts} {v : LinearModel} (f : List ℕ × Column → Y) (j : ℕ) → linear_model m ≡ v → AreModelParts m
+    → slice_get (map f (maps.entries v.columns)) j ≡ option_map (λ (e : List ℕ × ModelColumn). f (e.0, e.1.bounds)) (slice_get m.columns j)
+column_read {Y} {m} f j seen parts = grind (arith, columns_seen seen parts, slice_get-map, slice_get-part bounds_in m.columns j)
+
 pub column_seen : {Y : Type 0} {m : ModelParts} {v : LinearModel} (f : List ℕ × Column → Y) (j : ℕ) {e : List ℕ × ModelColumn} → linear_model m ≡ v
-    → AreModelParts m → slice_get m.columns.items j ≡ Some e → slice_get (map f (maps.entries v.columns)) j ≡ Some (f (e.0, e.1.bounds))
-column_seen {Y} {m} f j seen parts at = grind (arith, entry_seen, columns_seen seen parts, slice_get-part bounds_in m.columns.items j, at)
+    → AreModelParts m → slice_get m.columns j ≡ Some e → slice_get (map f (maps.entries v.columns)) j ≡ Some (f (e.0, e.1.bounds))
+column_seen f j seen parts at = column_read f j seen parts ∙ ap (option_map (λ (e : List ℕ × ModelColumn). f (e.0, e.1.bounds))) at
 
 position_or_len-map : {X Y : Type 0} (p : Y → Bool) (f : X → Y) (xs : List X) → position_or_len p (map f xs) ≡ position_or_len (λ x. p (f x)) xs
 position_or_len-map p f [] = refl
@@ -490,7 +495,7 @@ module _ (m : ModelParts) (parts : AreModelParts m) where
   pub rise_in : RiseByName (name_of_row_key m)
   rise_in = grind (arith, rise_by_name)
 
-  pub columns_rise : is_sorted bytes_cmp m.columns.items ≡ true
+  pub columns_rise : is_sorted bytes_cmp m.columns ≡ true
   columns_rise = grind (arith, is_sorted-part)
 
   pub cells_rise : is_sorted bytes_cmp (cells_by_name m) ≡ true
@@ -506,14 +511,14 @@ module _ (m : ModelParts) (parts : AreModelParts m) where
     pub named : list_all (λ e. is_some (name_of_row_key m e.0)) cells ≡ true
 
   pub cells_seen : (v : LinearModel) → linear_model m ≡ v → (j : ℕ) (cells : List (ℕ × Number)) → option_map
-      (λ (column : List ℕ × ModelColumn). column.1.cells.items) (slice_get m.columns.items j) ≡ Some cells → AreCellsAt v j cells
+      (λ (column : List ℕ × ModelColumn). column.1.cells) (slice_get m.columns j) ≡ Some cells → AreCellsAt v j cells
   cells_seen v seen j cells at =
-      elim (slice_get m.columns.items j) as (λ o. slice_get m.columns.items j ≡ o
-      → option_map (λ (column : List ℕ × ModelColumn). column.1.cells.items) o ≡ Some cells → AreCellsAt v j cells) [
+      elim (slice_get m.columns j) as (λ o. slice_get m.columns j ≡ o
+      → option_map (λ (column : List ℕ × ModelColumn). column.1.cells) o ≡ Some cells → AreCellsAt v j cells) [
         | None ↦ λ _ no. absurd cc
         | Some e ↦ λ here is.
-            let own_cells : e.1.cells.items ≡ cells = cc in
-            let entry : slice_get (cells_by_name m) j ≡ Some (e.0, cells) = slice_get-part cells_in m.columns.items j ∙ ap (option_map
+            let own_cells : e.1.cells ≡ cells = cc in
+            let entry : slice_get (cells_by_name m) j ≡ Some (e.0, cells) = slice_get-part cells_in m.columns j ∙ ap (option_map
             (λ (d : List ℕ × ModelColumn). (d.0, cells_in d.1))) here ∙ ap (λ (es : List (ℕ × Number)). Some (e.0, es)) own_cells in
             let name : column_name v j
             ≡ e.0 = get_or_from_slice_get (column_names v) j e.0 [] (column_seen (λ (d : List ℕ × Column). d.0) j seen parts here) in
@@ -524,12 +529,6 @@ module _ (m : ModelParts) (parts : AreModelParts m) where
               named = all_at (λ c. list_all (λ d. is_some (name_of_row_key m d.0)) c.1) (cells_by_name m) j (e.0, cells) parts.named entry;
             }
       ] refl at
-
-  -- the same for a slice of the columns
-  pub cells_here : (v : LinearModel) → linear_model m ≡ v → (j : ℕ) (columns : List (List ℕ × ModelColumn)) (cells : List (ℕ × Number))
-      → columns ≡ m.columns.items → option_map (λ (column : List ℕ × ModelColumn). column.1.cells.items) (slice_get columns j) ≡ Some cells
-      → AreCellsAt v j cells
-  cells_here v seen j columns cells same at = grind (arith, cells_seen v seen j cells, at)
 
   -- what is found by the number of a row
   pub found_seen : (v : LinearModel) → linear_model m ≡ v → (j : ℕ) (cells : List (ℕ × Number)) → AreCellsAt v j cells → (n : ℕ) (r : List
@@ -609,18 +608,18 @@ module _ (m : ModelParts) (parts : AreModelParts m) where
   count_named [] h = refl
   count_named (c ∷ cs) h = grind (arith, count_named cs, length-append, rows_only, length-named, rows_named, first_so, second_so)
 
-  pub elements_counted : (v : LinearModel) → linear_model m ≡ v → count_row_cells m.columns.items ≡ num_elements v
+  pub elements_counted : (v : LinearModel) → linear_model m ≡ v → count_row_cells m.columns ≡ num_elements v
   elements_counted v seen =
       sym (
       (λ i. length (filter (λ (e : CoefficientKey × Number). not (same_bytes (sym (ap (λ (w : LinearModel). w.objective) seen) i) e.0.row))
       (coefficients_seen m seen i)))
       ∙ ap length (elements_are_rows (name_of_row_key m) apart_in rise_in m.objective refl (cells_by_name m) cells_rise parts.cells)
-      ∙ count_named m.columns.items parts.named
+      ∙ count_named m.columns parts.named
       )
 
 -- the coefficients of each column are in the order of their numbers
 pub all_sorted : (columns : List (List ℕ × ModelColumn)) → list_all (λ c. is_sorted nat_cmp c.1) (each_part cells_in columns) ≡ true
-    → list_all (λ (column : List ℕ × ModelColumn). is_sorted nat_cmp column.1.cells.items) columns ≡ true
+    → list_all (λ (column : List ℕ × ModelColumn). is_sorted nat_cmp column.1.cells) columns ≡ true
 all_sorted [] h = refl
 all_sorted (c ∷ cs) h = grind (arith, all_sorted cs)
 

@@ -9,7 +9,7 @@ use Rattle.mpslp_model_core.specs.ModelParts.{AreModelParts}
 use Rattle.mpslp_model_core.specs.RowNames.{AreNames}
 use Rattle.mpslp_model_core.specs.declared.by_row.RowElement.{RowElement}
 use Rattle.mpslp_model_core.specs.declared.by_row.RowLists.{RowLists}
-use Rattle.mpslp_model_core.specs.declared.model.ModelColumn.{ModelColumn}
+use Rattle.mpslp_model_core.specs.ModelColumns.{ModelColumn}
 use Rattle.mpslp_model_core.specs.declared.model.ModelParts.{ModelParts}
 use Rattle.mpslp_model_core.specs.declared.row_names.RowNames.{RowNames}
 
@@ -41,7 +41,7 @@ has_number n cells = is_some (find nat_cmp n cells)
 
 -- the coefficients of the column of a number
 abbrev pub cells_of : List (List ℕ × ModelColumn) → ℕ → List (ℕ × Number)
-cells_of columns j = option_map_or (λ (column : List ℕ × ModelColumn). column.1.cells.items) (slice_get columns j) []
+cells_of columns j = option_map_or (λ (column : List ℕ × ModelColumn). column.1.cells) (slice_get columns j) []
 
 -- which of the first columns have a coefficient of this number
 abbrev pub columns_with : List (List ℕ × ModelColumn) → ℕ → ℕ → List ℕ
@@ -73,10 +73,10 @@ pub record AreByRow (columns : List (List ℕ × ModelColumn)) (rows : ℕ) (lis
 -- the parts of a model, and their lists by rows
 pub record AreListed (m : ModelParts) (lists : RowLists) : Type 0 where
   pub parts : AreModelParts m
-  pub by_row : AreByRow m.columns.items (length m.rows.items) lists
+  pub by_row : AreByRow m.columns (length m.rows.items) lists
 
 -- the parts of a model, their lists by rows, if they were made, and the names of rows
 pub record AreIndexed (m : ModelParts) (lists : Option RowLists) (row_names : RowNames) : Type 0 where
   pub parts : AreModelParts m
-  pub by_row : IfSome lists (AreByRow m.columns.items (length m.rows.items))
+  pub by_row : IfSome lists (AreByRow m.columns (length m.rows.items))
   pub names : AreNames m.rows.items row_names

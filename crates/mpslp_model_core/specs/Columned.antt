@@ -2,7 +2,7 @@
 use Rattle.std.specs.Prelude.{ℕ, zero, suc, Bool, true, false, List, [], ◌∷◌, ◌+◌, length, map, filter}
 use Rattle.mpslp_decimal.specs.Decimal.{Number}
 use Rattle.mpslp_model_core.specs.Model.{Column}
-use Rattle.mpslp_model_core.specs.declared.model.ModelColumn.{ModelColumn}
+use Rattle.mpslp_model_core.specs.ModelColumns.{ModelColumn}
 
 -- whether it is the number of a row, and not of the objective
 abbrev pub is_row_number : ℕ → Bool
@@ -15,11 +15,11 @@ row_cells es = filter (λ e. is_row_number e.0) es
 
 abbrev pub count_row_cells : List (List ℕ × ModelColumn) → ℕ
 count_row_cells [] = 0
-count_row_cells (column ∷ columns) = length (row_cells column.1.cells.items) + count_row_cells columns
+count_row_cells (column ∷ columns) = length (row_cells column.1.cells) + count_row_cells columns
 
 -- the name of a column with its type, bounds and coefficients
 abbrev pub column_entry : List ℕ × ModelColumn → List ℕ × (Column × List (ℕ × Number))
-column_entry column = (column.0, (column.1.bounds, column.1.cells.items))
+column_entry column = (column.0, (column.1.bounds, column.1.cells))
 
 abbrev pub column_entries : List (List ℕ × ModelColumn) → List (List ℕ × (Column × List (ℕ × Number)))
 column_entries columns = map column_entry columns

@@ -5,6 +5,7 @@ pub mod Limits
 pub mod RowForms
 pub mod WrongParts
 pub mod Views
+pub mod ModelColumns
 pub mod ModelParts
 pub mod Same
 pub mod SameLaws

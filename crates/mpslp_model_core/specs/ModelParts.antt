@@ -8,21 +8,21 @@ use Rattle.mpslp_decimal.specs.Decimal.{Number}
 use Rattle.mpslp_model_core.specs.Model.{LinearModel, Column, key_cmp, IsSound}
 use Rattle.mpslp_model_core.specs.Numbered.{sorted_of, each_part, name_of, all_cells, all_named}
 use Rattle.mpslp_types.specs.Name.{bytes_cmp}
-use Rattle.mpslp_model_core.specs.declared.model.ModelColumn.{ModelColumn}
+use Rattle.mpslp_model_core.specs.ModelColumns.{ModelColumn}
 use Rattle.mpslp_model_core.specs.declared.model.ModelParts.{ModelParts}
 
 abbrev pub bounds_in : ModelColumn → Column
 bounds_in column = column.bounds
 
 abbrev pub cells_in : ModelColumn → List (ℕ × Number)
-cells_in column = column.cells.items
+cells_in column = column.cells
 
 -- the columns by their names: their bounds, and their coefficients
 abbrev pub columns_in : ModelParts → List (List ℕ × Column)
-columns_in m = each_part bounds_in m.columns.items
+columns_in m = each_part bounds_in m.columns
 
 abbrev pub cells_by_name : ModelParts → List (List ℕ × List (ℕ × Number))
-cells_by_name m = each_part cells_in m.columns.items
+cells_by_name m = each_part cells_in m.columns
 
 -- the name of the row of a number
 abbrev pub name_of_row_key : ModelParts → ℕ → Option (List ℕ)

@@ -1,5 +1,6 @@
 -- When two limits, rows, columns or objectives are the same.
-use Rattle.std.specs.Prelude.{◌≡◌, ℕ, Bool, true, false, ◌&&◌, List}
+use Rattle.std.specs.Prelude.{◌≡◌, ℕ, Bool, true, false, ◌&&◌, List, Option, slice_get}
+use Rattle.std.specs.Option.{option_map, option_and_then}
 use Rattle.std.specs.Ordering.{int_eq}
 use Rattle.std.specs.Bool.{nat_eq}
 use Rattle.std.specs.Cmp.Lexicographic.{pointwise}
@@ -52,6 +53,10 @@ same_column_with a b = same_column a.0 b.0 && pointwise same_cell a.1 b.1
 
 abbrev pub same_named_column : List ℕ × (Column × List (ℕ × Number)) → List ℕ × (Column × List (ℕ × Number)) → Bool
 same_named_column a b = same_bytes a.0 b.0 && same_column_with a.1 b.1
+
+-- whether the columns at an index are the same, if there is one in each list
+abbrev pub same_at : ℕ → List (List ℕ × (Column × List (ℕ × Number))) → List (List ℕ × (Column × List (ℕ × Number))) → Option Bool
+same_at j own other = option_and_then (λ a. option_map (λ b. same_named_column a b) (slice_get other j)) (slice_get own j)
 
 -- sense, objective name and constant of two models are the same
 abbrev pub IsSameObjective : LinearModel → LinearModel → Type 0

@@ -10,11 +10,9 @@ ghost use Rattle.std.specs.Ordering.{nat_cmp};
 ghost use Rattle.std.specs.FinMap.{is_sorted};
 ghost use Rattle.mpslp_model_core.specs.ByRow.{list_at, HasList, HasCounted, AreWithin, AreCounts, AreByRow, columns_with};
 
-use crate::columns::{cells_at, has_value_at};
+use crate::columns::has_value_at;
 use crate::joined::part_at;
-use crate::model::ModelColumn;
-use mpslp_decimal::PackedDecimal;
-use mpslp_types::Name;
+use crate::model_columns::ModelColumns;
 use std::alloc::{AllocError, Global};
 
 /// The maximum number of columns: their numbers have 32 bits.
@@ -55,19 +53,19 @@ fn count_cell(counts: &mut Vec<usize>, number: u32)
 fn counts_by_row(
     alloc: Global,
     rows: usize,
-    columns: &[(Name, ModelColumn)],
+    columns: &ModelColumns,
 ) -> Result<Vec<usize>, AllocError>
     requires few { length columns.now ≤ 4294967296 }
-    requires sorted { IsTrue (list_all (λ column. is_sorted nat_cmp column.1.cells.items) columns.now) }
-    requires within { All (λ column. AreWithin rows column.1.cells.items) columns.now }
+    requires sorted { IsTrue (list_all (λ column. is_sorted nat_cmp column.1.cells) columns.now) }
+    requires within { All (λ column. AreWithin rows column.1.cells) columns.now }
     ensures { IfOk result (λ counts. AreCounts columns.now rows counts.items) }
 {
     let Some(len) = rows.checked_add(1) else {
         return Err(AllocError);
     };
     let mut counts = vec![in alloc; 0usize; len]?;
-    for column in columns {
-        for cell in &column.1.cells {
+    for j in 0..columns.len() {
+        for cell in columns.cells_at(j) {
             count_cell(&mut counts, cell.0);
         }
     }
@@ -137,10 +135,10 @@ fn put_cell(
 pub(crate) fn elements_by_row(
     alloc: Global,
     rows: usize,
-    columns: &[(Name, ModelColumn)],
+    columns: &ModelColumns,
 ) -> Result<RowLists, AllocError>
-    requires sorted { IsTrue (list_all (λ column. is_sorted nat_cmp column.1.cells.items) columns.now) }
-    requires within { All (λ column. AreWithin rows column.1.cells.items) columns.now }
+    requires sorted { IsTrue (list_all (λ column. is_sorted nat_cmp column.1.cells) columns.now) }
+    requires within { All (λ column. AreWithin rows column.1.cells) columns.now }
     ensures { IfOk result (λ lists. AreByRow columns.now rows lists) }
 {
     if columns.len() > MOST_COLUMNS {
@@ -154,8 +152,8 @@ pub(crate) fn elements_by_row(
     };
     let mut list = vec![in alloc; unset; total]?;
     // Number `n` is that of the row at index `n - 1`: its start becomes its end, which is the start of the row at index `n`.
-    for (number, column) in columns.iter().enumerate() {
-        for (place, cell) in column.1.cells.iter().enumerate() {
+    for number in 0..columns.len() {
+        for (place, cell) in columns.cells_at(number).iter().enumerate() {
             put_cell(&mut starts, &mut list, cell.0, number as u32, place);
         }
     }
@@ -183,13 +181,13 @@ pub(crate) fn element_at(lists: &RowLists, i: usize, k: usize) -> RowElement
 }
 
 /// How many columns have a coefficient in the row at this index. Searches in all columns.
-pub(crate) fn count_columns_with(columns: &[(Name, ModelColumn)], row: usize) -> usize
-    requires { IsTrue (list_all (λ column. is_sorted nat_cmp column.1.cells.items) columns.now) }
+pub(crate) fn count_columns_with(columns: &ModelColumns, row: usize) -> usize
+    requires { IsTrue (list_all (λ column. is_sorted nat_cmp column.1.cells) columns.now) }
     ensures { result ≡ length (columns_with columns.now (suc row) (length columns.now)) }
 {
     let mut count = 0;
     for j in 0..columns.len() {
-        if has_value_at(cells_at(columns, j), row) {
+        if has_value_at(columns.cells_at(j), row) {
             count += 1;
         }
     }
@@ -197,14 +195,14 @@ pub(crate) fn count_columns_with(columns: &[(Name, ModelColumn)], row: usize) ->
 }
 
 /// The number of the column that is number `k` of those with a coefficient in the row at this index. Searches in all columns.
-pub(crate) fn column_with(columns: &[(Name, ModelColumn)], row: usize, k: usize) -> usize
-    requires sorted { IsTrue (list_all (λ column. is_sorted nat_cmp column.1.cells.items) columns.now) }
+pub(crate) fn column_with(columns: &ModelColumns, row: usize, k: usize) -> usize
+    requires sorted { IsTrue (list_all (λ column. is_sorted nat_cmp column.1.cells) columns.now) }
     requires element { k < length (columns_with columns.now (suc row) (length columns.now)) }
     ensures { slice_get (columns_with columns.now (suc row) (length columns.now)) k ≡ Some result }
 {
     let mut left = k;
     for j in 0..columns.len() {
-        if has_value_at(cells_at(columns, j), row) {
+        if has_value_at(columns.cells_at(j), row) {
             if left == 0 {
                 return j;
             }

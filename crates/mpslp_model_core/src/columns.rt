@@ -3,22 +3,20 @@
 //! The objective has the number 0, so its coefficient comes first, if a column has one. The row at index `i` has the number
 //! `i + 1` here.
 
-ghost use Rattle.std.specs.Prelude.{◌≡◌, ◌<◌, ◌&&◌, ◌+◌, IsTrue, Some, length, suc, unwrap_or, slice_get};
+ghost use Rattle.std.specs.Prelude.{◌≡◌, ◌<◌, ◌&&◌, ◌+◌, IsTrue, Some, length, suc, unwrap_or};
 ghost use Rattle.std.specs.List.{list_all};
-ghost use Rattle.std.specs.Option.{option_copied, option_map};
 ghost use Rattle.std.specs.Ordering.{nat_cmp};
 ghost use Rattle.std.specs.FinMap.{find, is_sorted};
 ghost use Rattle.std.specs.Cmp.Lexicographic.{pointwise};
 ghost use Rattle.mpslp_decimal.specs.Decimal.{zero_number};
 ghost use Rattle.mpslp_model_core.specs.ByRow.{has_number};
-ghost use Rattle.mpslp_model_core.specs.Same.{same_cell, same_named_column};
-ghost use Rattle.mpslp_model_core.specs.Columned.{row_cells, count_row_cells, column_entry, column_entries};
+ghost use Rattle.mpslp_model_core.specs.Same.{same_cell, same_named_column, same_at};
+ghost use Rattle.mpslp_model_core.specs.Columned.{row_cells, count_row_cells, column_entries};
 
-use crate::model::ModelColumn;
+use crate::model_columns::ModelColumns;
 use crate::sides::is_same_number;
 use mpslp_decimal::{Decimal, PackedDecimal};
-use mpslp_maps::{Query, entry_at, find_entry};
-use mpslp_types::Name;
+use mpslp_maps::{Query, find_entry};
 use std::cmp::Ordering;
 
 /// The index of a row in the model. It may exceed the row numbers of all coefficients.
@@ -33,14 +31,6 @@ impl Query<u32> for RowIndex {
     fn compare(&self, other: &u32) -> Ordering {
         (self.row as u128 + 1).cmp(&(*other as u128))
     }
-}
-
-/// The coefficients of the column of number `j`.
-pub(crate) fn cells_at(columns: &[(Name, ModelColumn)], j: usize) -> &[(u32, PackedDecimal)]
-    requires { j < length columns.now }
-    ensures { option_map (λ column. column.1.cells.items) (slice_get columns.now j) ≡ Some result.now }
-{
-    &entry_at(columns, j).1.cells
 }
 
 /// The coefficients without that of the objective.
@@ -87,13 +77,13 @@ pub(crate) fn has_value_at(cells: &[(u32, PackedDecimal)], row: usize) -> bool
 }
 
 /// The number of coefficients in all columns, without those of the objective.
-pub(crate) fn count_elements(columns: &[(Name, ModelColumn)]) -> u128
-    requires { IsTrue (list_all (λ column. is_sorted nat_cmp column.1.cells.items) columns.now) }
+pub(crate) fn count_elements(columns: &ModelColumns) -> u128
+    requires { IsTrue (list_all (λ column. is_sorted nat_cmp column.1.cells) columns.now) }
     ensures { result ≡ count_row_cells columns.now }
 {
     let mut count = 0;
-    for column in columns {
-        count += row_cells(&column.1.cells).len() as u128;
+    for j in 0..columns.len() {
+        count += row_cells(columns.cells_at(j)).len() as u128;
     }
     count
 }
@@ -117,25 +107,30 @@ fn are_same_cells(own: &[(u32, PackedDecimal)], other: &[(u32, PackedDecimal)]) 
     own.len() == other.len()
 }
 
-/// Whether two columns have the same name, type, bounds and coefficients.
-fn is_same_column(own: &(Name, ModelColumn), other: &(Name, ModelColumn)) -> bool
-    ensures { result ≡ same_named_column (column_entry own.now) (column_entry other.now) }
+/// Whether the columns of number `j` have the same name, type, bounds and coefficients.
+fn is_same_column(own: &ModelColumns, other: &ModelColumns, j: usize) -> bool
+    requires own { j < length own.now }
+    requires other { j < length other.now }
+    ensures { Some result ≡ same_at j (column_entries own.now) (column_entries other.now) }
 {
-    own.0 == other.0
-        && (own.1.bounds.bounds() == other.1.bounds.bounds()
-            && are_same_cells(&own.1.cells, &other.1.cells))
+    own.name_at(j) == other.name_at(j)
+        && (own.bounds_at(j) == other.bounds_at(j)
+            && are_same_cells(own.cells_at(j), other.cells_at(j)))
 }
 
 /// Whether the columns are the same.
-pub(crate) fn same_columns(own: &[(Name, ModelColumn)], other: &[(Name, ModelColumn)]) -> bool
+pub(crate) fn same_columns(own: &ModelColumns, other: &ModelColumns) -> bool
     ensures { result ≡ pointwise same_named_column (column_entries own.now) (column_entries other.now) }
 {
-    for (column, counterpart) in own.iter().zip(other) {
-        if !is_same_column(column, counterpart) {
+    if own.len() != other.len() {
+        return false;
+    }
+    for j in 0..own.len() {
+        if !is_same_column(own, other, j) {
             return false;
         }
     }
-    own.len() == other.len()
+    true
 }
 
 /// The index of the row to which a coefficient's number refers.

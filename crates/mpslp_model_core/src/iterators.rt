@@ -6,11 +6,11 @@ ghost use Rattle.std.specs.Iterator.{YieldsFirst, YieldsFirstBy, UpTo, at_most, 
 ghost use Rattle.std.specs.Iterator.SizeHint.{IsWithinCount};
 ghost use Rattle.std.specs.List.{All};
 ghost use Rattle.mpslp_model_core.specs.Iterators.{IsOfRow, entry_of_cell};
-ghost use Rattle.mpslp_model_core.specs.ModelParts.{bounds_in};
+ghost use Rattle.mpslp_model_core.specs.ModelColumns.{span_bounds};
 ghost use Rattle.mpslp_model_core.specs.Numbered.{each_part};
 
 use crate::columns::index_of_row_number;
-use crate::model::ModelColumn;
+use crate::model_columns::ColumnSpan;
 use crate::model_row::ModelRow;
 use crate::sides::{ColumnBounds, RowLimits};
 use mpslp_decimal::{Decimal, PackedDecimal};
@@ -79,25 +79,25 @@ impl<'a> FusedIterator for Rows<'a> {}
 /// [`Model::columns`](crate::Model::columns) makes it.
 #[derive(Drop)]
 pub struct Columns<'a> {
-    columns: slice::Iter<'a, (Name, ModelColumn)>,
+    columns: slice::Iter<'a, (Name, ColumnSpan)>,
 }
 
 impl<'a> Model for Columns<'a> {
     ghost use Rattle.std.specs.Prelude.{ℕ, List};
     ghost use Rattle.std.specs.Slice.Iter.{iter_rest};
     ghost use Rattle.mpslp_model_core.specs.Model.{Column};
-    ghost use Rattle.mpslp_model_core.specs.ModelParts.{bounds_in};
+    ghost use Rattle.mpslp_model_core.specs.ModelColumns.{span_bounds};
     ghost use Rattle.mpslp_model_core.specs.Numbered.{each_part};
 
     ghost Value = { List (List ℕ × Column) };
 
-    ghost view = { λ columns. each_part bounds_in (iter_rest columns.columns) };
+    ghost view = { λ columns. each_part span_bounds (iter_rest columns.columns) };
 }
 
 impl<'a> Columns<'a> {
     /// The columns of these entries.
-    pub(crate) fn of(columns: &'a [(Name, ModelColumn)]) -> Columns<'a>
-        ensures { result ≡ each_part bounds_in columns.now }
+    pub(crate) fn of(columns: &'a [(Name, ColumnSpan)]) -> Columns<'a>
+        ensures { result ≡ each_part span_bounds columns.now }
     {
         Columns {
             columns: columns.iter(),

@@ -1,8 +1,8 @@
 //! Models with their accessors, and the limits of rows and bounds of columns.
 //!
-//! A [`Model`] stores its [`ModelParts`]: rows and columns in byte order of their names, and in each column the coefficients
-//! in the order of their row numbers. So access by number is an index, and access by name is a binary search. Limits and
-//! numbers are packed ([`PackedLimit`]), because a model has many.
+//! A [`Model`] stores its [`ModelParts`]: rows and columns in byte order of their names, and the coefficients of each column in
+//! the order of their row numbers, those of all columns in one vector. So access by number is an index, and access by name is a
+//! binary search. Limits and numbers are packed ([`PackedLimit`]), because a model has many.
 //!
 //! What is declared of a row or a column ([`UnpackedRowDefinition`], [`DeclaredColumn`]) is here too, with the limits and
 //! bounds that it means, and with its errors.
@@ -16,6 +16,7 @@ mod joined;
 pub mod laws;
 mod limits;
 mod model;
+mod model_columns;
 mod model_row;
 mod packed;
 mod packed_row_definition;
@@ -29,7 +30,8 @@ pub use limits::{
     RowFault, UnpackedRowDefinition, is_faulty_row, kind_of_row_fault, limits_of, plain_limits,
     row_has,
 };
-pub use model::{Model, ModelColumn, ModelParts};
+pub use model::{Model, ModelParts};
+pub use model_columns::{ColumnSpan, ModelColumns};
 pub use model_row::{ModelBounds, ModelRow};
 pub use packed::{PackedColumn, PackedLimit, PackedRow};
 pub use packed_row_definition::PackedRowDefinition;

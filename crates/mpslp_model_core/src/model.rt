@@ -16,16 +16,16 @@ use crate::by_row::{
     RowLists, column_with, count_columns_with, element_at, elements_by_row, row_list,
 };
 use crate::columns::{
-    cells_at, count_elements, index_of_row_number, objective_value, row_cells, same_columns,
-    value_at,
+    count_elements, index_of_row_number, objective_value, row_cells, same_columns, value_at,
 };
 use crate::iterators::{ColumnEntries, Columns, Rows};
-use crate::model_row::{ModelBounds, ModelRow};
+use crate::model_columns::ModelColumns;
+use crate::model_row::ModelRow;
 use crate::row_entries::RowEntries;
 use crate::row_names::{RowNames, name_at, names_of};
 use crate::sides::{ColumnBounds, RowLimits};
+use mpslp_decimal::Decimal;
 use mpslp_decimal::laws::each_value_is_a_decimal;
-use mpslp_decimal::{Decimal, PackedDecimal};
 use mpslp_maps::{entry_at, find_index};
 use mpslp_types::{Kind, Limit, Name, Sense};
 use std::alloc::{AllocError, Global};
@@ -37,16 +37,6 @@ fn same_rows(a: &[(Name, ModelRow)], b: &[(Name, ModelRow)]) -> bool
     ensures { Decides result (a.now ≡ b.now) }
 {
     a == b
-}
-
-/// A column of a model: its type and bounds, and its coefficients in the order of their row numbers. The objective has the
-/// number 0, and the row at index `i` has `i + 1` here.
-#[derive(Debug, Drop)]
-pub struct ModelColumn {
-    /// Its type and bounds.
-    pub bounds: ModelBounds,
-    /// Its nonzero coefficients.
-    pub cells: Vec<(u32, PackedDecimal)>,
 }
 
 /// What a [`Model`] is made of.
@@ -61,7 +51,7 @@ pub struct ModelParts {
     /// The rows in byte order of their names.
     pub rows: Vec<(Name, ModelRow)>,
     /// The columns in byte order of their names.
-    pub columns: Vec<(Name, ModelColumn)>,
+    pub columns: ModelColumns,
 }
 
 /// A linear or mixed-integer model. Contracts see it as a value, and it is always well-formed: it has at least one column,
@@ -95,7 +85,7 @@ impl marker::Model for Model {
 }
 
 /// The index of the entry of this name. The entries must be in the order of their names.
-fn index_of<X>(entries: &[(Name, X)], name: &[u8]) -> Option<usize>
+pub(crate) fn index_of<X>(entries: &[(Name, X)], name: &[u8]) -> Option<usize>
     requires { IsTrue (is_sorted bytes_cmp entries.now) }
     ensures { result ≡ position (λ entry. same_bytes name.now entry.0) entries.now }
 {
@@ -219,7 +209,7 @@ impl Model {
     pub fn num_cols(&self) -> usize
         ensures { result ≡ num_columns self.now }
     {
-        self.parts.columns.as_slice().len()
+        self.parts.columns.len()
     }
 
     /// The number of nonzero coefficients, without those of the objective.
@@ -268,7 +258,7 @@ impl Model {
     pub fn columns(&self) -> Columns<'_>
         ensures { result ≡ entries self.now.columns }
     {
-        Columns::of(&self.parts.columns)
+        self.parts.columns.iter()
     }
 
     /// The name of the row of number `i`.
@@ -293,7 +283,7 @@ impl Model {
         requires { j < num_columns self.now }
         ensures { slice_get (column_names self.now) j ≡ Some result.now }
     {
-        &entry_at(&self.parts.columns, j).0
+        self.parts.columns.name_at(j)
     }
 
     /// The number of the row with this name. The objective has none.
@@ -307,7 +297,7 @@ impl Model {
     pub fn column_index(&self, name: &[u8]) -> Option<usize>
         ensures { result ≡ column_index self.now name.now }
     {
-        index_of(&self.parts.columns, name)
+        self.parts.columns.index_of(name)
     }
 
     /// The limits of the row of number `i`.
@@ -323,7 +313,7 @@ impl Model {
         requires { j < num_columns self.now }
         ensures { slice_get (columns_of self.now) j ≡ Some result }
     {
-        entry_at(&self.parts.columns, j).1.bounds.bounds()
+        self.parts.columns.bounds_at(j)
     }
 
     /// The lower limit of the row of number `i`.
@@ -407,7 +397,7 @@ impl Model {
         requires { j < num_columns self.now }
         ensures { result ≡ coefficient_at self.now self.now.objective (column_name self.now j) }
     {
-        objective_value(cells_at(&self.parts.columns, j))
+        objective_value(self.parts.columns.cells_at(j))
     }
 
     /// The coefficient of the row of number `i` in the column of number `j`; 0 if there is none.
@@ -416,7 +406,7 @@ impl Model {
         requires column { j < num_columns self.now }
         ensures { result ≡ coefficient_at self.now (row_name self.now i) (column_name self.now j) }
     {
-        value_at(cells_at(&self.parts.columns, j), i)
+        value_at(self.parts.columns.cells_at(j), i)
     }
 
     /// Whether sense, objective name and constant are the same.
@@ -443,7 +433,7 @@ impl Model {
         requires { j < num_columns self.now }
         ensures { result ≡ length (column_elements self.now (column_name self.now j)) }
     {
-        row_cells(cells_at(&self.parts.columns, j)).len()
+        row_cells(self.parts.columns.cells_at(j)).len()
     }
 
     /// Nonzero coefficient number `k` of the column of number `j`, in the order of rows, without the objective's: the number of
@@ -453,7 +443,7 @@ impl Model {
         requires entry { k < length (column_elements self.now (column_name self.now j)) }
         ensures { slice_get (numbered_elements self.now (column_name self.now j)) k ≡ Some (Some result.0, result.1) }
     {
-        let cell = entry_at(row_cells(cells_at(&self.parts.columns, j)), k);
+        let cell = entry_at(row_cells(self.parts.columns.cells_at(j)), k);
         (index_of_row_number(cell.0), cell.1.value())
     }
 
@@ -463,7 +453,7 @@ impl Model {
         requires { j < num_columns self.now }
         ensures { map (λ entry. (Some entry.0, entry.1)) result ≡ numbered_elements self.now (column_name self.now j) }
     {
-        ColumnEntries::of(row_cells(cells_at(&self.parts.columns, j)))
+        ColumnEntries::of(row_cells(self.parts.columns.cells_at(j)))
     }
 
     /// The number of nonzero coefficients in the row of number `i`. Takes constant time if the model has lists by rows, and else
@@ -493,7 +483,7 @@ impl Model {
         };
         let element = element_at(lists, i, k);
         let j = element.column as usize;
-        let cell = entry_at(cells_at(&self.parts.columns, j), element.place as usize);
+        let cell = entry_at(self.parts.columns.cells_at(j), element.place as usize);
         (j, cell.1.value())
     }
 

@@ -1,6 +1,6 @@
-use Rattle.std.proofs.Common.{ap, ◌∙◌, length}
+use Rattle.std.proofs.Common.{◌∙◌}
 use Rattle.mpslp_model_core.proofs.ViewLemmas.{count_columns}
 use Rattle.mpslp_model_core.proofs.model.Model.num_cols.Goals as goal
 
 pub returns : goal.returns
-returns c = ap length c.as_slice.ensures.value ∙ count_columns c.self.view_is c.self.invariant.parts
+returns c = c.len.ensures ∙ count_columns c.self.view_is c.self.invariant.parts

@@ -1,6 +1,4 @@
-use Rattle.std.proofs.Common.{sym, ap, subst, ◌∙◌, ℕ, List, length}
-use Rattle.std.specs.{Prelude.IsTrue, List.list_all, Ordering.nat_cmp, FinMap.is_sorted}
-use Rattle.mpslp_model_core.specs.declared.model.ModelColumn.{ModelColumn}
+use Rattle.std.proofs.Common.{ap, ◌∙◌, length}
 use Rattle.mpslp_model_core.proofs.{ViewLemmas.all_sorted, ByRowLemmas.{row_below, listed_in, columns_seen, row_seen_length, has_list}}
 use Rattle.mpslp_model_core.proofs.model.Model.row_len.Goals as goal
 
@@ -9,9 +7,7 @@ row_list-requires c = has_list (listed_in c.in-Some.lists c.self.invariant c.in-
     (row_below c.self.view_is c.self.invariant.parts c.args.i c.requires)
 
 pub count_columns_with-requires : goal.count_columns_with-requires
-count_columns_with-requires c =
-    subst (λ (columns : List (List ℕ × ModelColumn)). IsTrue (list_all (λ column. is_sorted nat_cmp column.1.cells.items) columns))
-    (sym c.deref.ensures.value) (all_sorted c.self.inside.parts.columns.items c.self.invariant.parts.cells)
+count_columns_with-requires c = all_sorted c.self.inside.parts.columns c.self.invariant.parts.cells
 
 pub returns-in-Some : goal.returns-in-Some
 returns-in-Some c = ap length c.row_list.ensures
@@ -19,4 +15,4 @@ returns-in-Some c = ap length c.row_list.ensures
 
 pub returns-in-None : goal.returns-in-None
 returns-in-None c = c.count_columns_with.ensures
-    ∙ ap length (columns_seen c.deref.result.now c.deref.ensures.value c.self.view_is c.self.invariant.parts c.args.i c.requires)
+    ∙ ap length (columns_seen c.self.view_is c.self.invariant.parts c.args.i c.requires)

@@ -7,11 +7,10 @@ pub returns-then-same_rows : goal.returns-then-same_rows
 returns-then-same_rows c =
     let m = c.self.inside.parts in
     let n = c.other.inside.parts in
-    let tested : c.same_columns.result ≡ pointwise same_named_column (column_entries m.columns.items) (column_entries n.columns.items) =
-    c.same_columns.ensures ∙ (λ i. pointwise same_named_column (column_entries (c.deref-then-same_rows.ensures.value i))
-    (column_entries (c.deref-then-same_rows-2.ensures.value i))) in
-    let is_equality = decides-lists same_named_column decides-named-column (column_entries m.columns.items)
-    (column_entries n.columns.items) in (
+    let tested : c.same_columns.result ≡ pointwise same_named_column (column_entries m.columns) (column_entries n.columns) =
+    c.same_columns.ensures in
+    let is_equality = decides-lists same_named_column decides-named-column (column_entries m.columns)
+    (column_entries n.columns) in (
       (λ h. same-parts {m = m} {n = n} c.self.view_is c.other.view_is (record {
         objective = c.has_same_objective.ensures.0 c.if-has_same_objective.true;
         rows = sym c.deref.ensures.value ∙ c.same_rows.ensures.0 c.if-same_rows.true ∙ c.deref-then-has_same_objective.ensures.value;
