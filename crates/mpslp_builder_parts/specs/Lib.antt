@@ -7,8 +7,6 @@ pub mod DeclaredBounds
 -- ---- what only the code cites
 pub mod StoredBounds
 pub mod StoredColumns
-pub mod FarCells
-pub mod Cells
 pub mod CoefficientLog
 pub mod KnownPairs
 pub mod RowForm

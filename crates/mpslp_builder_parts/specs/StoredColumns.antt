@@ -1,9 +1,9 @@
 -- Columns in their form in the code.
-use Rattle.std.specs.Prelude.{◌≡◌, ℕ, List, Some, slice_get}
+use Rattle.std.specs.Prelude.{◌≡◌, ◌≤◌, ℕ, List, Some, slice_get, length}
 use Rattle.std.specs.Option.{option_map_or}
 use Rattle.std.specs.Ordering.{nat_cmp}
 use Rattle.indexmap.specs.IndexMap.{set_value_at}
-use Rattle.mpslp_model_core.specs.Numbered.{each_part, sorted_of}
+use Rattle.mpslp_model_core.specs.Numbered.{each_part, sorted_of, IsOnceBy}
 use Rattle.mpslp_builder_parts.specs.Parts.{ColumnParts, parts_with}
 use Rattle.mpslp_builder_parts.specs.ColumnTable.{ColumnEntries}
 use Rattle.mpslp_builder_parts.specs.CoefficientLog.{LogEntries, chain}
@@ -38,3 +38,8 @@ pub record HasLast (i place row : ℕ) (old new : List (List ℕ × StoredColumn
   pub stored : StoredColumn
   pub was : slice_get old i ≡ Some (key, stored)
   pub written : new ≡ set_value_at old i (record stored { last = place; last_row = row })
+
+-- its coefficients are in the log, each of another row
+pub record IsWhole (log : LogEntries) (column : StoredColumn) : Type 0 where
+  pub place : column.last ≤ length log.cells
+  pub once : IsOnceBy nat_cmp (chain log column.last)

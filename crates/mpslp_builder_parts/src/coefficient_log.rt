@@ -59,6 +59,13 @@ impl CoefficientLog {
         }
     }
 
+    /// The number of coefficients.
+    pub(crate) fn len(&self) -> usize
+        ensures { result ≡ length self.now.cells }
+    {
+        self.cells.len()
+    }
+
     /// Puts a coefficient, and returns its place. `earlier` is that of the one before it in its column.
     ///
     /// # Errors

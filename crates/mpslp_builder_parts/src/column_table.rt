@@ -6,11 +6,11 @@ ghost use Rattle.std.specs.Option.{option_map};
 ghost use Rattle.std.specs.Ordering.{nat_cmp};
 ghost use Rattle.std.specs.FinMap.{find};
 ghost use Rattle.mpslp_types.specs.Name.{bytes_cmp};
-ghost use Rattle.mpslp_model_core.specs.ModelParts.{bounds_in, cells_in};
+ghost use Rattle.mpslp_model_core.specs.ModelColumns.{IsWithin, span_bounds, span_cells};
 ghost use Rattle.mpslp_model_core.specs.Numbered.{IsOnce, each_part};
 ghost use Rattle.mpslp_builder_parts.specs.Parts.{cells_of, no_part, new_column, with_cell, with_bounds, definition_in, bounds_of, moved_in};
 ghost use Rattle.mpslp_builder_parts.specs.ColumnTable.{name_in, cells_in_column, IsChanged};
-ghost use Rattle.mpslp_builder_parts.specs.StoredColumns.{parts_of, definition_of_stored};
+ghost use Rattle.mpslp_builder_parts.specs.StoredColumns.{parts_of, definition_of_stored, IsWhole};
 
 use crate::coefficient_log::CoefficientLog;
 use crate::known_pairs::{
@@ -18,8 +18,8 @@ use crate::known_pairs::{
 };
 use crate::parts::ColumnDefinition;
 use indexmap::IndexMap;
-use mpslp_decimal::Decimal;
-use mpslp_model_core::{ModelBounds, ModelColumn};
+use mpslp_decimal::{Decimal, PackedDecimal};
+use mpslp_model_core::{ColumnSpan, ModelBounds};
 use mpslp_types::{HashSeed, Limit, Name, NameBytes};
 use std::alloc::{AllocError, Global};
 use std::marker::Model;
@@ -45,35 +45,56 @@ impl Model for ColumnTable {
     ghost invariant = { λ table. IsKnown table.columns.entries table.log table.known };
 }
 
-/// The columns of a model with their names and the final row numbers, in the order in which they were declared.
+/// Appends the coefficients of a column with the final row numbers. Returns where they are, and its type and bounds.
+fn append_column(
+    alloc: Global,
+    column: StoredColumn,
+    log: &CoefficientLog,
+    ranks: &[u32],
+    cells: &mut Vec<(u32, PackedDecimal)>,
+    run: &mut Vec<(u32, PackedDecimal)>,
+) -> Result<ColumnSpan, AllocError>
+    requires known { IsWhole log.now column }
+    requires within { All (λ cell. cell.0 < length ranks.now) (cells_of (parts_of log.now column)) }
+    requires apart { (n m : ℕ) → n < length ranks.now → m < length ranks.now → slice_index ranks.now n ≡ slice_index ranks.now m → n ≡ m }
+    ensures bounds { IfOk result (λ span. span.bounds ≡ bounds_of (parts_of log.now column)) }
+    ensures start { IfOk result (λ span. span.start ≡ length cells.old.items) }
+    ensures end { IfOk result (λ span. span.end ≡ length cells.new.items) }
+    ensures cells { OnOk result (cells.new.items ≡ cells.old.items ++ moved_in ranks.now (parts_of log.now column)) }
+{
+    let bounds = ModelBounds::of(alloc, column.definition.declared().bounds())?;
+    let start = cells.len();
+    log.append_column(cells, run, column.last, ranks)?;
+    let end = cells.len();
+    Ok(ColumnSpan { bounds, start, end })
+}
+
+/// The columns of a model with their names and the final row numbers, in the order in which they were declared, and the coefficients
+/// of all of them.
 ///
-/// Coefficients are renumbered before the columns are sorted, while they are in memory in the order of their declarations. In
+/// Coefficients are renumbered before the columns are sorted, while the columns are in memory in the order of their declarations. In
 /// the other order each access would be far from the one before it.
 fn columns_in(
     alloc: Global,
     columns: Columns,
     log: &CoefficientLog,
     ranks: &[u32],
-) -> Result<Vec<(Name, ModelColumn)>, AllocError>
+) -> Result<(Vec<(Name, ColumnSpan)>, Vec<(u32, PackedDecimal)>), AllocError>
+    requires known { All (λ column. IsWhole log.now column.1) columns.entries }
     requires within { All (λ column. All (λ cell. cell.0 < length ranks.now) (cells_of column.1)) (each_part (parts_of log.now) columns.entries) }
     requires apart { (n m : ℕ) → n < length ranks.now → m < length ranks.now → slice_index ranks.now n ≡ slice_index ranks.now m → n ≡ m }
-    ensures bounds { IfOk result (λ made. each_part bounds_in made.items ≡ each_part bounds_of (each_part (parts_of log.now) columns.entries)) }
-    ensures cells { IfOk result (λ made. each_part cells_in made.items ≡ each_part (moved_in ranks.now) (each_part (parts_of log.now) columns.entries)) }
+    ensures bounds { IfOk result (λ made. each_part span_bounds made.0.items ≡ each_part bounds_of (each_part (parts_of log.now) columns.entries)) }
+    ensures cells { IfOk result (λ made. each_part (span_cells made.1.items) made.0.items ≡ each_part (moved_in ranks.now) (each_part (parts_of log.now) columns.entries)) }
+    ensures places { IfOk result (λ made. All (λ column. IsWithin (length made.1.items) column.1) made.0.items) }
 {
     let mut made = Vec::with_capacity(alloc, columns.len())?;
+    let mut cells = Vec::with_capacity(alloc, log.len())?;
     let mut run = Vec::new(alloc);
     for (name, column) in columns {
-        let StoredColumn {
-            last,
-            last_row: _,
-            definition,
-        } = column;
-        let bounds = ModelBounds::of(alloc, definition.declared().bounds())?;
-        let mut cells = Vec::new(alloc);
-        log.append_column(&mut cells, &mut run, last, ranks)?;
-        made.push((name, ModelColumn { bounds, cells }))?;
+        let span = append_column(alloc, column, log, ranks, &mut cells, &mut run)?;
+        made.push((name, span))?;
     }
-    Ok(made)
+    Ok((made, cells))
 }
 
 impl ColumnTable {
@@ -265,7 +286,8 @@ impl ColumnTable {
         &self.columns
     }
 
-    /// The columns of a model with their names and the final row numbers, in the order of their numbers.
+    /// The columns of a model with their names and the final row numbers, in the order of their numbers, and the coefficients of all
+    /// of them.
     ///
     /// # Errors
     ///
@@ -274,11 +296,12 @@ impl ColumnTable {
         self,
         alloc: Global,
         ranks: &[u32],
-    ) -> Result<Vec<(Name, ModelColumn)>, AllocError>
+    ) -> Result<(Vec<(Name, ColumnSpan)>, Vec<(u32, PackedDecimal)>), AllocError>
         requires within { All (λ column. All (λ cell. cell.0 < length ranks.now) column.1.cells) self.entries }
         requires apart { (n m : ℕ) → n < length ranks.now → m < length ranks.now → slice_index ranks.now n ≡ slice_index ranks.now m → n ≡ m }
-        ensures bounds { IfOk result (λ made. each_part bounds_in made.items ≡ each_part bounds_of self.entries) }
-        ensures cells { IfOk result (λ made. each_part cells_in made.items ≡ each_part (moved_in ranks.now) self.entries) }
+        ensures bounds { IfOk result (λ made. each_part span_bounds made.0.items ≡ each_part bounds_of self.entries) }
+        ensures cells { IfOk result (λ made. each_part (span_cells made.1.items) made.0.items ≡ each_part (moved_in ranks.now) self.entries) }
+        ensures places { IfOk result (λ made. All (λ column. IsWithin (length made.1.items) column.1) made.0.items) }
     {
         columns_in(alloc, self.columns, &self.log, ranks)
     }

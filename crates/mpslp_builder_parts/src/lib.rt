@@ -4,13 +4,10 @@
 //! Entries are sorted by small keys of their names and then moved, so no name is copied.
 #![tactic(auto)]
 
-mod cells;
 mod coefficient_log;
 mod column_table;
 mod declared_bounds;
-mod far_cells;
 mod known_pairs;
-mod many_cells;
 mod model_rows_and_columns;
 mod moving;
 mod order;
@@ -19,7 +16,6 @@ mod parts;
 mod ranks;
 mod row_parts;
 
-pub use cells::Cells;
 pub use column_table::ColumnTable;
 pub use known_pairs::StoredColumn;
 pub use declared_bounds::DeclaredBounds;

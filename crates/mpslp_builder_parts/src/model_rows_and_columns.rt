@@ -1,25 +1,20 @@
 //! The rows and the columns of a model, from what is declared of them, and in the order of their names.
 
-ghost use Rattle.std.specs.Prelude.{◌≡◌, ◌<◌, ℕ, IfOk, length, slice_index, unwrap_or};
-ghost use Rattle.std.specs.List.{All, range_with_len};
+ghost use Rattle.std.specs.Prelude.{◌≡◌, IfOk, length, unwrap_or};
+ghost use Rattle.std.specs.List.{range_with_len};
 ghost use Rattle.std.specs.List.Sorted.{IsPermutation, IsSortedByKey};
 ghost use Rattle.mpslp_decimal.specs.Decimal.{zero_number};
-ghost use Rattle.mpslp_types.specs.Name.{IsMpsName, bytes_cmp};
+ghost use Rattle.mpslp_types.specs.Name.{bytes_cmp};
 ghost use Rattle.mpslp_types.specs.declared.kinds.RowType.TheVariants as types;
 ghost use Rattle.mpslp_model_core.specs.Limits.{limits_of, plain_limits};
 ghost use Rattle.mpslp_model_core.specs.RowForms.{row_definition};
-ghost use Rattle.mpslp_model_core.specs.Numbered.{each_part};
 ghost use Rattle.mpslp_builder_parts.specs.Ordered.{name_at, entries_at};
-ghost use Rattle.mpslp_builder_parts.specs.Parts.{limits_in, bounds_of, moved_in, parts_with};
+ghost use Rattle.mpslp_builder_parts.specs.Parts.{limits_in};
 
-use crate::cells::Cells;
 use crate::order::{in_order, order_of};
-use crate::parts::ColumnDefinition;
 use crate::row_parts::RowParts;
 use mpslp_decimal::Decimal;
-use mpslp_model_core::{
-    ModelBounds, ModelColumn, ModelRow, RowLimits, UnpackedRowDefinition, limits_of, plain_limits,
-};
+use mpslp_model_core::{ModelRow, RowLimits, UnpackedRowDefinition, limits_of, plain_limits};
 use mpslp_types::{Name, RowType};
 use std::alloc::{AllocError, Global};
 
@@ -53,27 +48,6 @@ pub fn row_of(alloc: Global, row: &RowParts) -> Result<ModelRow, AllocError>
     ensures { IfOk result (λ made. made ≡ limits_in row.now) }
 {
     ModelRow::of(alloc, limits_in(row))
-}
-
-/// The column of a model, from what is declared of it, with the final row numbers.
-///
-/// # Errors
-///
-/// [`AllocError`] if there is no memory for its bounds, or for one vector of its coefficients.
-pub(crate) fn column_of(
-    alloc: Global,
-    definition: ColumnDefinition,
-    column_cells: Cells,
-    ranks: &[u32],
-) -> Result<ModelColumn, AllocError>
-    requires within { All (λ cell. cell.0 < length ranks.now) column_cells }
-    requires apart { (n m : ℕ) → n < length ranks.now → m < length ranks.now → slice_index ranks.now n ≡ slice_index ranks.now m → n ≡ m }
-    ensures bounds { IfOk result (λ made. made.bounds ≡ bounds_of (parts_with column_cells definition)) }
-    ensures cells { IfOk result (λ made. made.cells.items ≡ moved_in ranks.now (parts_with column_cells definition)) }
-{
-    let bounds = ModelBounds::of(alloc, definition.declared().bounds())?;
-    let cells = column_cells.into_renumbered(ranks)?;
-    Ok(ModelColumn { bounds, cells })
 }
 
 /// Returns the former indices of rows or columns in byte order of their names, and the rows or columns in that order.
