@@ -6,7 +6,7 @@ use Rattle.indexmap.specs.IndexMap.{set_value_at}
 use Rattle.mpslp_decimal.specs.Decimal.{Number}
 use Rattle.std.specs.{List.All, Prelude.slice_range}
 use Rattle.std.proofs.lemmas.List.{take-append-le, drop-append-le, take_all, length-drop, length-append}
-use Rattle.mpslp_model_core.specs.{Numbered.{each_part, sorted_of}, ModelColumns.{IsWithin, span_cells}}
+use Rattle.mpslp_model_core.specs.{Numbered.{each_part, sorted_of, IsOnceBy}, ModelColumns.{IsWithin, span_cells}}
 use Rattle.mpslp_model_core.specs.declared.model_columns.ColumnSpan.{ColumnSpan}
 use Rattle.mpslp_model_core.proofs.RenumberLemmas.{all-from_each, each-of_map}
 use Rattle.mpslp_builder_parts.specs.CoefficientLog.{LogEntries, chain, IsLog}
@@ -232,3 +232,9 @@ within-more cells later more es done e is made starts ends within = let len = ap
     all-more [] all (suc k) d below = absurd (omega (arith, below))
     all-more (x ∷ xs) all zero d below = all zero d (omega arith)
     all-more (x ∷ xs) all (suc k) d below = all-more xs (λ n b under. all (suc n) b (omega (arith, under))) k d (omega (arith, below))
+
+pub all_whole : (log : LogEntries) (es : List (List ℕ × StoredColumn)) → ((i : ℕ) → last_of es i ≤ length log.cells)
+    → ((i : ℕ) → IsOnceBy nat_cmp (chain log (last_of es i))) → All (λ e. IsWhole log e.1) es
+all_whole log [] within once k d below = absurd (omega (arith, below))
+all_whole log (e ∷ es) within once zero d below = record { place = within zero; once = once zero }
+all_whole log (e ∷ es) within once (suc k) d below = all_whole log es (λ i. within (suc i)) (λ i. once (suc i)) k d (omega (arith, below))
