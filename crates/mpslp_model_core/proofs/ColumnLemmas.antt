@@ -7,7 +7,7 @@ use Rattle.mpslp_types.specs.Name.{same_bytes, bytes_cmp}
 use Rattle.mpslp_model_core.specs.{Model.Column, Columned.{row_cells, count_row_cells, column_entries}}
 use Rattle.mpslp_model_core.specs.Same.{same_cell, same_column, same_named_column, same_at}
 use Rattle.mpslp_model_core.specs.{ModelParts.{bounds_in, cells_in}, Numbered.each_part, declared.model_columns.ColumnSpan.ColumnSpan}
-use Rattle.mpslp_model_core.specs.ModelColumns.{ModelColumn, IsWithin, span_bounds, span_cells, column_in, columns_of}
+use Rattle.mpslp_model_core.specs.ModelColumns.{ModelColumn, IsWithin, span_cells, column_in, columns_of}
 use Rattle.mpslp_model_core.proofs.ViewLemmas.{slice_get-part, length-part, names-part, is_sorted-part, position-map}
 
 -- a part of a part of each
@@ -17,7 +17,7 @@ part-part f g (e ∷ es) = grind (arith, part-part f g es)
 
 -- the types and bounds, and the coefficients, of all columns
 pub bounds-columns_of : (es : List (List ℕ × ColumnSpan)) (cells : List (ℕ × Number))
-    → each_part bounds_in (columns_of es cells) ≡ each_part span_bounds es
+    → each_part bounds_in (columns_of es cells) ≡ each_part (λ (span : ColumnSpan). span.bounds) es
 bounds-columns_of es cells = part-part bounds_in (column_in cells) es
 
 pub cells-columns_of : (es : List (List ℕ × ColumnSpan)) (cells : List (ℕ × Number))
@@ -46,13 +46,15 @@ module _ {es spans : List (List ℕ × ColumnSpan)} (cells : List (ℕ × Number
 
   pub column_read : (j : ℕ) {e : List ℕ × ColumnSpan} → slice_get spans j ≡ Some e → slice_get columns j ≡ Some (e.0, column_in cells e.1)
   column_read j {e} at = ap (λ (cs : List (List ℕ × ModelColumn)). slice_get cs j) (sym seen) ∙ slice_get-part (column_in cells) es j
-      ∙ ap (option_map (λ (e : List ℕ × ColumnSpan). (e.0, column_in cells e.1))) (ap (λ (es : List (List ℕ × ColumnSpan)). slice_get es j) (sym same) ∙ at)
+      ∙ ap (option_map (λ (e : List ℕ × ColumnSpan). (e.0, column_in cells e.1)))
+      (ap (λ (es : List (List ℕ × ColumnSpan)). slice_get es j) (sym same) ∙ at)
 
 -- the coefficients of each column are within the vector
 pub span_within : {count : ℕ} {es spans : List (List ℕ × ColumnSpan)} (vector : List (ℕ × Number)) → spans ≡ es → count ≡ length vector
     → All (λ (e : List ℕ × ColumnSpan). IsWithin (length vector) e.1) es → (j : ℕ) {e : List ℕ × ColumnSpan} → slice_get spans j ≡ Some e
     → IsWithin count e.1
-span_within {count} {es} {spans} vector same len within j {e} at = let here = ap (λ (es : List (List ℕ × ColumnSpan)). slice_get es j) (sym same) ∙ at in
+span_within {count} {es} {spans} vector same len within j {e} at =
+    let here = ap (λ (es : List (List ℕ × ColumnSpan)). slice_get es j) (sym same) ∙ at in
     subst (λ (n : ℕ). IsWithin n e.1) (sym len) (subst (λ (e : List ℕ × ColumnSpan). IsWithin (length vector) e.1)
     (get_or_from_slice_get es j e e here) (within j e (slice_get_within es j e here)))
 
@@ -87,7 +89,8 @@ same_here [] other j is is_too = let no = is.name in absurd cc
 same_here (column ∷ own) [] j is is_too = let no = is_too.name in absurd cc
 same_here (column ∷ own) (counterpart ∷ other) zero is is_too = grind arith
 same_here (column ∷ own) (counterpart ∷ other) (suc j) is is_too = same_here own other j
-    (record { name = is.name; bounds = is.bounds; cells = is.cells }) (record { name = is_too.name; bounds = is_too.bounds; cells = is_too.cells })
+    (record { name = is.name; bounds = is.bounds; cells = is.cells })
+    (record { name = is_too.name; bounds = is_too.bounds; cells = is_too.cells })
 
 -- or the names differ
 pub other_name : (own other : List (List ℕ × ModelColumn)) (j : ℕ) {name name_too : List ℕ}

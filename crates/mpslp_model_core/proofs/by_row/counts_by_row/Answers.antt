@@ -5,7 +5,8 @@ use Rattle.mpslp_model_core.proofs.by_row.counts_by_row.Goals as goal
 
 pub count_cell-requires-clause-room : goal.count_cell-requires-clause-room
 count_cell-requires-clause-room c = let columns = c.args.columns.now in let k = c.loop-j.j in let m = c.loop-cell.cell-index in
-    let within = cell_within columns k c.cells_at-cell-items.result.now m c.cell-item.result c.cells_at-cell-items.ensures (omega arith) c.cell-item.is c.args.rows c.requires.within in let few = c.requires.few in
+    let within = cell_within columns k c.cells_at-cell-items.result.now m c.cell-item.result c.cells_at-cell-items.ensures (omega arith)
+    c.cell-item.is c.args.rows c.requires.within in let few = c.requires.few in
     let bound = counted_few (length columns) c.loop-cell.invariant (λ i. noted_few columns k m i (omega arith)) c.cell-item.result.0 within in omega arith
 
 pub loop-cell-init : goal.loop-cell-init

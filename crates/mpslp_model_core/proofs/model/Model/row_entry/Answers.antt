@@ -13,7 +13,8 @@ element_at-element-requires-clause-element c = subst (λ (len : ℕ). c.args.k <
     (listed_in c.in-Some.lists c.self.invariant c.in-Some.is) c.args.i c.requires.row)) c.requires.entry
 
 pub cells_at-requires : goal.cells_at-requires
-cells_at-requires c = subst (λ (n : ℕ). c.element_at-element.result.column < n) (sym (count_columns c.self.view_is c.self.invariant.parts)) (element_below c.in-Some.lists c.self.view_is (listed_in c.in-Some.lists
+cells_at-requires c = subst (λ (n : ℕ). c.element_at-element.result.column < n) (sym (count_columns c.self.view_is c.self.invariant.parts))
+    (element_below c.in-Some.lists c.self.view_is (listed_in c.in-Some.lists
     c.self.invariant c.in-Some.is) c.args.i c.args.k c.requires.row c.element_at-element.result c.element_at-element.ensures)
 
 pub entry_at-cell-requires : goal.entry_at-cell-requires
@@ -30,10 +31,12 @@ column_with-j-requires-clause-element c = subst (λ (len : ℕ). c.args.k < len)
 
 pub coefficient-requires-clause-column : goal.coefficient-requires-clause-column
 coefficient-requires-clause-column c = column_below c.args.self.now c.args.i c.args.k c.column_with-j.result
-    (subst (λ (js : List ℕ). slice_get js c.args.k ≡ Some c.column_with-j.result) (columns_seen c.self.view_is c.self.invariant.parts c.args.i c.requires.row) c.column_with-j.ensures)
+    (subst (λ (js : List ℕ). slice_get js c.args.k ≡ Some c.column_with-j.result) (columns_seen c.self.view_is c.self.invariant.parts
+    c.args.i c.requires.row) c.column_with-j.ensures)
 
 pub returns-in_default-clause-column : goal.returns-in_default-clause-column
-returns-in_default-clause-column c = subst (λ (js : List ℕ). slice_get js c.args.k ≡ Some c.column_with-j.result) (columns_seen c.self.view_is c.self.invariant.parts c.args.i c.requires.row) c.column_with-j.ensures
+returns-in_default-clause-column c = subst (λ (js : List ℕ). slice_get js c.args.k ≡ Some c.column_with-j.result) (columns_seen
+    c.self.view_is c.self.invariant.parts c.args.i c.requires.row) c.column_with-j.ensures
 
 pub returns-clause-column : goal.returns-clause-column
 returns-clause-column c = element_column c.in-Some.lists c.self.view_is (listed_in c.in-Some.lists c.self.invariant c.in-Some.is) c.args.i
@@ -41,4 +44,5 @@ returns-clause-column c = element_column c.in-Some.lists c.self.view_is (listed_
 
 pub returns-clause-value : goal.returns-clause-value
 returns-clause-value c = c.value.ensures ∙ element_value c.in-Some.lists c.self.view_is (listed_in c.in-Some.lists c.self.invariant
-    c.in-Some.is) c.args.i c.args.k c.requires.row c.element_at-element.result c.element_at-element.ensures c.cells_at.result.now c.cells_at.ensures c.entry_at-cell.result.now c.entry_at-cell.ensures
+    c.in-Some.is) c.args.i c.args.k c.requires.row c.element_at-element.result c.element_at-element.ensures c.cells_at.result.now
+    c.cells_at.ensures c.entry_at-cell.result.now c.entry_at-cell.ensures
