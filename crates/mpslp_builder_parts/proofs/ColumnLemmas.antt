@@ -75,10 +75,10 @@ on_err = grind arith
 pub on_ok : {A E P Q : Type 0} (r : Result A E) → (P → Q) → OnOk r P → OnOk r Q
 on_ok = grind arith
 
-none_there : {X : Type 0} (o : Option X) → is_some o ≡ false → o ≡ None
+pub none_there : {X : Type 0} (o : Option X) → is_some o ≡ false → o ≡ None
 none_there = grind arith
 
-some_mapped : {X Y : Type 0} (f : X → Y) (o : Option X) → is_some (option_map f o) ≡ is_some o
+pub some_mapped : {X Y : Type 0} (f : X → Y) (o : Option X) → is_some (option_map f o) ≡ is_some o
 some_mapped = grind arith
 
 mapped_twice : {X Y Z : Type 0} (f : X → Y) (g : Y → Z) (o : Option X) → option_map g (option_map f o) ≡ option_map (λ x. g (f x)) o
