@@ -1,6 +1,6 @@
 -- What is found in all columns depends only on what contracts see of them.
 use Rattle.mpslp_builder.proofs.Prelude
-use Prelude.{arith, ◌≡◌, refl, sym, ap, ◌∙◌, ℕ, List, [], ◌∷◌, Bool, length, ◌||◌, each_part, list_any, least_name, entry_name, cond, Some, lesser, subst, ◌<◌, ForSome, Option, option_map, option_and_then}
+use Prelude.{arith, ◌≡◌, refl, sym, ap, ◌∙◌, ℕ, List, [], ◌∷◌, Bool, length, ◌||◌, each_part, list_any, least_name, entry_name}
 use Rattle.mpslp_builder_parts.proofs.{ColumnLemmas.name_of_part, TakenLemmas.as_many}
 
 module _ {V X : Type 0} (f : V → X) (p : X → Bool) where
@@ -13,7 +13,8 @@ module _ {V X : Type 0} (f : V → X) (p : X → Bool) where
   least_part (e ∷ es) = grind (arith, least_part es)
 
 -- two lists of entries with the same part
-module _ {V W X : Type 0} (f : V → X) (g : W → X) (es : List (List ℕ × V)) (ds : List (List ℕ × W)) (same : each_part f es ≡ each_part g ds) where
+module _ {V W X : Type 0} (f : V → X) (g : W → X) (es : List (List ℕ × V)) (ds : List (List ℕ × W))
+    (same : each_part f es ≡ each_part g ds) where
   pub any_alike : (p : X → Bool) → list_any (λ e. p (f e.1)) es ≡ list_any (λ e. p (g e.1)) ds
   any_alike p = any_part f p es ∙ ap (list_any (λ (e : List ℕ × X). p e.1)) same ∙ sym (any_part g p ds)
 

@@ -7,8 +7,8 @@ pub use Rattle.std.{proofs.lemmas.Option.{slice_get_read, slice_get_within}, spe
 pub use Rattle.std.specs.Cmp.{second_so, Lexicographic.{bytes_decides, nat_list_cmp_total, nat_list_eq_equiv, same_text, texts_ties}}
 pub use Rattle.std.specs.FinMap.{FinMap, find, is_sorted, nat_cmp-IsAntisymmetric, put}
 pub use Rattle.std.specs.FinMap.Entries.{below_all, by_order, find-put, is_sorted-put, same_entries}
-pub use Rattle.std.specs.List.{All, AllByRecursion, cons_option, flat_map, list_all, list_any, position_or_len, range_with_len, remove}
-pub use Rattle.std.specs.{List.Sorted.IsSortedBy, Map.{keys_of, lookup}, Option.{ForSome, option_and_then, option_map, option_map_or}}
+pub use Rattle.std.specs.List.{All, cons_option, flat_map, list_all, list_any, position_or_len, range_with_len, remove}
+pub use Rattle.std.specs.{List.Sorted.IsSortedBy, Map.lookup, Option.{ForSome, option_and_then, option_map, option_map_or}}
 pub use Rattle.std.specs.Ordering.{eq_by_cmp, is_eq, is_gt, is_le, is_lt, nat_cmp, ordering_reverse, ordering_then}
 pub use Rattle.std.specs.Prelude.{Err, IfOk, IsTrue, MatchResult, None, Ok, OnErr, OnOk, Option, Result, Some, codes, filter, filter_map}
 pub use Rattle.std.specs.Prelude.{if◌then◌else◌, insert, is_none, is_some, negsuc, pos, slice_get, slice_index, slice_index_or, unwrap_or}

@@ -1,10 +1,11 @@
 -- The draft that tables represent, and how it changes if a row or a column is added or written.
 pub use Rattle.mpslp_builder_parts.proofs.PassLemmas.{each_part-append}
-pub use Rattle.mpslp_builder_parts.proofs.ColumnLemmas.{each_part-kept, find-each_part, found_name, none_there, on_err, on_ok, once-from_distinct, some_mapped}
+pub use Rattle.mpslp_builder_parts.proofs.ColumnLemmas.{each_part-kept, find-each_part, found_name, none_there, on_err, on_ok}
+pub use Rattle.mpslp_builder_parts.proofs.ColumnLemmas.{once-from_distinct, some_mapped}
 use Rattle.mpslp_builder.proofs.Prelude
 use Prelude.{arith, ◌≡◌, refl, sym, ap, ◌∙◌, ℕ, zero, suc, List, [], ◌∷◌, ◌++◌, Bool, true, false, cond, length, inl, inr, Option, Some}
-use Prelude.{None, is_some, slice_get, ◌⊎◌, AllByRecursion, option_map, option_map_or, eq_by_cmp, texts_ties, find, keys_of, same_bytes}
-use Prelude.{bytes_cmp, each_part, given_parts, IsOnce, name_tied, name_same, set_value_at, rules, ◌||◌, Result, OnOk, OnErr, nat_cmp, put}
+use Prelude.{None, is_some, slice_get, ◌⊎◌, option_map, option_map_or, eq_by_cmp, texts_ties, find, same_bytes}
+use Prelude.{bytes_cmp, each_part, given_parts, IsOnce, name_tied, name_same, set_value_at, ◌||◌, nat_cmp, put}
 use Prelude.{lookup, Number, CoefficientKey, key_cmp, sorted_of, column_cells, all_cells, IsInjective, equal_from, bytes_total, tied_names}
 use Prelude.{find-sorted_of, at, or_else, find-two, at_name, has_name, ◌<◌, length-append, list_all, second_so, nat_list_eq_equiv, Sense}
 use Prelude.{both_so, RowDefinition, all_named, sorted_of-put, sorted_of-append, Draft, with_declaration, declare_objective, declare_row}
@@ -13,7 +14,7 @@ use Prelude.{name_of_row_key, cells_by_name, draft_from, AreNumbered, ObjectiveP
 use Prelude.{nat_cmp-IsAntisymmetric, Limit, same_key, find-all_cells, with_declarations, declare_column, declare_coefficient}
 use Prelude.{declare_marked, declare_integer, declare_binary, declare_semi, bounds_declared, has_column, has_coefficient, no_part, cells_of}
 use Prelude.{lower_of, upper_of, mark_of, integer_of, binary_of, semi_of, new_column, with_cell, with_bounds}
-use Rattle.std.specs.{List.IsDistinct, FinMap.Entries.find_tied, Map.lookup_key}
+use Rattle.std.specs.FinMap.Entries.{find_tied}
 use Rattle.mpslp_model_core.proofs.CellLemmas.{key_total, first_none, find-put_cell, swapped, clear}
 use Rattle.mpslp_builder.proofs.DraftEntries.{put_all}
 

@@ -97,7 +97,7 @@ impl ColumnTable {
         ensures { option_copied result ≡ name_in self.now column }
     {
         match self.columns.get_index(column) {
-            Some((name, _column)) => Some(name),
+            Some((name, _stored)) => Some(name),
             None => None,
         }
     }
@@ -108,7 +108,7 @@ impl ColumnTable {
         ensures found { is_some result ≡ is_some (find bytes_cmp name.now (each_part no_part self.now.entries)) }
     {
         match self.columns.get_full(NameBytes { bytes: name }) {
-            Some((number, _key, _column)) => Some(number),
+            Some((number, _key, _stored)) => Some(number),
             None => None,
         }
     }
@@ -118,7 +118,7 @@ impl ColumnTable {
         ensures { option_copied result ≡ option_map (λ e. definition_in e.1) (slice_get self.now.entries column) }
     {
         match self.columns.get_index(column) {
-            Some((_name, column)) => Some(&column.definition),
+            Some((_name, stored)) => Some(&stored.definition),
             None => None,
         }
     }
@@ -128,7 +128,7 @@ impl ColumnTable {
         ensures { result ≡ is_some (find nat_cmp row (cells_in_column self.now column)) }
     {
         match self.columns.get_index(column) {
-            Some((_name, column)) => column.cells.has(row),
+            Some((_name, stored)) => stored.cells.has(row),
             None => false,
         }
     }
@@ -143,11 +143,11 @@ impl ColumnTable {
         ensures ok { OnOk result (self.new.entries ≡ self.old.entries ++ (name, new_column) ∷ []) }
         ensures err { OnErr result (self.new.entries ≡ self.old.entries) }
     {
-        let column = StoredColumn {
+        let stored = StoredColumn {
             cells: Cells::new(alloc),
             definition: ColumnDefinition::new(),
         };
-        self.columns.insert(name, column)?;
+        self.columns.insert(name, stored)?;
         Ok(())
     }
 
@@ -228,7 +228,7 @@ impl ColumnTable {
     {
         let mut columns = self.columns;
         match columns.swap_remove_index(column) {
-            Some((name, _column)) => Some(name),
+            Some((taken, _stored)) => Some(taken),
             None => None,
         }
     }

@@ -119,10 +119,7 @@ fn into_fault(tables: Tables, found: FoundFault) -> Fault
             (kind_of_row_fault(fault), name_out_of(tables.rows, index))
         }
         FoundFault::Column(fault, index) => {
-            (
-                kind_of_column_fault(fault),
-                tables.columns.take_name(index),
-            )
+            (kind_of_column_fault(fault), tables.columns.take_name(index))
         }
     };
     Fault {

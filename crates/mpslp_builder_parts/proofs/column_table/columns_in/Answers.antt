@@ -32,6 +32,6 @@ loop-name-preserved c =
           (ap (each_part cells_in) c.in_ok-push.ensures.items ∙ each_part-append cells_in made c.in-Some.name c.in_ok-column_of.field-0
           ∙ (λ i. each_part cells_in made ++ (c.in-Some.name, c.in_ok-column_of.ensures.cells i) ∷ []))
           (ap (λ columns. each_part cells_in made ++ each_part (moved_in ranks) columns) (sym steps) ∙ before.cells);
-      within = holds_later (λ column. All (λ cell. cell.0 < length ranks) (cells_of column.1)) (each_part parts_of c.loop-name.name-iterator)
-          left (c.in-Some.name, parts) steps before.within;
+      within = holds_later (λ column. All (λ cell. cell.0 < length ranks) (cells_of column.1))
+          (each_part parts_of c.loop-name.name-iterator) left (c.in-Some.name, parts) steps before.within;
     }

@@ -1,7 +1,8 @@
 use Rattle.std.proofs.Common.{◌∙◌}
 use Rattle.mpslp_types.specs.Name.{same_bytes}
 use Rattle.indexmap.proofs.CallerLemmas.{insert_entry-new}
-use Rattle.mpslp_builder_parts.specs.{Parts.{new_column, parts_with}, StoredColumns.parts_of, declared.column_table.StoredColumn.StoredColumn}
+use Rattle.mpslp_builder_parts.specs.{Parts.{new_column, parts_with}, StoredColumns.parts_of}
+use Rattle.mpslp_builder_parts.specs.declared.column_table.StoredColumn.{StoredColumn}
 use Rattle.mpslp_builder_parts.proofs.ColumnLemmas.{added, absent_part}
 use Rattle.mpslp_builder_parts.proofs.column_table.ColumnTable.insert.Goals as goal
 

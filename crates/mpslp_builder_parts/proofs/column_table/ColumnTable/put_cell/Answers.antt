@@ -5,7 +5,8 @@ use Rattle.mpslp_builder_parts.proofs.{ColumnLemmas.{cells_there, changed, place
 use Rattle.mpslp_builder_parts.proofs.column_table.ColumnTable.put_cell.Goals as goal
 
 pub pair_mut-stored-requires : goal.pair_mut-stored-requires
-pair_mut-stored-requires c = place_within parts_of c.self.inside.columns.entries c.args.self.now c.self.view_is c.args.column c.requires.column
+pair_mut-stored-requires c =
+    place_within parts_of c.self.inside.columns.entries c.args.self.now c.self.view_is c.args.column c.requires.column
 
 pub put-requires : goal.put-requires
 put-requires c = ap (λ (cells : List (ℕ × Number)). find nat_cmp c.args.row cells) (cells_there parts_of c.self.inside.columns.entries
