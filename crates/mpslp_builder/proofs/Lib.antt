@@ -7,6 +7,7 @@ pub mod BoundsLemmas
 pub mod RefusalLemmas
 pub mod MeaningFromNoFault
 pub mod TableDrafts
+pub mod AlikeLemmas
 pub mod ReadingLemmas
 pub mod LineLemmas
 pub mod FinishLemmas

@@ -7,8 +7,8 @@ pub use Rattle.std.{proofs.lemmas.Option.{slice_get_read, slice_get_within}, spe
 pub use Rattle.std.specs.Cmp.{second_so, Lexicographic.{bytes_decides, nat_list_cmp_total, nat_list_eq_equiv, same_text, texts_ties}}
 pub use Rattle.std.specs.FinMap.{FinMap, find, is_sorted, nat_cmp-IsAntisymmetric, put}
 pub use Rattle.std.specs.FinMap.Entries.{below_all, by_order, find-put, is_sorted-put, same_entries}
-pub use Rattle.std.specs.List.{All, AllByRecursion, cons_option, flat_map, list_all, list_any, position_or_len, range_with_len, remove}
-pub use Rattle.std.specs.{List.Sorted.IsSortedBy, Map.{keys_of, lookup}, Option.{ForSome, option_and_then, option_map, option_map_or}}
+pub use Rattle.std.specs.List.{All, cons_option, flat_map, list_all, list_any, position_or_len, range_with_len, remove}
+pub use Rattle.std.specs.{List.Sorted.IsSortedBy, Map.lookup, Option.{ForSome, option_and_then, option_map, option_map_or}}
 pub use Rattle.std.specs.Ordering.{eq_by_cmp, is_eq, is_gt, is_le, is_lt, nat_cmp, ordering_reverse, ordering_then}
 pub use Rattle.std.specs.Prelude.{Err, IfOk, IsTrue, MatchResult, None, Ok, OnErr, OnOk, Option, Result, Some, codes, filter, filter_map}
 pub use Rattle.std.specs.Prelude.{if◌then◌else◌, insert, is_none, is_some, negsuc, pos, slice_get, slice_index, slice_index_or, unwrap_or}
@@ -47,7 +47,7 @@ pub use Rattle.mpslp_model_core.specs.{Numbered.{moved_cells, sorted_of}, WrongP
 pub use Rattle.mpslp_model_core.specs.declared.{bounds.ColumnFault.ColumnFault, limits.RowFault.RowFault, model.ModelParts.ModelParts}
 pub use Rattle.mpslp_builder_parts.proofs.{RankLemmas.{order_apart, order_length, order_within}, TakenLemmas.as_many}
 pub use Rattle.mpslp_builder_parts.specs.{Ordered.{entries_at, name_at}, Parts.{itself, moved_in, rhs_in}, RowParts.RowParts}
-pub use Rattle.mpslp_builder_parts.specs.declared.parts.{ColumnParts.ColumnParts, ObjectiveParts.ObjectiveParts}
+pub use Rattle.mpslp_builder_parts.specs.{Parts.ColumnParts, declared.parts.ObjectiveParts.ObjectiveParts}
 pub use Rattle.mpslp_maps.proofs.{PutKeyLemmas.put-insert, SearchLemmas.{found_nowhere, less_from, place_after, sorted-put, suc_of}}
 pub use Rattle.mpslp_builder.specs.{Answer.{Answer, Answers, first_refusal}, Bounds.has_crossed_bounds}
 pub use Rattle.mpslp_builder.specs.{Bounds.{has_semi_bounds, lower_bound, one_limit, upper_bound, zero_limit}, Calls.CoefficientsAreKnown}

@@ -1,9 +1,11 @@
 -- The draft that tables represent, and how it changes if a row or a column is added or written.
 pub use Rattle.mpslp_builder_parts.proofs.PassLemmas.{each_part-append}
+pub use Rattle.mpslp_builder_parts.proofs.ColumnLemmas.{each_part-kept, find-each_part, found_name, none_there, on_err, on_ok}
+pub use Rattle.mpslp_builder_parts.proofs.ColumnLemmas.{once-from_distinct, some_mapped}
 use Rattle.mpslp_builder.proofs.Prelude
 use Prelude.{arith, ◌≡◌, refl, sym, ap, ◌∙◌, ℕ, zero, suc, List, [], ◌∷◌, ◌++◌, Bool, true, false, cond, length, inl, inr, Option, Some}
-use Prelude.{None, is_some, slice_get, ◌⊎◌, AllByRecursion, option_map, option_map_or, eq_by_cmp, texts_ties, find, keys_of, same_bytes}
-use Prelude.{bytes_cmp, each_part, given_parts, IsOnce, name_tied, name_same, set_value_at, rules, ◌||◌, Result, OnOk, OnErr, nat_cmp, put}
+use Prelude.{None, is_some, slice_get, ◌⊎◌, option_map, option_map_or, eq_by_cmp, texts_ties, find, same_bytes}
+use Prelude.{bytes_cmp, each_part, given_parts, IsOnce, name_tied, name_same, set_value_at, ◌||◌, nat_cmp, put}
 use Prelude.{lookup, Number, CoefficientKey, key_cmp, sorted_of, column_cells, all_cells, IsInjective, equal_from, bytes_total, tied_names}
 use Prelude.{find-sorted_of, at, or_else, find-two, at_name, has_name, ◌<◌, length-append, list_all, second_so, nat_list_eq_equiv, Sense}
 use Prelude.{both_so, RowDefinition, all_named, sorted_of-put, sorted_of-append, Draft, with_declaration, declare_objective, declare_row}
@@ -12,24 +14,13 @@ use Prelude.{name_of_row_key, cells_by_name, draft_from, AreNumbered, ObjectiveP
 use Prelude.{nat_cmp-IsAntisymmetric, Limit, same_key, find-all_cells, with_declarations, declare_column, declare_coefficient}
 use Prelude.{declare_marked, declare_integer, declare_binary, declare_semi, bounds_declared, has_column, has_coefficient, no_part, cells_of}
 use Prelude.{lower_of, upper_of, mark_of, integer_of, binary_of, semi_of, new_column, with_cell, with_bounds}
-use Rattle.std.specs.{List.IsDistinct, FinMap.Entries.find_tied, Map.lookup_key}
+use Rattle.std.specs.FinMap.Entries.{find_tied}
 use Rattle.mpslp_model_core.proofs.CellLemmas.{key_total, first_none, find-put_cell, swapped, clear}
 use Rattle.mpslp_builder.proofs.DraftEntries.{put_all}
 
 -- ---- entries with distinct names, and what is found by a name
 
 module _ {V X : Type 0} (f : V → X) where
-  none_of : (q : List ℕ) (es : List (List ℕ × V)) → AllByRecursion (λ y. same_bytes q y ≡ false) (keys_of es)
-      → find bytes_cmp q (each_part f es) ≡ None
-  none_of q [] h = refl
-  none_of q (e ∷ es) h = ap (λ b. cond b (Some (f e.1)) (find bytes_cmp q (each_part f es))) (sym (texts_ties q e.0) ∙ h.0) ∙ none_of q es h.1
-
-  -- distinct keys give distinct names
-  pub once-from_distinct : (es : List (List ℕ × V)) → IsDistinct (λ x y. same_bytes x y) (keys_of es) → IsOnce (each_part f es)
-  unfolding IsDistinct
-  once-from_distinct [] h = tt
-  once-from_distinct (e ∷ es) h = (none_of e.0 es h.0, once-from_distinct es h.1)
-
   -- a name among the entries is found
   pub there_found : (es : List (List ℕ × V)) (i : ℕ) (q : List ℕ) → option_map (λ e. e.0) (slice_get es i) ≡ Some q
       → find bytes_cmp q (each_part f es) ≡ None → ⊥
@@ -102,22 +93,11 @@ old_or_last (x ∷ xs) k v (suc i) r h = grind (arith, inl, inr, old_or_last xs 
 
 -- ---- the parts of a map's entries by their names, and how they change if an entry is added or written
 
-pub none_there : {X : Type 0} (o : Option X) → is_some o ≡ false → o ≡ None
-none_there = grind arith
-
 module _ {V X : Type 0} (f : V → X) where
-  pub find-each_part : (q : List ℕ) (es : List (List ℕ × V)) → find bytes_cmp q (each_part f es) ≡ option_map f (lookup (λ k. same_bytes q k) es)
-  find-each_part q [] = refl
-  find-each_part q (e ∷ es) =
-      ap (λ b. cond b (Some (f e.1)) (find bytes_cmp q (each_part f es))) (sym (texts_ties q e.0)) ∙ (grind (arith, find-each_part q es))
-
   -- what is found at a key is the part at its name
   pub at_name-each_part : (q : List ℕ) (es : List (List ℕ × V)) (o : Option V) → o ≡ lookup (λ k. same_bytes q k) es
       → option_map f o ≡ at_name (sorted_of bytes_cmp (each_part f es)) q
-  at_name-each_part q es o h = ap (option_map f) h ∙ sym (find-sorted_of bytes_cmp bytes_total q (each_part f es) ∙ find-each_part q es)
-
-  some_mapped : (o : Option V) → is_some (option_map f o) ≡ is_some o
-  some_mapped = grind arith
+  at_name-each_part q es o h = ap (option_map f) h ∙ sym (find-sorted_of bytes_cmp bytes_total q (each_part f es) ∙ find-each_part f q es)
 
   -- a name is one of the map's if and only if it is a key
   pub has_name-each_part : (q : List ℕ) (es : List (List ℕ × V))
@@ -128,13 +108,6 @@ module _ {V X : Type 0} (f : V → X) where
   pub absent-each_part : (q : List ℕ) (es : List (List ℕ × V)) → has_name (sorted_of bytes_cmp (each_part f es)) q ≡ false
       → find bytes_cmp q (each_part f es) ≡ None
   absent-each_part = grind (arith, find-sorted_of, bytes_total)
-
-  -- a write that keeps this part
-  pub each_part-kept : (es : List (List ℕ × V)) (i : ℕ) (k : List ℕ) (v w : V) → slice_get es i ≡ Some (k, v) → f w ≡ f v
-      → each_part f (set_value_at es i w) ≡ each_part f es
-  each_part-kept [] i k v w at same = refl
-  each_part-kept (e ∷ es) zero k v w at same = grind (arith)
-  each_part-kept (e ∷ es) (suc i) k v w at same = grind (arith, at, each_part-kept es i k v w at same)
 
 -- ---- coefficients
 
@@ -202,29 +175,6 @@ module _ {V X : Type 0} (f : V → Option X) where
                   ∙ none_given_part q es h
             ]
       ] refl none
-
--- ---- what a look-up shows
-
-key_found : {K X : Type 0} (t : K → Bool) (es : List (K × X)) (k : K) → Some k ≡ lookup_key t es → t k ≡ true
-key_found t [] k h = cc
-key_found {K} t (e ∷ es) k h = grind (arith, key_found t es k)
-
--- the entry that is found has the name that was looked for
-pub found_name : {X : Type 0} (q : List ℕ) (es : List (List ℕ × X)) (i : ℕ) (k : List ℕ) (x : X) → slice_get es i ≡ Some (k, x)
-    → Some k ≡ lookup_key (λ k. same_bytes q k) es → option_map (λ e. e.0) (slice_get es i) ≡ Some q
-found_name {X} q es i k x at h = search (rules, at, key_found)
-
--- writing what is already there changes nothing
-pub set_same : {K X : Type 0} (es : List (K × X)) (i : ℕ) (k : K) (x y : X) → slice_get es i ≡ Some (k, x) → y ≡ x → set_value_at es i y ≡ es
-set_same [] i k x y at same = refl
-set_same {K} {X} (e ∷ es) zero k x y at same = grind (arith)
-set_same {K} {X} (e ∷ es) (suc i) k x y at same = grind (arith, at, set_same es i k x y at same)
-
-pub on_err : {A E P Q : Type 0} (r : Result A E) → (P → Q) → OnErr r P → OnErr r Q
-on_err = grind arith
-
-pub on_ok : {A E P Q : Type 0} (r : Result A E) → (P → Q) → OnOk r P → OnOk r Q
-on_ok = grind arith
 
 pub or_right : (a b r : Bool) → false ≡ a → r ≡ b → r ≡ (a || b)
 or_right = grind arith

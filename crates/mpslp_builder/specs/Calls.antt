@@ -1,21 +1,19 @@
 -- What tables state by number, and what each call changes in them.
 use Rattle.std.specs.Prelude.{◌≡◌, ℕ, zero, suc, Bool, true, false, ◌&&◌, ◌||◌, List, [], ◌∷◌, ◌++◌, Option, None, Some, is_some, slice_get, Result, Ok, Err}
 use Rattle.std.specs.Option.{option_map, option_map_or}
-use Rattle.std.specs.Ordering.{nat_cmp}
-use Rattle.std.specs.FinMap.{put}
 use Rattle.indexmap.specs.IndexMap.{set_value_at}
 use Rattle.mpslp_decimal.specs.Decimal.{Number}
 use Rattle.mpslp_types.specs.declared.faults.BuildFault.{BuildFault}
 use Rattle.mpslp_model_core.specs.Numbered.{IsOnce, each_part}
 use Rattle.mpslp_model_core.specs.Model.{CoefficientKey}
 use Rattle.mpslp_model_core.specs.Limits.{is_definition_by_limits}
-pub use Rattle.mpslp_builder_parts.specs.Parts.{new_column, with_bounds}
+pub use Rattle.mpslp_builder_parts.specs.Parts.{new_column, with_bounds, with_cell}
+use Rattle.mpslp_builder_parts.specs.Parts.{ColumnParts}
 use Rattle.mpslp_builder.specs.Answer.{Answer}
 use Rattle.mpslp_builder.specs.Declaration.{Draft, has_row, has_column, has_coefficient}
 use Rattle.mpslp_builder.specs.Tables.{definition_of, cells_of, name_of_row_key, cells_by_name}
 use Rattle.mpslp_builder_parts.specs.declared.parts.ObjectiveParts.{ObjectiveParts}
 use Rattle.mpslp_builder_parts.specs.RowParts.{RowParts}
-use Rattle.mpslp_builder_parts.specs.declared.parts.ColumnParts.{ColumnParts}
 use Rattle.mpslp_builder.specs.declared.tables.RowRef.{RowRef}
 use Rattle.mpslp_builder.specs.declared.tables.RowRef.TheVariants.{Objective, Row}
 use Rattle.mpslp_builder.specs.declared.tables.Tables.{Tables}
@@ -142,9 +140,6 @@ pub record HasObjectiveChanged (old : Tables) (change : ObjectiveParts → Objec
 abbrev pub HasRhsPut : Tables → RowRef → Number → Tables → Type 0
 HasRhsPut old Objective value new = HasObjectiveChanged old (λ o. record o { rhs = Some value }) new
 HasRhsPut old (Row i) value new = HasRowChanged old i (λ row. record row { rhs = Some value }) new
-
-abbrev pub with_cell : ℕ → Number → ColumnParts → ColumnParts
-with_cell row value column = record column { cells = put nat_cmp row value column.cells }
 
 -- the row (or objective) and the column of each coefficient are declared
 abbrev pub CoefficientsAreKnown : Draft → Type 0

@@ -10,13 +10,13 @@ use Rattle.mpslp_types.specs.Lists.{head_of}
 use Rattle.mpslp_model_core.specs.declared.limits.RowFault.{RowFault}
 use Rattle.mpslp_model_core.specs.declared.bounds.ColumnFault.{ColumnFault}
 pub use Rattle.mpslp_builder_parts.specs.Parts.{declared_in}
+use Rattle.mpslp_builder_parts.specs.Parts.{ColumnParts}
 use Rattle.mpslp_builder.specs.FileFault.{names_with, whole_fault}
 use Rattle.mpslp_builder.specs.Tables.{definition_of, rhs_of, range_of}
 use Rattle.mpslp_types.specs.declared.faults.Fault.{Fault}
 use Rattle.mpslp_types.specs.declared.faults.FaultKind.{FaultKind}
 use Rattle.mpslp_types.specs.declared.faults.FaultKind.TheVariants as kinds
 use Rattle.mpslp_builder_parts.specs.RowParts.{RowParts}
-use Rattle.mpslp_builder_parts.specs.declared.parts.ColumnParts.{ColumnParts}
 use Rattle.mpslp_builder.specs.declared.tables.Tables.{Tables}
 use Rattle.mpslp_builder.specs.declared.tables.file_faults.FoundFault.{FoundFault}
 use Rattle.mpslp_builder.specs.declared.tables.file_faults.FoundFault.TheVariants as found

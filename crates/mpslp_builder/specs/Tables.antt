@@ -9,8 +9,8 @@ use Rattle.mpslp_model_core.specs.Numbered.{sorted_of, each_part, given_parts, n
 use Rattle.mpslp_builder.specs.Declaration.{Draft}
 pub use Rattle.mpslp_builder_parts.specs.Parts.{definition_of, rhs_of, range_of, no_part, cells_of, lower_of, upper_of, as_part, mark_of, integer_of, binary_of, semi_of}
 use Rattle.mpslp_builder_parts.specs.declared.parts.ObjectiveParts.{ObjectiveParts}
+use Rattle.mpslp_builder_parts.specs.Parts.{ColumnParts}
 use Rattle.mpslp_builder_parts.specs.RowParts.{RowParts}
-use Rattle.mpslp_builder_parts.specs.declared.parts.ColumnParts.{ColumnParts}
 use Rattle.mpslp_builder.specs.declared.tables.Tables.{Tables}
 
 -- ---- the draft

@@ -12,7 +12,7 @@ ghost use Rattle.std.specs.Prelude.{◌≡◌, ◌<◌};
 ghost use Rattle.mpslp_builder.specs.Calls.{row_key_of, IsOnceEach, IsEmptyTables};
 
 use indexmap::IndexMap;
-use mpslp_builder_parts::{ColumnParts, ObjectiveParts, RowParts};
+use mpslp_builder_parts::{ColumnTable, ObjectiveParts, RowParts};
 use mpslp_types::{HashSeed, Name};
 use std::alloc::Global;
 
@@ -24,7 +24,7 @@ pub(crate) type NameMap<V> = IndexMap<Name, V, HashSeed>;
 pub(crate) struct Tables {
     pub(crate) objective: Option<ObjectiveParts>,
     pub(crate) rows: NameMap<RowParts>,
-    pub(crate) columns: NameMap<ColumnParts>,
+    pub(crate) columns: ColumnTable,
     /// The index of the row that was used last. It only speeds up look-ups, so any number is correct.
     pub(crate) recent_row: usize,
     /// The number of the column that was used last. It only speeds up look-ups, so any number is correct.
@@ -61,7 +61,7 @@ impl Tables {
         Tables {
             objective: None,
             rows: IndexMap::with_hasher(alloc, seed),
-            columns: IndexMap::with_hasher(alloc, seed),
+            columns: ColumnTable::new(alloc, seed),
             recent_row: 0,
             recent: 0,
         }

@@ -1,5 +1,6 @@
 -- Entries of which contracts see a part each, for any function that gives this part.
-use Rattle.std.proofs.Common.{rules, ◌++◌, ◌≡◌, refl, sym, ap, ◌∙◌, ℕ, zero, suc, ◌<◌, List, [], ◌∷◌, Bool, true, false, cond, length, arith}
+use Rattle.std.proofs.Common.{◌≡◌, refl, sym, ap, ◌∙◌, ℕ, zero, suc, ◌<◌, List, [], ◌∷◌, ◌++◌, length, Bool, true, false, cond}
+use Rattle.std.proofs.Common.{arith, rules}
 use Rattle.std.specs.Prelude.{Option, None, Some, is_some, slice_get, OnOk, OnErr, Result}
 use Rattle.std.specs.{FinMap.find, List.{AllByRecursion, IsDistinct}, Map.{keys_of, lookup, lookup_key}}
 use Rattle.std.specs.{Cmp.Lexicographic.texts_ties, Option.{option_map, option_map_or}}
@@ -7,7 +8,8 @@ use Rattle.indexmap.specs.IndexMap.{set_value_at}
 use Rattle.mpslp_decimal.specs.Decimal.{Number}
 use Rattle.mpslp_types.specs.Name.{bytes_cmp, same_bytes}
 use Rattle.mpslp_model_core.specs.Numbered.{IsOnce, each_part}
-use Rattle.mpslp_builder_parts.specs.{ColumnTable.{ColumnEntries, IsChanged, cells_in_column, name_in}, Parts.{ColumnParts, cells_of, no_part}}
+use Rattle.mpslp_builder_parts.specs.ColumnTable.{ColumnEntries, IsChanged, cells_in_column, name_in}
+use Rattle.mpslp_builder_parts.specs.Parts.{ColumnParts, cells_of, no_part}
 use Rattle.mpslp_builder_parts.proofs.{PassLemmas.each_part-append, TakenLemmas.part_at}
 
 -- ---- one entry
@@ -26,13 +28,15 @@ module _ {V X : Type 0} (f : V → X) where
   each_part-kept (e ∷ es) (suc i) k v w at same = grind (arith, at, each_part-kept es i k v w at same)
 
   -- an entry keeps its name
-  pub name_of_part : (es : List (List ℕ × V)) (i : ℕ) → option_map (λ e. e.0) (slice_get es i) ≡ option_map (λ e. e.0) (slice_get (each_part f es) i)
+  pub name_of_part : (es : List (List ℕ × V)) (i : ℕ)
+      → option_map (λ e. e.0) (slice_get es i) ≡ option_map (λ e. e.0) (slice_get (each_part f es) i)
   name_of_part [] i = refl
   name_of_part (e ∷ es) zero = refl
   name_of_part (e ∷ es) (suc i) = name_of_part es i
 
   -- an entry with a name is there
-  pub place_of_part : (es : List (List ℕ × V)) (i : ℕ) → is_some (option_map (λ e. e.0) (slice_get (each_part f es) i)) ≡ true → i < length es
+  pub place_of_part : (es : List (List ℕ × V)) (i : ℕ) → is_some (option_map (λ e. e.0) (slice_get (each_part f es) i)) ≡ true
+      → i < length es
   place_of_part [] i there = cc
   place_of_part (e ∷ es) zero there = omega arith
   place_of_part (e ∷ es) (suc i) there = let more = place_of_part es i there in omega (arith, more)
@@ -42,7 +46,8 @@ module _ {V X : Type 0} (f : V → X) where
   each_part-twice g [] = refl
   each_part-twice {Y} g (e ∷ es) = ap (λ (more : List (List ℕ × Y)). (e.0, g (f e.1)) ∷ more) (each_part-twice g es)
 
-  pub find-each_part : (q : List ℕ) (es : List (List ℕ × V)) → find bytes_cmp q (each_part f es) ≡ option_map f (lookup (λ k. same_bytes q k) es)
+  pub find-each_part : (q : List ℕ) (es : List (List ℕ × V))
+      → find bytes_cmp q (each_part f es) ≡ option_map f (lookup (λ k. same_bytes q k) es)
   find-each_part q [] = refl
   find-each_part q (e ∷ es) =
       ap (λ b. cond b (Some (f e.1)) (find bytes_cmp q (each_part f es))) (sym (texts_ties q e.0)) ∙ (grind (arith, find-each_part q es))
@@ -50,7 +55,8 @@ module _ {V X : Type 0} (f : V → X) where
   none_of : (q : List ℕ) (es : List (List ℕ × V)) → AllByRecursion (λ y. same_bytes q y ≡ false) (keys_of es)
       → find bytes_cmp q (each_part f es) ≡ None
   none_of q [] h = refl
-  none_of q (e ∷ es) h = ap (λ b. cond b (Some (f e.1)) (find bytes_cmp q (each_part f es))) (sym (texts_ties q e.0) ∙ h.0) ∙ none_of q es h.1
+  none_of q (e ∷ es) h =
+      ap (λ b. cond b (Some (f e.1)) (find bytes_cmp q (each_part f es))) (sym (texts_ties q e.0) ∙ h.0) ∙ none_of q es h.1
 
   -- distinct keys give distinct names
   pub once-from_distinct : (es : List (List ℕ × V)) → IsDistinct (λ x y. same_bytes x y) (keys_of es) → IsOnce (each_part f es)
@@ -75,10 +81,10 @@ on_err = grind arith
 pub on_ok : {A E P Q : Type 0} (r : Result A E) → (P → Q) → OnOk r P → OnOk r Q
 on_ok = grind arith
 
-none_there : {X : Type 0} (o : Option X) → is_some o ≡ false → o ≡ None
+pub none_there : {X : Type 0} (o : Option X) → is_some o ≡ false → o ≡ None
 none_there = grind arith
 
-some_mapped : {X Y : Type 0} (f : X → Y) (o : Option X) → is_some (option_map f o) ≡ is_some o
+pub some_mapped : {X Y : Type 0} (f : X → Y) (o : Option X) → is_some (option_map f o) ≡ is_some o
 some_mapped = grind arith
 
 mapped_twice : {X Y Z : Type 0} (f : X → Y) (g : Y → Z) (o : Option X) → option_map g (option_map f o) ≡ option_map (λ x. g (f x)) o
@@ -89,14 +95,16 @@ mapped_or = grind arith
 
 -- ---- the columns of a table
 
-module _ {V : Type 0} (f : V → ColumnParts) (es : List (List ℕ × V)) (old : ColumnEntries) (view_is : record { entries = each_part f es } ≡ old) where
+module _ {V : Type 0} (f : V → ColumnParts) (es : List (List ℕ × V)) (old : ColumnEntries)
+    (view_is : record { entries = each_part f es } ≡ old) where
   -- a column that has a name in the view is stored
   pub place_within : (i : ℕ) → is_some (name_in old i) ≡ true → i < length es
   place_within i there = place_of_part f es i (ap (λ (columns : ColumnEntries). is_some (name_in columns i)) view_is ∙ there)
 
   -- a column is found by a key if it is found by its name
   pub found_part : (q : List ℕ) → is_some (lookup (λ k. same_bytes q k) es) ≡ is_some (find bytes_cmp q (each_part no_part old.entries))
-  found_part q = sym (some_mapped (λ v. no_part (f v)) (lookup (λ k. same_bytes q k) es)) ∙ ap is_some (sym (find-each_part (λ v. no_part (f v)) q es))
+  found_part q = sym (some_mapped (λ v. no_part (f v)) (lookup (λ k. same_bytes q k) es))
+      ∙ ap is_some (sym (find-each_part (λ v. no_part (f v)) q es))
       ∙ ap (λ (parts : List (List ℕ × Unit {0})). is_some (find bytes_cmp q parts)) (sym (each_part-twice f no_part es)
       ∙ ap (λ (columns : ColumnEntries). each_part no_part columns.entries) view_is)
 
@@ -111,7 +119,8 @@ module _ {V : Type 0} (f : V → ColumnParts) (es : List (List ℕ × V)) (old :
 
   -- a part of the column of a number
   pub parts_there : {X : Type 0} (g : ColumnParts → X) (i : ℕ)
-      → option_map (λ (e : List ℕ × V). g (f e.1)) (slice_get es i) ≡ option_map (λ (e : List ℕ × ColumnParts). g e.1) (slice_get old.entries i)
+      → option_map (λ (e : List ℕ × V). g (f e.1)) (slice_get es i)
+      ≡ option_map (λ (e : List ℕ × ColumnParts). g e.1) (slice_get old.entries i)
   parts_there g i = sym (mapped_twice (λ (e : List ℕ × V). (e.0, f e.1)) (λ e. g e.1) (slice_get es i))
       ∙ ap (option_map (λ (e : List ℕ × ColumnParts). g e.1)) (sym (part_at f es i)
       ∙ ap (λ (columns : ColumnEntries). slice_get columns.entries i) view_is)

@@ -130,7 +130,7 @@ impl ColumnTable {
         ensures { option_copied result ≡ name_in self.now column }
     {
         match self.columns.get_index(column) {
-            Some((name, _column)) => Some(name),
+            Some((name, _stored)) => Some(name),
             None => None,
         }
     }
@@ -141,7 +141,7 @@ impl ColumnTable {
         ensures found { is_some result ≡ is_some (find bytes_cmp name.now (each_part no_part self.now.entries)) }
     {
         match self.columns.get_full(NameBytes { bytes: name }) {
-            Some((number, _key, _column)) => Some(number),
+            Some((number, _key, _stored)) => Some(number),
             None => None,
         }
     }
@@ -151,7 +151,7 @@ impl ColumnTable {
         ensures { option_copied result ≡ option_map (λ e. definition_in e.1) (slice_get self.now.entries column) }
     {
         match self.columns.get_index(column) {
-            Some((_name, column)) => Some(&column.definition),
+            Some((_name, stored)) => Some(&stored.definition),
             None => None,
         }
     }
@@ -173,12 +173,12 @@ impl ColumnTable {
         ensures ok { OnOk result (self.new.entries ≡ self.old.entries ++ (name, new_column) ∷ []) }
         ensures err { OnErr result (self.new.entries ≡ self.old.entries) }
     {
-        let column = StoredColumn {
+        let stored = StoredColumn {
             last: 0,
             last_row: 0,
             definition: ColumnDefinition::new(),
         };
-        self.columns.insert(name, column)?;
+        self.columns.insert(name, stored)?;
         Ok(())
     }
 
@@ -274,7 +274,7 @@ impl ColumnTable {
     {
         let mut columns = self.columns;
         match columns.swap_remove_index(column) {
-            Some((name, _column)) => Some(name),
+            Some((taken, _stored)) => Some(taken),
             None => None,
         }
     }

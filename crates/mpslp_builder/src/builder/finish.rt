@@ -1,7 +1,6 @@
 //! `finish`, which makes the model of a builder's declarations.
 
-ghost use Rattle.std.specs.Prelude.{◌≡◌, ◌<◌, ℕ, IsTrue, IfOk, List, None, Some, is_some, length, slice_index, unwrap_or};
-ghost use Rattle.std.specs.List.{All};
+ghost use Rattle.std.specs.Prelude.{◌≡◌, IsTrue, IfOk, None, Some, is_some, unwrap_or};
 ghost use Rattle.mpslp_decimal.specs.Decimal.{negated, zero_number};
 ghost use Rattle.mpslp_builder.specs.Made.{IsMade};
 ghost use Rattle.mpslp_builder.specs.Meaning.{DraftMeans};
@@ -9,17 +8,14 @@ ghost use Rattle.mpslp_builder.specs.FileFault.{file_fault};
 ghost use Rattle.mpslp_builder.specs.FaultFound.{entry_name, fault_found};
 ghost use Rattle.mpslp_builder.specs.Finish.{Finishes};
 ghost use Rattle.mpslp_model_core.specs.Numbered.{each_part};
-ghost use Rattle.mpslp_model_core.specs.ModelParts.{bounds_in, cells_in};
-ghost use Rattle.mpslp_builder_parts.specs.Parts.{rhs_in, itself, limits_in, bounds_of, moved_in};
+ghost use Rattle.mpslp_builder_parts.specs.Parts.{rhs_in, limits_in};
 ghost use Rattle.mpslp_types.specs.declared.kinds.Sense.TheVariants.{Minimize};
 ghost use Rattle.mpslp_builder.specs.Tables.{name_of_objective, draft, IsNumbered};
 
 use crate::builder::Builder;
 use crate::tables::file_faults::FoundFault;
 use crate::tables::{NameMap, Tables};
-use mpslp_builder_parts::{
-    ColumnParts, ObjectiveParts, RowParts, column_of, ordered, ranks_of, row_of,
-};
+use mpslp_builder_parts::{ObjectiveParts, RowParts, ordered, ranks_of, row_of};
 use mpslp_decimal::{Decimal, PackedDecimal};
 use mpslp_model_core::{
     Model, ModelColumn, ModelParts, ModelRow, kind_of_column_fault, kind_of_row_fault,
@@ -36,27 +32,6 @@ fn rows_in(alloc: Global, rows: NameMap<RowParts>) -> Result<Vec<(Name, ModelRow
     let mut made = Vec::with_capacity(alloc, rows.len())?;
     for (name, parts) in rows {
         made.push((name, row_of(alloc, &parts)?))?;
-    }
-    Ok(made)
-}
-
-/// The columns of a model with their names and the final row numbers, in the order in which they were declared.
-///
-/// Coefficients are renumbered before the columns are sorted, while they are in memory in the order of their declarations. In
-/// the other order each access would be far from the one before it.
-fn columns_in(
-    alloc: Global,
-    columns: NameMap<ColumnParts>,
-    ranks: &[u32],
-) -> Result<Vec<(Name, ModelColumn)>, AllocError>
-    requires within { All (λ column. All (λ cell. cell.0 < length ranks.now) column.1.cells) columns.entries }
-    requires apart { (n m : ℕ) → n < length ranks.now → m < length ranks.now → slice_index ranks.now n ≡ slice_index ranks.now m → n ≡ m }
-    ensures bounds { IfOk result (λ made. each_part bounds_in made.items ≡ each_part bounds_of columns.entries) }
-    ensures cells { IfOk result (λ made. each_part cells_in made.items ≡ each_part (moved_in ranks.now) columns.entries) }
-{
-    let mut made = Vec::with_capacity(alloc, columns.len())?;
-    for (name, parts) in columns {
-        made.push((name, column_of(alloc, parts, ranks)?))?;
     }
     Ok(made)
 }
@@ -120,15 +95,15 @@ pub(crate) fn into_model(
     } = tables;
     let (row_order, rows) = ordered(alloc, rows_in(alloc, rows)?)?;
     let ranks = ranks_of(alloc, &row_order)?;
-    let (_column_order, columns) = ordered(alloc, columns_in(alloc, columns, &ranks)?)?;
+    let (_column_order, columns) = ordered(alloc, columns.into_columns(alloc, &ranks)?)?;
     Model::of_parts(alloc, parts_of(sense, constant, objective, rows, columns))
 }
 
-/// The name at an index, moved out of the map without a copy.
-fn name_out_of<V: Drop>(mut entries: NameMap<V>, index: usize) -> Option<Name>
-    ensures { result ≡ entry_name entries.entries index }
+/// The name of the row at an index, moved out of the map without a copy.
+fn name_out_of(mut rows: NameMap<RowParts>, index: usize) -> Option<Name>
+    ensures { result ≡ entry_name rows.entries index }
 {
-    match entries.swap_remove_index(index) {
+    match rows.swap_remove_index(index) {
         Some((name, _parts)) => Some(name),
         None => None,
     }
@@ -144,10 +119,7 @@ fn into_fault(tables: Tables, found: FoundFault) -> Fault
             (kind_of_row_fault(fault), name_out_of(tables.rows, index))
         }
         FoundFault::Column(fault, index) => {
-            (
-                kind_of_column_fault(fault),
-                name_out_of(tables.columns, index),
-            )
+            (kind_of_column_fault(fault), tables.columns.take_name(index))
         }
     };
     Fault {

@@ -9,7 +9,7 @@ ghost use Rattle.mpslp_builder.specs.Tables.{draft};
 ghost use Rattle.mpslp_builder.specs.Calls.{row_key_of, row_name, column_name, has_limits, cells_at, new_column, with_cell, with_bounds, IsSameTables, HasObjective, HasRowAdded, HasRowChanged, HasColumnAdded, HasColumnChanged, HasRhsPut};
 
 use crate::tables::{RowRef, Tables};
-use mpslp_builder_parts::{ColumnParts, ObjectiveParts, RowParts};
+use mpslp_builder_parts::{ObjectiveParts, RowParts};
 use mpslp_decimal::{Decimal, PackedDecimal};
 use mpslp_model_core::PackedRowDefinition;
 use mpslp_types::{Limit, Name};
@@ -55,10 +55,8 @@ impl Tables {
         ensures ok { OnOk result (HasColumnAdded self.old name new_column self.new) }
         ensures err { OnErr result (IsSameTables self.old self.new) }
     {
-        let parts = ColumnParts::new(alloc);
         self.recent = self.columns.len();
-        self.columns.insert(name, parts)?;
-        Ok(())
+        self.columns.insert(alloc, name)
     }
 
     /// Stores a coefficient at a free place.
@@ -75,8 +73,7 @@ impl Tables {
     {
         self.recent_row = row.saturating_sub(1) as usize;
         self.recent = column;
-        let (_key, parts) = self.columns.pair_mut(column);
-        parts.cells.put(row, value)
+        self.columns.put_cell(column, row, value)
     }
 
     /// Stores the right-hand side of the row at an index, which must be declared by its type.
@@ -129,8 +126,7 @@ impl Tables {
         ensures { HasColumnChanged self.old column (λ parts. record parts { marked = true }) self.new }
     {
         self.recent = column;
-        let (_key, parts) = self.columns.pair_mut(column);
-        parts.marked = true;
+        self.columns.mark(column);
     }
 
     /// Makes a column integer.
@@ -139,8 +135,7 @@ impl Tables {
         ensures { HasColumnChanged self.old column (λ parts. record parts { integer = true }) self.new }
     {
         self.recent = column;
-        let (_key, parts) = self.columns.pair_mut(column);
-        parts.integer = true;
+        self.columns.make_integer(column);
     }
 
     /// Makes a column binary.
@@ -149,8 +144,7 @@ impl Tables {
         ensures { HasColumnChanged self.old column (λ parts. record parts { binary = true }) self.new }
     {
         self.recent = column;
-        let (_key, parts) = self.columns.pair_mut(column);
-        parts.binary = true;
+        self.columns.make_binary(column);
     }
 
     /// Makes a column semi-continuous.
@@ -159,8 +153,7 @@ impl Tables {
         ensures { HasColumnChanged self.old column (λ parts. record parts { semi = true }) self.new }
     {
         self.recent = column;
-        let (_key, parts) = self.columns.pair_mut(column);
-        parts.semi = true;
+        self.columns.make_semi(column);
     }
 
     /// Stores the given bounds of a column.
@@ -176,7 +169,6 @@ impl Tables {
         ensures err { OnErr result (IsSameTables self.old self.new) }
     {
         self.recent = column;
-        let (_key, parts) = self.columns.pair_mut(column);
-        parts.sides.put(alloc, lower, upper)
+        self.columns.put_bounds(alloc, column, lower, upper)
     }
 }

@@ -69,18 +69,15 @@ impl Tables {
     pub(crate) fn has_cell(&self, column: usize, row: u32) -> bool
         ensures { result ≡ is_some (find nat_cmp row (cells_at self.now column)) }
     {
-        match self.columns.get_index(column) {
-            Some((_key, parts)) => parts.cells.has(row),
-            None => false,
-        }
+        self.columns.has_cell(column, row)
     }
 
     /// Whether the lower bound of the column of a number is declared.
     pub(crate) fn has_lower(&self, column: usize) -> bool
         ensures { result ≡ column_satisfies self.now column (λ parts. is_some parts.sides.lower) }
     {
-        match self.columns.get_index(column) {
-            Some((_key, parts)) => parts.sides.has_lower(),
+        match self.columns.definition_at(column) {
+            Some(definition) => definition.sides.has_lower(),
             None => false,
         }
     }
@@ -89,8 +86,8 @@ impl Tables {
     pub(crate) fn has_upper(&self, column: usize) -> bool
         ensures { result ≡ column_satisfies self.now column (λ parts. is_some parts.sides.upper) }
     {
-        match self.columns.get_index(column) {
-            Some((_key, parts)) => parts.sides.has_upper(),
+        match self.columns.definition_at(column) {
+            Some(definition) => definition.sides.has_upper(),
             None => false,
         }
     }
@@ -99,8 +96,8 @@ impl Tables {
     pub(crate) fn is_integer(&self, column: usize) -> bool
         ensures { result ≡ column_satisfies self.now column (λ parts. parts.marked || (parts.integer || parts.binary)) }
     {
-        match self.columns.get_index(column) {
-            Some((_key, parts)) => parts.marked || (parts.integer || parts.binary),
+        match self.columns.definition_at(column) {
+            Some(definition) => definition.marked || (definition.integer || definition.binary),
             None => false,
         }
     }
@@ -109,8 +106,8 @@ impl Tables {
     pub(crate) fn is_semi(&self, column: usize) -> bool
         ensures { result ≡ column_satisfies self.now column (λ parts. parts.semi) }
     {
-        match self.columns.get_index(column) {
-            Some((_key, parts)) => parts.semi,
+        match self.columns.definition_at(column) {
+            Some(definition) => definition.semi,
             None => false,
         }
     }

@@ -3,15 +3,16 @@
 //! Rows and columns are in the order of their declarations, and an error is reported for the first name in byte order that
 //! has it. So the search keeps the least name so far, and allocates nothing.
 
-ghost use Rattle.std.specs.Prelude.{◌≡◌, ◌<◌, Bool, length};
+ghost use Rattle.std.specs.Prelude.{◌≡◌, ◌<◌, Bool, [], length};
 ghost use Rattle.std.specs.List.{list_any};
 ghost use Rattle.std.specs.Option.{option_and_then, option_map, ForSome};
+ghost use Rattle.mpslp_builder_parts.specs.Parts.{parts_with};
 ghost use Rattle.mpslp_builder.specs.FileFault.{file_fault};
 ghost use Rattle.mpslp_builder.specs.Tables.{draft, IsNumbered};
 ghost use Rattle.mpslp_builder.specs.FaultFound.{row_fails, column_fails, is_wrong_row, is_wrong_column, is_below, least_name, entry_name, first_row_fault, first_column_fault, fault_found, IsThere};
 
 use crate::tables::{NameMap, Tables};
-use mpslp_builder_parts::{ColumnParts, RowParts};
+use mpslp_builder_parts::{RowParts, StoredColumn};
 use mpslp_model_core::{ColumnFault, RowFault, is_faulty_row, row_has};
 
 /// What may have errors of the kinds `F`.
@@ -48,17 +49,17 @@ impl Faulty<RowFault> for RowParts {
     }
 }
 
-impl Faulty<ColumnFault> for ColumnParts {
-    ghost fails = { column_fails };
+impl Faulty<ColumnFault> for StoredColumn {
+    ghost fails = { λ fault column. column_fails fault (parts_with [] column.definition) };
 
-    ghost is_wrong = { is_wrong_column };
+    ghost is_wrong = { λ column. is_wrong_column (parts_with [] column.definition) };
 
     fn has_fault(&self, fault: ColumnFault) -> bool {
-        self.declared().has_fault(fault)
+        self.definition.declared().has_fault(fault)
     }
 
     fn is_faulty(&self) -> bool {
-        self.declared().is_faulty()
+        self.definition.declared().is_faulty()
     }
 }
 
@@ -145,11 +146,11 @@ impl Tables {
         ensures there { ForSome result (IsThere self.now) }
     {
         self.each_name_occurs_once();
-        if !has_faulty(&self.columns) {
+        if !has_faulty(self.columns.stored()) {
             return None;
         }
         for fault in faults {
-            if let Some(at) = least_faulty(&self.columns, *fault) {
+            if let Some(at) = least_faulty(self.columns.stored(), *fault) {
                 return Some(FoundFault::Column(*fault, at));
             }
         }

@@ -116,8 +116,8 @@ impl Tables {
     pub(crate) fn is_column(&self, column: usize, name: &[u8]) -> bool
         ensures { IsTrue result → column_name self.now column ≡ Some name.now }
     {
-        match self.columns.get_index(column) {
-            Some((key, _parts)) => is_same_name(key.as_bytes(), name),
+        match self.columns.name_at(column) {
+            Some(own) => is_same_name(own.as_bytes(), name),
             None => false,
         }
     }
@@ -143,10 +143,7 @@ impl Tables {
         ensures number { IfSome result (λ i. column_name self.now i ≡ Some name.now) }
         ensures found { is_some result ≡ has_column (draft None None self.now) name.now }
     {
-        match self.columns.get_full(NameBytes { bytes: name }) {
-            Some((i, _key, _column)) => Some(i),
-            None => None,
-        }
+        self.columns.number_of(name)
     }
 
     /// Whether a column has this name. The column is then the one that was used last, so that the next look-up finds it at once.

@@ -27,10 +27,10 @@ finished c ordered ranks =
     let columns = c.args.tables.columns.entries in
     let column_order = c.in_ok-_column_order._column_order.items in
     let made_rows = c.in_ok-rows_in.field-0.items in
-    let made = c.in_ok-columns_in.field-0.items in
+    let made = c.in_ok-into_columns.field-0.items in
     let named = c.parts_of.ensures.columns ∙ c.in_ok-_column_order.ensures.taken in
     let in_columns : AreOrdered columns column_order (entries_at columns column_order) = ordered_alike bounds_in bounds_of made columns
-    column_order c.in_ok-columns_in.ensures.bounds c.in_ok-_column_order.ensures.permutation c.in_ok-_column_order.ensures.sorted in
+    column_order c.in_ok-into_columns.ensures.bounds c.in_ok-_column_order.ensures.permutation c.in_ok-_column_order.ensures.sorted in
     record {
       row_order = order;
       column_order = column_order;
@@ -44,9 +44,9 @@ finished c ordered ranks =
       rows_are = (c.parts_of.ensures.rows ∙ c.in_ok-row_order.ensures.taken) ∙ sym (each_whole (entries_at made_rows order))
           ∙ taken-alike itself limits_in made_rows c.args.tables.rows.entries (each_whole made_rows ∙ c.in_ok-rows_in.ensures) order;
       bounds_are = ap (each_part bounds_in) named
-          ∙ taken-alike bounds_in bounds_of made columns c.in_ok-columns_in.ensures.bounds column_order;
+          ∙ taken-alike bounds_in bounds_of made columns c.in_ok-into_columns.ensures.bounds column_order;
       cells_are = ap (each_part cells_in) named
-          ∙ taken-alike cells_in (moved_in c.deref-2.result.now) made columns c.in_ok-columns_in.ensures.cells column_order
+          ∙ taken-alike cells_in (moved_in c.deref-2.result.now) made columns c.in_ok-into_columns.ensures.cells column_order
           ∙ (λ i. each_part (moved_in (c.deref-2.ensures.value i)) (entries_at columns column_order));
     }
 
@@ -70,15 +70,15 @@ pub ranks_of-requires-clause-apart : goal.ranks_of-requires-clause-apart
 ranks_of-requires-clause-apart c = subst (λ (order : List ℕ). (p q : ℕ) → p < q → q < length order → slice_index order p ≢ slice_index order q)
     (sym c.deref.ensures.value) (apart_of _ _ _ (in_rows (goal.at.ranks_of-requires-clause-apart c).After-deref))
 
-pub columns_in-requires-clause-within : goal.columns_in-requires-clause-within
-columns_in-requires-clause-within c = let at = goal.at.columns_in-requires-clause-within c in
+pub into_columns-requires-clause-within : goal.into_columns-requires-clause-within
+into_columns-requires-clause-within c = let at = goal.at.into_columns-requires-clause-within c in
     let rows = c.args.tables.rows.entries in
     cells_within c.args.tables.objective rows c.args.tables.columns.entries (length c.deref-2.result.now) c.requires.numbered
     (ap length c.deref-2.ensures.value ∙ ranks_length (length rows) _ c.in_ok-ranks.ranks.items (in_rows at.After-deref).permuted
     (ranked at.After-deref-2))
 
-pub columns_in-requires-clause-apart : goal.columns_in-requires-clause-apart
-columns_in-requires-clause-apart c = let at = goal.at.columns_in-requires-clause-apart c in
+pub into_columns-requires-clause-apart : goal.into_columns-requires-clause-apart
+into_columns-requires-clause-apart c = let at = goal.at.into_columns-requires-clause-apart c in
     subst (λ (ranks : List ℕ). (n m : ℕ) → n < length ranks → m < length ranks → slice_index ranks n ≡ slice_index ranks m → n ≡ m)
     (sym c.deref-2.ensures.value) (ranks_apart (length c.args.tables.rows.entries) _ c.in_ok-ranks.ranks.items
     (in_rows at.After-deref).permuted (ranked at.After-deref-2))

@@ -1,35 +1,14 @@
-use Rattle.std.proofs.Common.{refl, ap}
-use Rattle.mpslp_builder_parts.specs.DeclaredBounds.{LowerAndUpper}
-use Rattle.mpslp_builder.proofs.TableDrafts.{set_same, on_ok, on_err}
-use Rattle.indexmap.specs.IndexMap.{set_value_at}
+use Rattle.std.proofs.Common.{refl}
+use Rattle.mpslp_builder.proofs.TableDrafts.{on_ok, on_err}
 use Rattle.mpslp_builder.proofs.tables.Tables.put_bounds.Goals as goal
 
 pub returns-clause-ok : goal.returns-clause-ok
-returns-clause-ok c =
-    let parts = c.pair_mut-parts.result.1.now in
-    on_ok c.put.result (λ put_there. record {
-      key = c.pair_mut-parts.result.0.now;
-      parts = parts;
-      was = c.pair_mut-parts.ensures.value;
-      written = record {
-        objective = refl;
-        rows = refl;
-        columns = ap (λ (sides : LowerAndUpper). set_value_at c.args.self.now.columns.entries c.args.column (record parts {
-          sides =
-              sides;
-        })) put_there;
-      };
-    }) c.put.ensures.ok
+returns-clause-ok c = on_ok c.put_bounds.result (λ h. record {
+  key = h.key;
+  parts = h.parts;
+  was = h.was;
+  written = record { objective = refl; rows = refl; columns = h.written };
+}) c.put_bounds.ensures.ok
 
 pub returns-clause-err : goal.returns-clause-err
-returns-clause-err c =
-    let parts = c.pair_mut-parts.result.1.now in
-    on_err c.put.result (λ same. record {
-      objective = refl;
-      rows = refl;
-      columns = set_same c.args.self.now.columns.entries c.args.column c.pair_mut-parts.result.0.now parts (record parts {
-        sides =
-            c.put.new.self;
-      }) c.pair_mut-parts.ensures.value
-          (ap (λ (sides : LowerAndUpper). record parts { sides = sides }) same);
-    }) c.put.ensures.err
+returns-clause-err c = on_err c.put_bounds.result (λ same. record { objective = refl; rows = refl; columns = same }) c.put_bounds.ensures.err

@@ -17,5 +17,5 @@ returns-clause-bounds c = if_ok c.columns_in.result (λ _ is. is ∙ ap (λ (col
     c.self.view_is) c.columns_in.ensures.bounds
 
 pub returns-clause-cells : goal.returns-clause-cells
-returns-clause-cells c = if_ok c.columns_in.result (λ _ is. is ∙ ap (λ (columns : ColumnEntries). each_part (moved_in c.args.ranks.now) columns.entries)
-    c.self.view_is) c.columns_in.ensures.cells
+returns-clause-cells c = if_ok c.columns_in.result (λ _ is. is
+    ∙ ap (λ (columns : ColumnEntries). each_part (moved_in c.args.ranks.now) columns.entries) c.self.view_is) c.columns_in.ensures.cells
