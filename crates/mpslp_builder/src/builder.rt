@@ -195,7 +195,7 @@ impl Builder {
         if self.has_column(name.as_bytes()) {
             return Ok(());
         }
-        self.tables.add_column(self.alloc, name)?;
+        self.tables.add_column(name)?;
         Ok(())
     }
 

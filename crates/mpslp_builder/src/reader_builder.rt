@@ -84,7 +84,7 @@ impl ReaderBuilder {
         if draft.has_column(name.as_bytes()) {
             return Ok(false);
         }
-        let column = draft.tables.start_column(draft.alloc, name)?;
+        let column = draft.tables.start_column(name)?;
         draft.tables.put_line(column, is_marked, rows, entries)?;
         Ok(true)
     }

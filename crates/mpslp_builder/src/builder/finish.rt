@@ -18,7 +18,7 @@ use crate::tables::{NameMap, Tables};
 use mpslp_builder_parts::{ObjectiveParts, RowParts, ordered, ranks_of, row_of};
 use mpslp_decimal::{Decimal, PackedDecimal};
 use mpslp_model_core::{
-    Model, ModelColumn, ModelParts, ModelRow, kind_of_column_fault, kind_of_row_fault,
+    Model, ModelColumns, ModelParts, ModelRow, kind_of_column_fault, kind_of_row_fault,
 };
 use mpslp_types::{Fault, FaultKind, Name, ReadFault, Sense};
 use std::alloc::{AllocError, Global};
@@ -53,14 +53,14 @@ fn parts_of(
     constant: Option<Decimal>,
     objective: Option<ObjectiveParts>,
     rows: Vec<(Name, ModelRow)>,
-    columns: Vec<(Name, ModelColumn)>,
+    columns: ModelColumns,
 ) -> ModelParts
     requires { IsTrue (is_some objective) }
     ensures sense { result.sense ≡ unwrap_or sense Minimize }
     ensures objective { name_of_objective objective ≡ Some result.objective }
     ensures constant { result.constant ≡ unwrap_or constant (negated (unwrap_or (rhs_in objective) zero_number)) }
     ensures rows { result.rows.items ≡ rows.items }
-    ensures columns { result.columns.items ≡ columns.items }
+    ensures columns { result.columns ≡ columns }
 {
     let ObjectiveParts { name, rhs } = objective.unwrap();
     ModelParts {
@@ -95,7 +95,9 @@ pub(crate) fn into_model(
     } = tables;
     let (row_order, rows) = ordered(alloc, rows_in(alloc, rows)?)?;
     let ranks = ranks_of(alloc, &row_order)?;
-    let (_column_order, columns) = ordered(alloc, columns.into_columns(alloc, &ranks)?)?;
+    let (spans, cells) = columns.into_columns(alloc, &ranks)?;
+    let (_column_order, spans) = ordered(alloc, spans)?;
+    let columns = ModelColumns::of(spans, cells);
     Model::of_parts(alloc, parts_of(sense, constant, objective, rows, columns))
 }
 

@@ -50,13 +50,13 @@ impl Tables {
     }
 
     /// Adds a column without coefficients. Its name must be new.
-    pub(crate) fn add_column(&mut self, alloc: Global, name: Name) -> Result<(), AllocError>
+    pub(crate) fn add_column(&mut self, name: Name) -> Result<(), AllocError>
         requires { has_name (draft None None self.old).columns name ≡ false }
         ensures ok { OnOk result (HasColumnAdded self.old name new_column self.new) }
         ensures err { OnErr result (IsSameTables self.old self.new) }
     {
         self.recent = self.columns.len();
-        self.columns.insert(alloc, name)
+        self.columns.insert(name)
     }
 
     /// Stores a coefficient at a free place.

@@ -98,7 +98,7 @@ impl Tables {
     }
 
     /// Adds a column without coefficients. Its name must be new. Returns its number.
-    pub(crate) fn start_column(&mut self, alloc: Global, name: Name) -> Result<usize, AllocError>
+    pub(crate) fn start_column(&mut self, name: Name) -> Result<usize, AllocError>
         requires numbered { IsNumbered self.old }
         requires absent { has_name (draft None None self.old).columns name ≡ false }
         requires legal { is_mps_name name ≡ true }
@@ -107,7 +107,7 @@ impl Tables {
         ensures ok { IfOk result (λ column. HasStarted self.old name column self.new) }
     {
         let column = self.columns.len();
-        self.add_column(alloc, name)?;
+        self.add_column(name)?;
         Ok(column)
     }
 

@@ -102,7 +102,7 @@ impl Tables {
         self.each_name_occurs_once();
         match self.column_from(name, guess) {
             Some(column) => Ok(column),
-            None => self.start_column(alloc, Name::from_legal(alloc, name)?),
+            None => self.start_column(Name::from_legal(alloc, name)?),
         }
     }
 

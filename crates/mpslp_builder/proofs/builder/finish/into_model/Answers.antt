@@ -1,7 +1,8 @@
-use Rattle.mpslp_model_core.specs.ModelParts.{bounds_in, cells_in}
+use Rattle.mpslp_model_core.specs.{ModelColumns.{IsWithin, columns_of, span_bounds, span_cells}, ModelParts.{bounds_in, cells_in}}
+use Rattle.mpslp_model_core.proofs.ColumnLemmas.{bounds-columns_of, cells-columns_of}
 use Rattle.mpslp_builder_parts.specs.Parts.{limits_in, bounds_of}
-use Rattle.mpslp_builder_parts.proofs.{OrderLemmas.if_ok, RankLemmas.{AreRanks, ranks_length, ranks_apart}, TakenLemmas.taken-alike}
-use Rattle.mpslp_builder.proofs.Prelude.{◌≡◌, sym, ap, subst, ◌∙◌, ℕ, ◌<◌, List, length, ◌≢◌, slice_index, each_part, entries_at, itself}
+use Rattle.mpslp_builder_parts.proofs.{OrderLemmas.if_ok, RankLemmas.{AreRanks, ranks_length, ranks_apart}, TakenLemmas.{taken-alike, taken-all}}
+use Rattle.mpslp_builder.proofs.Prelude.{◌≡◌, sym, ap, subst, ◌∙◌, ℕ, ◌<◌, List, length, ◌≢◌, slice_index, each_part, entries_at, itself, All}
 use Rattle.mpslp_builder.proofs.{Prelude.{moved_in, DraftMeans, no_part, cells_of, draft}, FinishLemmas.{AreFinished, AreMeantParts}, TableDrafts.once_too}
 use Rattle.mpslp_builder.proofs.FinishLemmas.{meant_parts, meant_draft, finished_parts, finished_cells, AreOrdered, cells_within}
 use Rattle.mpslp_builder.proofs.FinishLemmas.{constant_is, ordered_alike, each_whole, few_of, within_of, apart_of, named_there}
@@ -27,10 +28,12 @@ finished c ordered ranks =
     let columns = c.args.tables.columns.entries in
     let column_order = c.in_ok-_column_order._column_order.items in
     let made_rows = c.in_ok-rows_in.field-0.items in
-    let made = c.in_ok-into_columns.field-0.items in
-    let named = c.parts_of.ensures.columns ∙ c.in_ok-_column_order.ensures.taken in
-    let in_columns : AreOrdered columns column_order (entries_at columns column_order) = ordered_alike bounds_in bounds_of made columns
-    column_order c.in_ok-into_columns.ensures.bounds c.in_ok-_column_order.ensures.permutation c.in_ok-_column_order.ensures.sorted in
+    let made = c.in_ok-spans.spans.items in
+    let cells = c.in_ok-spans.cells.items in
+    let named = c.parts_of.ensures.columns ∙ c.of-columns.ensures ∙ ap (λ es. columns_of es cells) c.in_ok-_column_order.ensures.taken in
+    let ordered_spans = entries_at made column_order in
+    let in_columns : AreOrdered columns column_order (entries_at columns column_order) = ordered_alike span_bounds bounds_of made columns
+    column_order c.in_ok-spans.ensures.bounds c.in_ok-_column_order.ensures.permutation c.in_ok-_column_order.ensures.sorted in
     record {
       row_order = order;
       column_order = column_order;
@@ -43,10 +46,10 @@ finished c ordered ranks =
       objective_is = c.parts_of.ensures.objective;
       rows_are = (c.parts_of.ensures.rows ∙ c.in_ok-row_order.ensures.taken) ∙ sym (each_whole (entries_at made_rows order))
           ∙ taken-alike itself limits_in made_rows c.args.tables.rows.entries (each_whole made_rows ∙ c.in_ok-rows_in.ensures) order;
-      bounds_are = ap (each_part bounds_in) named
-          ∙ taken-alike bounds_in bounds_of made columns c.in_ok-into_columns.ensures.bounds column_order;
-      cells_are = ap (each_part cells_in) named
-          ∙ taken-alike cells_in (moved_in c.deref-2.result.now) made columns c.in_ok-into_columns.ensures.cells column_order
+      bounds_are = ap (each_part bounds_in) named ∙ bounds-columns_of ordered_spans cells
+          ∙ taken-alike span_bounds bounds_of made columns c.in_ok-spans.ensures.bounds column_order;
+      cells_are = ap (each_part cells_in) named ∙ cells-columns_of ordered_spans cells
+          ∙ taken-alike (span_cells cells) (moved_in c.deref-2.result.now) made columns c.in_ok-spans.ensures.cells column_order
           ∙ (λ i. each_part (moved_in (c.deref-2.ensures.value i)) (entries_at columns column_order));
     }
 
@@ -82,6 +85,11 @@ into_columns-requires-clause-apart c = let at = goal.at.into_columns-requires-cl
     subst (λ (ranks : List ℕ). (n m : ℕ) → n < length ranks → m < length ranks → slice_index ranks n ≡ slice_index ranks m → n ≡ m)
     (sym c.deref-2.ensures.value) (ranks_apart (length c.args.tables.rows.entries) _ c.in_ok-ranks.ranks.items
     (in_rows at.After-deref).permuted (ranked at.After-deref-2))
+
+pub of-columns-requires : goal.of-columns-requires
+of-columns-requires c = subst (All (λ column. IsWithin (length c.in_ok-spans.cells.items) column.1)) (sym c.in_ok-_column_order.ensures.taken)
+    (taken-all (λ column. IsWithin (length c.in_ok-spans.cells.items) column.1) c.in_ok-spans.spans.items
+    c.in_ok-_column_order._column_order.items c.in_ok-spans.ensures.places)
 
 pub of_parts-requires : goal.of_parts-requires
 of_parts-requires c = let at = goal.at.of_parts-requires c in
