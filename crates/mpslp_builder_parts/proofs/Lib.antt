@@ -6,4 +6,5 @@ pub mod TakenLemmas
 pub mod LogLemmas
 pub mod KnownLemmas
 pub mod TableLemmas
+pub mod RunLemmas
 pub mod ColumnLemmas

@@ -1,11 +1,11 @@
 //! The coefficients of all columns in one log.
 
-ghost use Rattle.std.specs.Prelude.{◌≡◌, ◌≤◌, ◌<◌, ◌||◌, ◌++◌, ◌∷◌, [], ℕ, suc, IfOk, OnOk, OnErr, length, map, filter, is_some, slice_index};
+ghost use Rattle.std.specs.Prelude.{◌≡◌, ◌≤◌, ◌<◌, ◌||◌, ◌++◌, ◌∷◌, [], ℕ, suc, IsTrue, IfOk, OnOk, OnErr, length, map, filter, is_some, slice_index};
 ghost use Rattle.std.specs.List.{All};
 ghost use Rattle.std.specs.Ordering.{nat_cmp, eq_by_cmp};
 ghost use Rattle.std.specs.FinMap.{find};
 ghost use Rattle.mpslp_model_core.specs.Numbered.{sorted_of, is_kept, moved_cells, IsOnceBy};
-ghost use Rattle.mpslp_builder_parts.specs.CoefficientLog.{chain};
+ghost use Rattle.mpslp_builder_parts.specs.CoefficientLog.{chain, IsRun};
 
 use mpslp_decimal::{Decimal, PackedDecimal};
 use std::alloc::{AllocError, Global};
@@ -155,5 +155,34 @@ impl CoefficientLog {
         self.fill_run(run, place, ranks)?;
         run.sort_unstable_by_key(|cell| cell.0);
         cells.append(run)
+    }
+
+    /// Whether the coefficients from an index up to a place are the chain from that place, and none of them is 0.
+    pub(crate) fn is_run(&self, start: usize, place: u32) -> bool
+        requires { place ≤ length self.now.cells }
+        ensures { IsTrue result → IsRun self.now start place }
+    {
+        let end = place as usize;
+        if start >= end || self.earlier[start] != 0 {
+            return false;
+        }
+        for index in start..end {
+            if self.cells[index].1.value().is_zero() {
+                return false;
+            }
+        }
+        for later in start + 1..end {
+            if self.earlier[later] as usize != later {
+                return false;
+            }
+        }
+        true
+    }
+
+    /// The coefficients in the order in which they were put.
+    pub(crate) fn into_cells(self) -> Vec<(u32, PackedDecimal)>
+        ensures { result.items ≡ self.cells }
+    {
+        self.cells
     }
 }

@@ -1,10 +1,9 @@
 //! Coefficients with new row numbers.
 
-ghost use Rattle.std.specs.Prelude.{◌≡◌, ◌<◌, map, filter, not, length, slice_index};
+ghost use Rattle.std.specs.Prelude.{◌≡◌, ◌<◌, ◌≤◌, map, take, drop, length, slice_index, slice_range};
 ghost use Rattle.std.specs.List.{All};
 ghost use Rattle.std.specs.List.Sorted.{IsPermutation, IsSortedByKey};
 ghost use Rattle.std.specs.Ordering.{nat_cmp};
-ghost use Rattle.mpslp_decimal.specs.Decimal.{is_zero};
 
 use mpslp_decimal::PackedDecimal;
 
@@ -23,21 +22,20 @@ pub(crate) fn renumbered(
     cells
 }
 
-/// The nonzero coefficients.
-pub(crate) fn without_zeros(cells: Vec<(u32, PackedDecimal)>) -> Vec<(u32, PackedDecimal)>
-    ensures { result.items ≡ filter (λ cell. not (is_zero cell.1)) cells.items }
-{
-    let mut kept = cells;
-    kept.retain(|cell| !cell.1.value().is_zero());
-    kept
-}
-
-/// The coefficients in the order of their row numbers.
-pub(crate) fn in_order_of_numbers(cells: Vec<(u32, PackedDecimal)>) -> Vec<(u32, PackedDecimal)>
-    ensures permutation { IsPermutation cells.items result.items }
-    ensures sorted { IsSortedByKey (λ cell. cell.0) nat_cmp result.items }
+/// The coefficients, those between two indices in the order of their row numbers.
+pub(crate) fn in_order_between(
+    cells: Vec<(u32, PackedDecimal)>,
+    start: usize,
+    end: usize,
+) -> Vec<(u32, PackedDecimal)>
+    requires { start ≤ end × end ≤ length cells.items }
+    ensures before { take start result.items ≡ take start cells.items }
+    ensures after { drop end result.items ≡ drop end cells.items }
+    ensures len { length result.items ≡ length cells.items }
+    ensures permutation { IsPermutation (slice_range cells.items start end) (slice_range result.items start end) }
+    ensures sorted { IsSortedByKey (λ cell. cell.0) nat_cmp (slice_range result.items start end) }
 {
     let mut cells = cells;
-    cells.sort_unstable_by_key(|cell| cell.0);
+    cells[start..end].sort_unstable_by_key(|cell| cell.0);
     cells
 }
