@@ -11,7 +11,7 @@ use Rattle.mpslp_model_core.specs.declared.model_columns.ColumnSpan.{ColumnSpan}
 use Rattle.mpslp_model_core.proofs.RenumberLemmas.{all-from_each, each-of_map}
 use Rattle.mpslp_builder_parts.specs.CoefficientLog.{LogEntries, chain, IsLog}
 use Rattle.mpslp_builder_parts.specs.KnownPairs.{AreKnown, in_pairs, pair_key, has_pair, IsPutIfSome, IsSameIfSome, IsOpened}
-use Rattle.mpslp_builder_parts.specs.StoredColumns.{parts_of, last_of, last_row_of, HasLast, IsKnown, IsWhole}
+use Rattle.mpslp_builder_parts.specs.StoredColumns.{parts_of, last_of, last_row_of, HasLast, IsKnown, IsWhole, IsRunFrom, AreRuns, run_end}
 use Rattle.mpslp_builder_parts.specs.declared.known_pairs.{StoredColumn.StoredColumn, KnownPairs.KnownPairs}
 use Rattle.std.specs.{Cmp.nat_cmp_total, FinMap.find, Prelude.is_some}
 use Rattle.mpslp_model_core.proofs.CellLemmas.{find-sorted_of}
@@ -238,3 +238,22 @@ pub all_whole : (log : LogEntries) (es : List (List ℕ × StoredColumn)) → ((
 all_whole log [] within once k d below = absurd (omega (arith, below))
 all_whole log (e ∷ es) within once zero d below = record { place = within zero; once = once zero }
 all_whole log (e ∷ es) within once (suc k) d below = all_whole log es (λ i. within (suc i)) (λ i. once (suc i)) k d (omega (arith, below))
+
+-- ---- coefficients that come one column after another
+
+-- the column at an index, and those after it
+pub runs_next : (log : LogEntries) (es : List (List ℕ × StoredColumn)) (i start last end : ℕ) (all : Type 0) → i < length es → last ≡ last_of es i
+    → IsRunFrom log start last → end ≡ run_end start last → (AreRuns log start (drop i es) → all) → AreRuns log end (drop (suc i) es) → all
+runs_next log [] i start last end all below is run ends before more = absurd (omega (arith, below))
+runs_next log (e ∷ es) zero start last end all below is run ends before more =
+    before (subst (IsRunFrom log start) is run, subst (λ n. AreRuns log n es) (ends ∙ ap (run_end start) is) more)
+runs_next log (e ∷ es) (suc i) start last end all below is run ends before more =
+    runs_next log es i start last end all (omega (arith, below)) is run ends before more
+
+pub runs_end : (log : LogEntries) (es : List (List ℕ × StoredColumn)) (start i : ℕ) → i ≡ length es → start ≡ length log.cells
+    → AreRuns log start (drop i es)
+runs_end log es start i is ends = subst (λ n. AreRuns log start (drop n es)) (sym is) (none es)
+  where
+    none : (es : List (List ℕ × StoredColumn)) → AreRuns log start (drop (length es) es)
+    none [] = ends
+    none (e ∷ es) = none es

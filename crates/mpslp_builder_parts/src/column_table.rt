@@ -8,14 +8,16 @@ ghost use Rattle.std.specs.FinMap.{find};
 ghost use Rattle.mpslp_types.specs.Name.{bytes_cmp};
 ghost use Rattle.mpslp_model_core.specs.ModelColumns.{IsWithin, span_bounds, span_cells};
 ghost use Rattle.mpslp_model_core.specs.Numbered.{IsOnce, each_part};
-ghost use Rattle.mpslp_builder_parts.specs.Parts.{cells_of, no_part, new_column, with_cell, with_bounds, definition_in, bounds_of, moved_in};
+ghost use Rattle.mpslp_builder_parts.specs.Parts.{cells_of, no_part, parts_with, new_column, with_cell, with_bounds, definition_in, bounds_of, moved_in};
+ghost use Rattle.mpslp_builder_parts.specs.CoefficientLog.{IsLog};
 ghost use Rattle.mpslp_builder_parts.specs.ColumnTable.{name_in, cells_in_column, IsChanged};
-ghost use Rattle.mpslp_builder_parts.specs.StoredColumns.{parts_of, definition_of_stored, IsWhole};
+ghost use Rattle.mpslp_builder_parts.specs.StoredColumns.{parts_of, definition_of_stored, run_end, AreRuns, IsWhole};
 
 use crate::coefficient_log::CoefficientLog;
 use crate::known_pairs::{
-    Columns, KnownPairs, MOST_COLUMNS, StoredColumn, forget_pairs, has_cell, last_of, note, prepare, put_known, set_last,
+    Columns, KnownPairs, MOST_COLUMNS, StoredColumn, are_runs, drop_known, forget_pairs, has_cell, last_of, note, prepare, put_known, set_last,
 };
+use crate::moving::{in_order_between, renumbered};
 use crate::parts::ColumnDefinition;
 use indexmap::IndexMap;
 use mpslp_decimal::{Decimal, PackedDecimal};
@@ -93,6 +95,62 @@ fn columns_in(
     for (name, column) in columns {
         let span = append_column(alloc, column, log, ranks, &mut cells, &mut run)?;
         made.push((name, span))?;
+    }
+    Ok((made, cells))
+}
+
+/// Where the coefficients of a column end that begin at an index, if they come one after another.
+fn end_of(start: usize, last: u32) -> usize
+    ensures { result ≡ run_end start last }
+{
+    if last == 0 { start } else { last as usize }
+}
+
+/// Where the coefficients of a column are, and its type and bounds.
+fn span_between(
+    alloc: Global,
+    definition: ColumnDefinition,
+    start: usize,
+    end: usize,
+) -> Result<ColumnSpan, AllocError>
+    ensures bounds { IfOk result (λ span. span.bounds ≡ bounds_of (parts_with [] definition)) }
+    ensures start { IfOk result (λ span. span.start ≡ start) }
+    ensures end { IfOk result (λ span. span.end ≡ end) }
+{
+    let bounds = ModelBounds::of(alloc, definition.declared().bounds())?;
+    Ok(ColumnSpan { bounds, start, end })
+}
+
+/// The same as `columns_in`, where the log has the coefficients of one column after another and none is 0. They stay where they
+/// are, so there is no second vector of them.
+fn columns_in_place(
+    alloc: Global,
+    columns: Columns,
+    log: CoefficientLog,
+    ranks: &[u32],
+) -> Result<(Vec<(Name, ColumnSpan)>, Vec<(u32, PackedDecimal)>), AllocError>
+    requires log { IsLog log }
+    requires runs { AreRuns log 0 columns.entries }
+    requires known { All (λ column. IsWhole log column.1) columns.entries }
+    requires within { All (λ column. All (λ cell. cell.0 < length ranks.now) (cells_of column.1)) (each_part (parts_of log) columns.entries) }
+    requires apart { (n m : ℕ) → n < length ranks.now → m < length ranks.now → slice_index ranks.now n ≡ slice_index ranks.now m → n ≡ m }
+    ensures bounds { IfOk result (λ made. each_part span_bounds made.0.items ≡ each_part bounds_of (each_part (parts_of log) columns.entries)) }
+    ensures cells { IfOk result (λ made. each_part (span_cells made.1.items) made.0.items ≡ each_part (moved_in ranks.now) (each_part (parts_of log) columns.entries)) }
+    ensures places { IfOk result (λ made. All (λ column. IsWithin (length made.1.items) column.1) made.0.items) }
+{
+    let mut cells = renumbered(log.into_cells(), ranks);
+    let mut made = Vec::with_capacity(alloc, columns.len())?;
+    let mut start = 0;
+    for (name, column) in columns {
+        let StoredColumn {
+            last,
+            last_row: _,
+            definition,
+        } = column;
+        let end = end_of(start, last);
+        cells = in_order_between(cells, start, end);
+        made.push((name, span_between(alloc, definition, start, end)?))?;
+        start = end;
     }
     Ok((made, cells))
 }
@@ -303,6 +361,16 @@ impl ColumnTable {
         ensures cells { IfOk result (λ made. each_part (span_cells made.1.items) made.0.items ≡ each_part (moved_in ranks.now) self.entries) }
         ensures places { IfOk result (λ made. All (λ column. IsWithin (length made.1.items) column.1) made.0.items) }
     {
-        columns_in(alloc, self.columns, &self.log, ranks)
+        let ColumnTable {
+            alloc: _,
+            columns,
+            log,
+            known,
+        } = self;
+        drop_known(known);
+        if are_runs(&columns, &log) {
+            return columns_in_place(alloc, columns, log, ranks);
+        }
+        columns_in(alloc, columns, &log, ranks)
     }
 }
