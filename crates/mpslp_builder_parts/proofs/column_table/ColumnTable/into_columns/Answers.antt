@@ -19,3 +19,6 @@ returns-clause-bounds c = if_ok c.columns_in.result (λ _ is. is ∙ ap (λ (col
 pub returns-clause-cells : goal.returns-clause-cells
 returns-clause-cells c = if_ok c.columns_in.result (λ _ is. is
     ∙ ap (λ (columns : ColumnEntries). each_part (moved_in c.args.ranks.now) columns.entries) c.self.view_is) c.columns_in.ensures.cells
+
+pub columns_in_place-requires-clause-known : goal.columns_in_place-requires-clause-known
+columns_in_place-requires-clause-known c = all_whole c.self.inside.log c.self.inside.columns.entries c.self.invariant.within c.self.invariant.once
