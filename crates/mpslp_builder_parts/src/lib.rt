@@ -9,7 +9,6 @@ mod column_table;
 mod declared_bounds;
 mod known_pairs;
 mod model_rows_and_columns;
-mod moving;
 mod order;
 mod pair_set;
 mod parts;
