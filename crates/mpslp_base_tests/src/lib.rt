@@ -6,7 +6,7 @@
 #![tactic(auto)]
 
 #[cfg(test)]
-mod cells;
+mod coefficients;
 #[cfg(test)]
 mod command_line;
 #[cfg(test)]

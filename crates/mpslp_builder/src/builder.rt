@@ -204,7 +204,8 @@ impl Builder {
     /// # Errors
     ///
     /// `UnknownRow` if neither a row nor the objective has the name of the row, `UnknownColumn` if no column has that of the
-    /// column, `DuplicateEntry` if this coefficient is already declared, `OutOfMemory`.
+    /// column, `DuplicateEntry` if this coefficient is already declared; `OutOfMemory`, also if there are already 4,294,967,295
+    /// coefficients, or as many columns before this one.
     pub fn coefficient(
         &mut self,
         row: &[u8],

@@ -55,7 +55,7 @@ kept_from log earlier cell is (suc most) (suc index) h =
     let below = is.below index in
     let len = is.len in
     let later = (λ i. chain_from (logged log earlier cell) most (index-more log.earlier earlier index (omega (arith, h, len)) i))
-        ∙ kept_from log earlier cell is most (slice_index log.earlier index) (omega (arith, below, h)) in
+    ∙ kept_from log earlier cell is most (slice_index log.earlier index) (omega (arith, below, h)) in
     λ i. option_map_or (λ (c : ℕ × Number). c ∷ later i) (get-more log.cells cell index (omega (arith, h)) i) []
 
 pub kept : (log : LogEntries) (earlier : ℕ) (cell : ℕ × Number) → IsLog log → (place : ℕ) → place ≤ length log.cells

@@ -160,18 +160,23 @@ run_moved log is ranks apart start (suc last) end run ends place once within cel
   where
     f : ℕ × Number → ℕ × Number
     f cell = (slice_index ranks cell.0, cell.1)
+
     part : List (ℕ × Number)
     part = slice_range log.cells start (suc last)
+
     turned : chain log (suc last) ≡ reverse part
     turned = run_reversed log start (suc last) is run place
+
     same : slice_range cells start end ≡ map f part
     same = ap (λ m. slice_range cells start m) ends ∙ ap (take (suc last - start)) (rest ∙ drop-map f start log.cells) ∙ take-map f (suc last - start) (drop start log.cells)
+
     nonzero : All (λ cell. is_zero cell.1 ≡ false) part
     nonzero k d below =
         let left = length-drop start log.cells in
         let long = length-take-le (suc last - start) (drop start log.cells) (omega (arith, left, place)) in
         ap (λ (cell : ℕ × Number). is_zero cell.1) (get_or-take (suc last - start) (drop start log.cells) k d (omega (arith, below, long))
         ∙ get_or-drop start log.cells k d) ∙ run.kept (start + k) d (omega arith) (omega (arith, below, long))
+
     kept : map f (filter is_kept (chain log (suc last))) ≡ map f (reverse part)
     kept = ap (λ (es : List (ℕ × Number)). map f (filter is_kept es)) turned
         ∙ ap (map f) (none_zero (reverse part) (All-permutation (λ cell. is_zero cell.1 ≡ false) part (reverse part) (IsPermutation-reverse part) nonzero))
@@ -188,7 +193,7 @@ pub spans-short : (after cells : List (ℕ × Number)) (start : ℕ) → take st
 spans-short after cells start same [] within = refl
 spans-short after cells start same (e ∷ es) within = let own = within zero e (omega arith) in
     λ i. (e.0, slice-short after cells start e.1.start e.1.end same own.order own.room i)
-        ∷ spans-short after cells start same es (λ k d below. within (suc k) d (omega (arith, below))) i
+    ∷ spans-short after cells start same es (λ k d below. within (suc k) d (omega (arith, below))) i
 
 -- what holds of the coefficients of all columns holds of the log
 covered : (P : ℕ × Number → Type 0) (log : LogEntries) (is : IsLog log) (start last : ℕ) → IsRunFrom log start last → last ≤ length log.cells

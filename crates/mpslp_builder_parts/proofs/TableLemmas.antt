@@ -227,6 +227,7 @@ within-more cells later more es done e is made starts ends within = let len = ap
   where
     own : IsWithin (length later) e.1
     own = record { order = let len = ap length is ∙ length-append cells more in omega (arith, starts, ends, len); room = omega (arith, ends) }
+
     all-more : (es : List (List ℕ × ColumnSpan)) → All (λ e. IsWithin (length later) e.1) es → All (λ e. IsWithin (length later) e.1) (es ++ e ∷ [])
     all-more [] all zero d below = own
     all-more [] all (suc k) d below = absurd (omega (arith, below))

@@ -15,7 +15,8 @@ ghost use Rattle.mpslp_builder_parts.specs.StoredColumns.{parts_of, definition_o
 
 use crate::coefficient_log::CoefficientLog;
 use crate::known_pairs::{
-    Columns, KnownPairs, MOST_COLUMNS, StoredColumn, are_runs, drop_known, forget_pairs, has_cell, last_of, note, prepare, put_known, set_last,
+    Columns, KnownPairs, MOST_COLUMNS, StoredColumn, are_runs, drop_known, forget_pairs, has_cell,
+    last_of, note, prepare, put_known, set_last,
 };
 use crate::moving::{in_order_between, renumbered};
 use crate::parts::ColumnDefinition;
@@ -255,7 +256,14 @@ impl ColumnTable {
         if column >= MOST_COLUMNS {
             return Err(AllocError);
         }
-        prepare(self.alloc, &self.columns, &self.log, &mut self.known, column, row)?;
+        prepare(
+            self.alloc,
+            &self.columns,
+            &self.log,
+            &mut self.known,
+            column,
+            row,
+        )?;
         put_known(&mut self.known, column as u32, row)?;
         let last = last_of(&self.columns, column);
         let place = match self.log.push(last, row, value) {

@@ -17,8 +17,8 @@ mod ranks;
 mod row_parts;
 
 pub use column_table::ColumnTable;
-pub use known_pairs::StoredColumn;
 pub use declared_bounds::DeclaredBounds;
+pub use known_pairs::StoredColumn;
 pub use model_rows_and_columns::{ordered, row_of};
 pub use order::{in_order, order_of};
 pub use parts::{ColumnDefinition, ObjectiveParts};

@@ -42,8 +42,11 @@ loop-name-preserved c =
           (each_part (moved_in ranks) all) (c.in-Some.name, moved)
           (ap (each_part (span_cells later)) c.in_ok-push.ensures.items ∙ each_part-append (span_cells later) made c.in-Some.name span
           ∙ (λ i. each_part (span_cells (ends.cells i)) made ++ (c.in-Some.name, span_cells (ends.cells i) span) ∷ [])
-          ∙ (λ i. spans-kept cells moved made before.places i ++ (c.in-Some.name, span-last cells moved span.start span.end ends.start
-              (ends.end ∙ ap length ends.cells) i) ∷ []))
+          ∙ (λ i. spans-kept cells moved made before.places i ++ (
+            c.in-Some.name,
+            span-last cells moved span.start span.end ends.start
+                (ends.end ∙ ap length ends.cells) i,
+          ) ∷ []))
           (ap (λ columns. each_part (span_cells cells) made ++ each_part (moved_in ranks) columns) (sym steps) ∙ before.cells);
       places = within-more cells later moved made c.push.new.self.items (c.in-Some.name, span) ends.cells c.in_ok-push.ensures.items ends.start
           ends.end before.places;

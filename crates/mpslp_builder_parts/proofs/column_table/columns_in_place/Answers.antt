@@ -38,7 +38,7 @@ pub in_order_between-cells-requires : goal.in_order_between-cells-requires
 in_order_between-cells-requires c =
     let first = subst (AreRuns c.args.log c.loop-name.start) c.in-Some.ensures.steps c.loop-name.invariant.runs in
     let whole = holds_first (λ column. IsWhole c.args.log column.1) c.loop-name.name-iterator c.next.new.self (c.in-Some.name, c.in-Some.column)
-        c.in-Some.ensures.steps c.loop-name.invariant.known in
+    c.in-Some.ensures.steps c.loop-name.invariant.known in
     let len = c.loop-name.invariant.len in
     let place = whole.place in
     let room = c.loop-name.invariant.room in
@@ -67,11 +67,11 @@ loop-name-preserved c =
     let few = λ (cell : ℕ × Number). cell.0 < length ranks in
     let first = subst (AreRuns log start) c.in-Some.ensures.steps before.runs in
     let whole = holds_first (λ column. IsWhole log column.1) c.loop-name.name-iterator c.next.new.self (c.in-Some.name, column)
-        c.in-Some.ensures.steps before.known in
+    c.in-Some.ensures.steps before.known in
     let bounds = run_bounds log start column.last end (length log.cells) first.0 c.end_of-end.ensures whole.place before.room in
     let own = run_moved log c.requires.log ranks c.requires.apart start column.last end first.0 c.end_of-end.ensures whole.place whole.once
-        (all_logged few log column whole (holds_first (λ column. All few (cells_of column.1)) (each_part (parts_of log) c.loop-name.name-iterator) left
-        (c.in-Some.name, parts) steps before.within)) cells after before.rest sorted.permutation sorted.sorted in
+    (all_logged few log column whole (holds_first (λ column. All few (cells_of column.1)) (each_part (parts_of log) c.loop-name.name-iterator) left
+    (c.in-Some.name, parts) steps before.within)) cells after before.rest sorted.permutation sorted.sorted in
     let here : span_cells after span ≡ moved = (λ i. span_cells after (record span { start = ends.start i; end = ends.end i })) ∙ own in
     record {
       bounds = passed_on (each_part span_bounds made) (each_part span_bounds c.push-in-loop-name.new.self.items) (each_part bounds_of left)

@@ -21,9 +21,9 @@ loop-at-preserved c =
     let is = subst IsLog c.self.view_is c.self.invariant in
     let within = c.loop-at.invariant.within in
     let parts = parted log is c.self.inside.cells.items (ap (λ log. log.cells) c.self.view_is) place cell c.index.ensures
-        c.loop-at-test.true within in
+    c.loop-at-test.true within in
     let link = linked log is c.self.inside.earlier.items (ap (λ log. log.earlier) c.self.view_is) place c.index-at.result.now
-        c.index-at.ensures c.loop-at-test.true within in
+    c.index-at.ensures c.loop-at-test.true within in
     let below = link_within log is place c.index-at.result.now link c.loop-at-test.true within in
     let rest = chain log (slice_index log.earlier (place - 1)) in
     let f : ℕ × Number → ℕ × Number = λ cell. (slice_index c.args.ranks.now cell.0, cell.1) in

@@ -1,0 +1,219 @@
+//! Tests of the coefficients of all columns during building.
+
+ghost use Rattle.std.specs.Prelude.{◌<◌, ℕ, IfOk};
+ghost use Rattle.std.specs.List.{All};
+
+use mpslp_builder_parts::ColumnTable;
+use mpslp_decimal::{Decimal, PackedDecimal};
+use mpslp_model_core::ColumnSpan;
+use mpslp_types::{FIXED_SEED, Name};
+use std::alloc::{AllocError, Global};
+use std::test::Fail;
+
+/// The number of a literal, or 0 if it is none.
+fn number(literal: &str) -> Decimal {
+    match Decimal::parse(literal.as_bytes()) {
+        Ok(value) => value,
+        Err(_) => Decimal::zero(),
+    }
+}
+
+/// Adds a column of this name, unless there is one.
+fn add_column(table: &mut ColumnTable, alloc: Global, name: &str) -> Result<(), Fail>
+    ensures { (rows : ℕ) → All (λ column. All (λ cell. cell.0 < rows) column.1.cells) table.old.entries → All (λ column. All (λ cell. cell.0 < rows) column.1.cells) table.new.entries }
+{
+    if table.number_of(name.as_bytes()).is_none() {
+        table.insert(Name::new(alloc, name.as_bytes())?)?;
+    }
+    Ok(())
+}
+
+/// The columns x, y and z without coefficients.
+fn three_columns(alloc: Global) -> Result<ColumnTable, Fail>
+    ensures { IfOk result (λ table. (rows : ℕ) → All (λ column. All (λ cell. cell.0 < rows) column.1.cells) table.entries) }
+{
+    let mut table = ColumnTable::new(alloc, FIXED_SEED);
+    add_column(&mut table, alloc, "x")?;
+    add_column(&mut table, alloc, "y")?;
+    add_column(&mut table, alloc, "z")?;
+    Ok(table)
+}
+
+/// Puts a coefficient, unless the column is not there or has one of this row.
+fn put(table: &mut ColumnTable, column: usize, row: u32, literal: &str) -> Result<(), AllocError>
+    ensures { (rows : ℕ) → row < rows → All (λ column. All (λ cell. cell.0 < rows) column.1.cells) table.old.entries → All (λ column. All (λ cell. cell.0 < rows) column.1.cells) table.new.entries }
+{
+    if table.name_at(column).is_some() && !table.has_cell(column, row) {
+        table.put_cell(column, row, number(literal))?;
+    }
+    Ok(())
+}
+
+/// The columns with coefficients of these pairs of a column and a row, put in turn.
+fn of_pairs(alloc: Global, pairs: &[(usize, u32)]) -> Result<ColumnTable, Fail> {
+    let mut table = three_columns(alloc)?;
+    for (column, row) in pairs {
+        put(&mut table, *column, *row, "1")?;
+    }
+    Ok(table)
+}
+
+/// Whether a column has coefficients of the rows 0 to 4.
+fn rows_of(table: &ColumnTable, column: usize) -> [bool; 5] {
+    [
+        table.has_cell(column, 0),
+        table.has_cell(column, 1),
+        table.has_cell(column, 2),
+        table.has_cell(column, 3),
+        table.has_cell(column, 4),
+    ]
+}
+
+/// The same for the columns x, y and z, and for one that is not there.
+fn presence(table: &ColumnTable) -> [[bool; 5]; 4] {
+    [
+        rows_of(table, 0),
+        rows_of(table, 1),
+        rows_of(table, 2),
+        rows_of(table, 3),
+    ]
+}
+
+/// The same after these coefficients were put in turn.
+fn presence_of(alloc: Global, pairs: &[(usize, u32)]) -> Result<[[bool; 5]; 4], Fail> {
+    Ok(presence(&of_pairs(alloc, pairs)?))
+}
+
+/// No rows.
+const NONE: [bool; 5] = [false; 5];
+
+/// The rows 1 and 3.
+const ODD: [bool; 5] = [false, true, false, true, false];
+
+/// The rows 0 and 2.
+const EVEN: [bool; 5] = [true, false, true, false, false];
+
+#[test]
+fn keeps_few_coefficients(rt: HostRuntime) -> Result<(), Fail> {
+    let empty = presence_of(rt.alloc(), &[])?;
+    assert_eq!(rt; empty, [NONE; 4]);
+    let one = presence_of(rt.alloc(), &[(1, 4)])?;
+    assert_eq!(rt; one, [NONE, [false, false, false, false, true], NONE, NONE]);
+    let two = presence_of(rt.alloc(), &[(2, 3), (2, 1)])?;
+    assert_eq!(rt; two, [NONE, NONE, ODD, NONE]);
+    Ok(())
+}
+
+#[test]
+fn keeps_coefficients_column_by_column(rt: HostRuntime) -> Result<(), Fail> {
+    let rising = [(0, 1), (0, 3), (1, 0), (1, 2), (2, 1), (2, 3)];
+    let rows = presence_of(rt.alloc(), &rising)?;
+    assert_eq!(rt; rows, [ODD, EVEN, ODD, NONE]);
+    let falling = [(2, 2), (2, 0), (0, 3), (0, 1), (1, 2), (1, 0)];
+    let rows = presence_of(rt.alloc(), &falling)?;
+    assert_eq!(rt; rows, [ODD, EVEN, EVEN, NONE]);
+    Ok(())
+}
+
+#[test]
+fn keeps_coefficients_row_by_row(rt: HostRuntime) -> Result<(), Fail> {
+    let rising = [(1, 0), (2, 0), (0, 1), (1, 2), (2, 2), (0, 3)];
+    let rows = presence_of(rt.alloc(), &rising)?;
+    assert_eq!(rt; rows, [ODD, EVEN, EVEN, NONE]);
+    let falling = [(2, 3), (0, 3), (1, 2), (2, 1), (0, 1), (1, 0)];
+    let rows = presence_of(rt.alloc(), &falling)?;
+    assert_eq!(rt; rows, [ODD, EVEN, ODD, NONE]);
+    Ok(())
+}
+
+/// Pairs of which neither those of a column nor those of a row come together, and some of them twice.
+const IN_ANY_ORDER: &[(usize, u32)] = &[
+    (0, 1),
+    (1, 2),
+    (0, 2),
+    (1, 1),
+    (2, 1),
+    (0, 2),
+    (1, 4),
+    (2, 0),
+    (0, 4),
+    (1, 1),
+    (2, 3),
+    (0, 0),
+    (1, 3),
+    (0, 1),
+    (2, 4),
+];
+
+#[test]
+fn keeps_coefficients_in_any_order(rt: HostRuntime) -> Result<(), Fail> {
+    let rows = presence_of(rt.alloc(), IN_ANY_ORDER)?;
+    let [x, y, z, none] = rows;
+    assert_eq!(rt; x, [true, true, true, false, true]);
+    assert_eq!(rt; y, [false, true, true, true, true]);
+    assert_eq!(rt; z, [true, true, false, true, true]);
+    assert_eq!(rt; none, NONE);
+    Ok(())
+}
+
+/// Whether pairs that neither rows nor columns in order decide are there, before there is a set of pairs.
+#[test]
+fn finds_coefficients_in_any_order(rt: HostRuntime) -> Result<(), Fail> {
+    let pairs = [(0, 1), (1, 2), (0, 2), (2, 1)];
+    let rows = presence_of(rt.alloc(), &pairs)?;
+    let [x, y, z, _none] = rows;
+    assert_eq!(rt; x, [false, true, true, false, false]);
+    assert_eq!(rt; y, [false, false, true, false, false]);
+    assert_eq!(rt; z, [false, true, false, false, false]);
+    Ok(())
+}
+
+/// The columns x, y and z, with coefficients of the rows 0, 1 and 2 in any order, two of them 0.
+fn of_three_rows(alloc: Global) -> Result<ColumnTable, Fail>
+    ensures { IfOk result (λ table. All (λ column. All (λ cell. cell.0 < 3) column.1.cells) table.entries) }
+{
+    let mut table = three_columns(alloc)?;
+    put(&mut table, 0, 1, "5")?;
+    put(&mut table, 2, 0, "-7")?;
+    put(&mut table, 0, 0, "2")?;
+    put(&mut table, 2, 2, "0")?;
+    put(&mut table, 2, 1, "4")?;
+    put(&mut table, 0, 2, "3")?;
+    put(&mut table, 1, 1, "0")?;
+    Ok(table)
+}
+
+/// The final numbers of three rows.
+const RANKS: &[u32] = &[2, 0, 1];
+
+/// Where the coefficients of each column are.
+fn places(alloc: Global, columns: &[(Name, ColumnSpan)]) -> Result<Vec<(usize, usize)>, AllocError> {
+    let mut places = Vec::new(alloc);
+    for (_name, span) in columns {
+        places.push((span.start, span.end))?;
+    }
+    Ok(places)
+}
+
+/// Final row numbers, each with the number that its coefficient is.
+fn numbers(
+    alloc: Global,
+    cells: &[(u32, PackedDecimal)],
+) -> Result<Vec<(u32, i128)>, AllocError> {
+    let mut numbers = Vec::new(alloc);
+    for (row, value) in cells {
+        numbers.push((*row, value.value().mantissa()))?;
+    }
+    Ok(numbers)
+}
+
+#[test]
+fn moves_coefficients_to_final_rows(rt: HostRuntime) -> Result<(), Fail> {
+    let table = of_three_rows(rt.alloc())?;
+    let (columns, cells) = table.into_columns(rt.alloc(), RANKS)?;
+    let places = places(rt.alloc(), &columns)?;
+    assert_eq!(rt; places.as_slice(), [(0usize, 3usize), (3, 3), (3, 5)].as_slice());
+    let numbers = numbers(rt.alloc(), &cells)?;
+    assert_eq!(rt; numbers.as_slice(), [(0u32, 5i128), (1, 3), (2, 2), (0, 4), (2, -7)].as_slice());
+    Ok(())
+}
