@@ -1,7 +1,7 @@
 -- One more coefficient, and what is known of all.
-use Rattle.std.proofs.Common.{◌≡◌, refl, sym, ap, subst, ◌∙◌, ℕ, zero, suc, ◌+◌, ◌≤◌, ◌<◌, List, [], ◌∷◌, ◌++◌, length, arith, slice_index}
+use Rattle.std.proofs.Common.{◌≡◌, refl, sym, ap, subst, ◌∙◌, ℕ, suc, ◌≤◌, ◌<◌, List, [], ◌∷◌, ◌++◌, length, arith, slice_index}
 use Rattle.std.proofs.Common.{Bool, true, false, cond, ◌||◌, length-append, ◌⊎◌, inl, inr}
-use Rattle.std.specs.{Cmp.nat_cmp_total, FinMap.find, Ordering.{nat_cmp, eq_by_cmp}, Prelude.{Option, Some, None, is_some}}
+use Rattle.std.specs.{FinMap.find, Ordering.{nat_cmp, eq_by_cmp}, Prelude.{Option, Some, None, is_some}}
 use Rattle.std.proofs.lemmas.Bool.{false≢true}
 use Rattle.std.specs.{Option.IfSome, BTreeSet.BTreeSet}
 use Rattle.mpslp_decimal.specs.Decimal.{Number}

@@ -1,9 +1,9 @@
 -- Chains of coefficients in a log.
 use Rattle.std.proofs.Common.{◌≡◌, refl, sym, ap, ◌∙◌, ℕ, zero, suc, ◌+◌, ◌≤◌, ◌<◌, List, [], ◌∷◌, ◌++◌, length, arith, slice_index, length-append, append_assoc}
-use Rattle.std.specs.{Option.option_map_or, Prelude.{Option, Some, None, slice_get}}
+use Rattle.std.specs.{Option.option_map_or, Prelude.{Some, slice_get}}
 use Rattle.std.proofs.Common.{Bool, true, false, cond, ◌-◌, ◌||◌}
 use Rattle.std.specs.{FinMap.find, Ordering.{nat_cmp, eq_by_cmp}, Prelude.is_some}
-use Rattle.mpslp_model_core.proofs.CellLemmas.{number_tied, number_same}
+use Rattle.mpslp_model_core.proofs.CellLemmas.{number_same}
 use Rattle.std.proofs.{Common.{get_or, map}, lemmas.{Option.slice_get_read, List.get_or_read}}
 use Rattle.std.specs.Prelude.{filter}
 use Rattle.mpslp_model_core.specs.Numbered.{is_kept}

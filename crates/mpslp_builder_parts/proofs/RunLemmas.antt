@@ -4,7 +4,7 @@ use Rattle.std.specs.Prelude.{slice_range, reverse}
 use Rattle.mpslp_builder_parts.specs.CoefficientLog.{LogEntries, chain, IsLog, IsRun}
 use Rattle.std.proofs.{Common.{get_or, slice_index}, Math.Seq.take-suc, lemmas.Option.slice_get-get_or}
 use Rattle.mpslp_decimal.specs.Decimal.{Number, zero_number, is_zero}
-use Rattle.std.proofs.Common.{map, IsPermutation, Bool, false}
+use Rattle.std.proofs.Common.{map, IsPermutation, false}
 use Rattle.std.specs.{Cmp.nat_cmp_total, List.{All, Sorted.IsSortedByKey}, Ordering.nat_cmp, Prelude.filter}
 use Rattle.std.proofs.lemmas.List.Sorted.{IsPermutation-trans, IsPermutation-map, IsPermutation-sym, IsPermutation-reverse}
 use Rattle.mpslp_model_core.specs.Numbered.{is_kept, moved_cells, sorted_of, IsOnceBy}

@@ -1,6 +1,6 @@
 -- The columns of a table, after one more coefficient.
-use Rattle.std.proofs.Common.{◌≡◌, refl, sym, ap, subst, ◌∙◌, ℕ, zero, suc, ◌≤◌, ◌<◌, List, [], ◌∷◌, ◌++◌, length, arith, ◌-◌, take, drop, Bool, false, ◌≢◌, slice_index, ◌⊎◌, inl, inr}
-use Rattle.std.specs.{Option.{IfSome, option_map, option_map_or}, Ordering.nat_cmp, Prelude.{Option, Some, None, slice_get}, BTreeSet.{BTreeSet, IsUnchanged}}
+use Rattle.std.proofs.Common.{◌≡◌, refl, sym, ap, subst, ◌∙◌, ℕ, zero, suc, ◌≤◌, ◌<◌, List, [], ◌∷◌, ◌++◌, length, arith, ◌-◌, take, drop, Bool, false, ◌≢◌, slice_index, inl, inr}
+use Rattle.std.specs.{Option.{IfSome, option_map, option_map_or}, Ordering.nat_cmp, Prelude.{Option, Some, None, slice_get}, BTreeSet.{BTreeSet}}
 use Rattle.std.specs.{BTreeMap.is_at, List.list_any}
 use Rattle.indexmap.specs.IndexMap.{set_value_at}
 use Rattle.mpslp_decimal.specs.Decimal.{Number}

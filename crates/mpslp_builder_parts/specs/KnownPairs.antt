@@ -1,5 +1,5 @@
 -- What is known of the pairs of a row and a column that have a coefficient, beside the log of these.
-use Rattle.std.specs.Prelude.{◌≡◌, ◌<◌, ◌≤◌, ◌*◌, ◌+◌, ℕ, zero, suc, Bool, true, false, List, Option, Some, None, ◌⊎◌, is_some, length, slice_index}
+use Rattle.std.specs.Prelude.{◌≡◌, ◌<◌, ◌≤◌, ◌*◌, ◌+◌, ℕ, suc, Bool, true, false, List, Option, Some, None, ◌⊎◌, is_some, length, slice_index}
 use Rattle.std.specs.Option.{IfSome}
 use Rattle.std.specs.Ordering.{nat_cmp}
 use Rattle.std.specs.FinMap.{find}

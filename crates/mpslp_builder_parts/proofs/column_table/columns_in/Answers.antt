@@ -1,7 +1,6 @@
-use Rattle.std.proofs.Common.{[], ap, length, subst, sym, ◌++◌, ◌<◌, ◌∙◌, ◌∷◌, ℕ, List, ◌≡◌}
+use Rattle.std.proofs.Common.{[], ap, length, sym, ◌++◌, ◌<◌, ◌∙◌, ◌∷◌}
 use Rattle.std.specs.List.{All}
-use Rattle.mpslp_decimal.specs.Decimal.{Number}
-use Rattle.mpslp_model_core.specs.{ModelColumns.{IsWithin, span_bounds, span_cells}, Numbered.each_part}
+use Rattle.mpslp_model_core.specs.{ModelColumns.{span_bounds, span_cells}, Numbered.each_part}
 use Rattle.mpslp_builder_parts.specs.{Parts.{bounds_of, cells_of, moved_in}, StoredColumns.{IsWhole, parts_of}}
 use Rattle.mpslp_builder_parts.proofs.PassLemmas.{each_part-append, holds_first, holds_later, passed_on}
 use Rattle.mpslp_builder_parts.proofs.TableLemmas.{spans-kept, span-last, within-more}

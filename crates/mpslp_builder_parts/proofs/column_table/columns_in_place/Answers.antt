@@ -1,10 +1,9 @@
-use Rattle.std.proofs.Common.{[], ap, length, drop, map, subst, sym, slice_index, ◌++◌, ◌<◌, ◌≤◌, ◌∙◌, ◌∷◌, ◌≡◌, ℕ, List, arith, rules}
+use Rattle.std.proofs.Common.{[], ap, length, map, subst, sym, slice_index, ◌++◌, ◌<◌, ◌∙◌, ◌∷◌, ◌≡◌, ℕ, arith, rules}
 use Rattle.std.specs.List.{All}
 use Rattle.std.proofs.lemmas.List.{length-map}
 use Rattle.mpslp_decimal.specs.Decimal.{Number}
-use Rattle.mpslp_model_core.specs.{ModelColumns.{IsWithin, span_bounds, span_cells}, Numbered.each_part, declared.model_columns.ColumnSpan.ColumnSpan}
-use Rattle.mpslp_builder_parts.specs.{Parts.{bounds_of, cells_of, moved_in}, StoredColumns.{AreRuns, IsRunFrom, IsWhole, parts_of, run_end}}
-use Rattle.mpslp_builder_parts.specs.declared.known_pairs.StoredColumn.{StoredColumn}
+use Rattle.mpslp_model_core.specs.{ModelColumns.{IsWithin, span_bounds, span_cells}, Numbered.each_part}
+use Rattle.mpslp_builder_parts.specs.{Parts.{bounds_of, cells_of, moved_in}, StoredColumns.{AreRuns, IsWhole, parts_of}}
 use Rattle.mpslp_builder_parts.proofs.PassLemmas.{each_part-append, holds_first, holds_later, passed_on}
 use Rattle.mpslp_builder_parts.proofs.{RunLemmas.{run_moved, run_bounds, spans-short, drop-later, all_covered, within-next}, TableLemmas.all_logged}
 use Rattle.mpslp_builder_parts.proofs.column_table.columns_in_place.Goals as goal

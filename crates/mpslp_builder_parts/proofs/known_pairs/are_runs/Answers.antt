@@ -1,4 +1,4 @@
-use Rattle.std.proofs.Common.{◌≡◌, sym, subst, ◌+◌, ℕ, suc, drop, add-one, arith}
+use Rattle.std.proofs.Common.{sym, subst, ℕ, drop, add-one, arith}
 use Rattle.mpslp_builder_parts.specs.StoredColumns.{AreRuns}
 use Rattle.mpslp_builder_parts.proofs.TableLemmas.{runs_next}
 use Rattle.mpslp_builder_parts.proofs.known_pairs.are_runs.Goals as goal

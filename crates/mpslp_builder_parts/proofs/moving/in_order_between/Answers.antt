@@ -1,4 +1,4 @@
-use Rattle.std.proofs.Common.{◌≡◌, sym, ap, subst, ◌∙◌, ◌-◌, ℕ, List, length, take, drop, rules, arith}
+use Rattle.std.proofs.Common.{◌≡◌, sym, ap, subst, ◌∙◌, ◌-◌, ℕ, List, length, drop, rules, arith}
 use Rattle.std.specs.{List.Sorted.IsSortedByKey, Ordering.nat_cmp, Prelude.slice_range}
 use Rattle.std.proofs.lemmas.{List.{length-take-le, length-drop}, List.Sorted.answers_always}
 use Rattle.mpslp_decimal.specs.Decimal.{Number}

@@ -1,4 +1,4 @@
-use Rattle.std.{proofs.Common.{List, ap, length, slice_index, subst, ℕ, ◌<◌, ◌++◌, ◌≡◌, arith}, specs.{Cmp.nat_cmp_total, Ordering.nat_cmp, Prelude.{Result, OnOk, is_ok, if◌then◌else◌}, declared.alloc.AllocError.AllocError}}
+use Rattle.std.{proofs.Common.{List, length, slice_index, subst, ℕ, ◌<◌, ◌++◌, ◌≡◌, arith}, specs.{Cmp.nat_cmp_total, Prelude.{Result, OnOk, is_ok, if◌then◌else◌}, declared.alloc.AllocError.AllocError}}
 use Rattle.std.proofs.{Common.{IsPermutation, rules}, lemmas.List.Sorted.answers_always}
 use Rattle.mpslp_decimal.specs.Decimal.{Number}
 use Rattle.mpslp_model_core.proofs.{CellLemmas.never_falls-from_sort, RenumberLemmas.{each-from_all, moved-from_any_order}}

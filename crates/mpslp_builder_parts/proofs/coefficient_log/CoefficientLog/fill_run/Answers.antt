@@ -1,4 +1,4 @@
-use Rattle.std.proofs.Common.{◌≡◌, sym, ap, subst, ◌∙◌, ℕ, ◌-◌, ◌<◌, ◌++◌, ◌∷◌, List, [], length, map, arith, slice_index}
+use Rattle.std.proofs.Common.{sym, ap, subst, ◌∙◌, ℕ, ◌-◌, ◌<◌, ◌++◌, length, map, arith, slice_index}
 use Rattle.std.specs.{List.All, Prelude.filter}
 use Rattle.mpslp_decimal.specs.Decimal.{Number}
 use Rattle.mpslp_model_core.specs.Numbered.{is_kept}

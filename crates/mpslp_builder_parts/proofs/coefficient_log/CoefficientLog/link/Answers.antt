@@ -1,4 +1,4 @@
-use Rattle.std.proofs.Common.{◌≡◌, sym, ap, subst, ◌∙◌, ◌||◌, ◌-◌, slice_index}
+use Rattle.std.proofs.Common.{sym, ap, subst, ◌∙◌, ◌||◌, ◌-◌, slice_index}
 use Rattle.std.specs.{FinMap.find, Ordering.{nat_cmp, eq_by_cmp}, Prelude.is_some}
 use Rattle.mpslp_builder_parts.specs.CoefficientLog.{IsLog, chain}
 use Rattle.mpslp_builder_parts.proofs.LogLemmas.{parted, linked, found_first}

@@ -1,6 +1,5 @@
-use Rattle.std.{proofs.Common.{ap, sym, ◌∙◌, List, ℕ}, specs.{Cmp.nat_cmp_total, FinMap.find, Ordering.nat_cmp, Option.option_map_or, Prelude.{is_some, slice_get}}}
-use Rattle.mpslp_decimal.specs.Decimal.{Number}
-use Rattle.mpslp_builder_parts.specs.{ColumnTable.{ColumnEntries, cells_in_column}, StoredColumns.parts_of}
+use Rattle.std.{proofs.Common.{ap, ◌∙◌}, specs.{FinMap.find, Ordering.nat_cmp, Prelude.{is_some}}}
+use Rattle.mpslp_builder_parts.specs.{ColumnTable.{ColumnEntries, cells_in_column}}
 use Rattle.mpslp_builder_parts.proofs.TableLemmas.{has_in_column}
 use Rattle.mpslp_builder_parts.proofs.column_table.ColumnTable.has_cell.Goals as goal
 

@@ -1,6 +1,6 @@
 use Rattle.std.proofs.Common.{ap, length, subst, sym, ◌<◌, ◌∙◌}
 use Rattle.std.specs.List.{All}
-use Rattle.mpslp_model_core.specs.{ModelColumns.{span_bounds, span_cells}, Numbered.each_part}
+use Rattle.mpslp_model_core.specs.{Numbered.each_part}
 use Rattle.mpslp_builder_parts.specs.{ColumnTable.ColumnEntries, Parts.{bounds_of, cells_of, moved_in}}
 use Rattle.mpslp_builder_parts.proofs.{OrderLemmas.if_ok, TableLemmas.all_whole}
 use Rattle.mpslp_builder_parts.proofs.column_table.ColumnTable.into_columns.Goals as goal

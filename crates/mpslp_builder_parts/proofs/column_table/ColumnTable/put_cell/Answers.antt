@@ -1,6 +1,5 @@
-use Rattle.std.proofs.Common.{◌≡◌, sym, ap, subst, ◌∙◌, List, ℕ, false}
-use Rattle.std.specs.{FinMap.find, Ordering.nat_cmp, Prelude.{is_some, Option}}
-use Rattle.mpslp_decimal.specs.Decimal.{Number}
+use Rattle.std.proofs.Common.{◌≡◌, ap, subst, ◌∙◌, false}
+use Rattle.std.specs.{FinMap.find, Ordering.nat_cmp, Prelude.{is_some}}
 use Rattle.mpslp_builder_parts.specs.{ColumnTable.{ColumnEntries, IsChanged, cells_in_column}, KnownPairs.has_pair, Parts.with_cell, StoredColumns.{parts_of, last_of, entries_of}}
 use Rattle.mpslp_builder_parts.proofs.{ColumnLemmas.place_within, TableLemmas.{known_put, column_put, has_in_column}}
 use Rattle.mpslp_builder_parts.proofs.column_table.ColumnTable.put_cell.Goals as goal
