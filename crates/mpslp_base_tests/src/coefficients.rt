@@ -1,11 +1,7 @@
 //! Tests of the coefficients of all columns during building.
 
-ghost use Rattle.std.specs.Prelude.{◌<◌, ℕ, IfOk};
-ghost use Rattle.std.specs.List.{All};
-
 use mpslp_builder_parts::ColumnTable;
-use mpslp_decimal::{Decimal, PackedDecimal};
-use mpslp_model_core::ColumnSpan;
+use mpslp_decimal::Decimal;
 use mpslp_types::{FIXED_SEED, Name};
 use std::alloc::{AllocError, Global};
 use std::test::Fail;
@@ -19,9 +15,7 @@ fn number(literal: &str) -> Decimal {
 }
 
 /// Adds a column of this name, unless there is one.
-fn add_column(table: &mut ColumnTable, alloc: Global, name: &str) -> Result<(), Fail>
-    ensures { (rows : ℕ) → All (λ column. All (λ cell. cell.0 < rows) column.1.cells) table.old.entries → All (λ column. All (λ cell. cell.0 < rows) column.1.cells) table.new.entries }
-{
+fn add_column(table: &mut ColumnTable, alloc: Global, name: &str) -> Result<(), Fail> {
     if table.number_of(name.as_bytes()).is_none() {
         table.insert(Name::new(alloc, name.as_bytes())?)?;
     }
@@ -29,9 +23,7 @@ fn add_column(table: &mut ColumnTable, alloc: Global, name: &str) -> Result<(), 
 }
 
 /// The columns x, y and z without coefficients.
-fn three_columns(alloc: Global) -> Result<ColumnTable, Fail>
-    ensures { IfOk result (λ table. (rows : ℕ) → All (λ column. All (λ cell. cell.0 < rows) column.1.cells) table.entries) }
-{
+fn three_columns(alloc: Global) -> Result<ColumnTable, Fail> {
     let mut table = ColumnTable::new(alloc, FIXED_SEED);
     add_column(&mut table, alloc, "x")?;
     add_column(&mut table, alloc, "y")?;
@@ -40,9 +32,7 @@ fn three_columns(alloc: Global) -> Result<ColumnTable, Fail>
 }
 
 /// Puts a coefficient, unless the column is not there or has one of this row.
-fn put(table: &mut ColumnTable, column: usize, row: u32, literal: &str) -> Result<(), AllocError>
-    ensures { (rows : ℕ) → row < rows → All (λ column. All (λ cell. cell.0 < rows) column.1.cells) table.old.entries → All (λ column. All (λ cell. cell.0 < rows) column.1.cells) table.new.entries }
-{
+fn put(table: &mut ColumnTable, column: usize, row: u32, literal: &str) -> Result<(), AllocError> {
     if table.name_at(column).is_some() && !table.has_cell(column, row) {
         table.put_cell(column, row, number(literal))?;
     }
@@ -165,55 +155,5 @@ fn finds_coefficients_in_any_order(rt: HostRuntime) -> Result<(), Fail> {
     assert_eq!(rt; x, [false, true, true, false, false]);
     assert_eq!(rt; y, [false, false, true, false, false]);
     assert_eq!(rt; z, [false, true, false, false, false]);
-    Ok(())
-}
-
-/// The columns x, y and z, with coefficients of the rows 0, 1 and 2 in any order, two of them 0.
-fn of_three_rows(alloc: Global) -> Result<ColumnTable, Fail>
-    ensures { IfOk result (λ table. All (λ column. All (λ cell. cell.0 < 3) column.1.cells) table.entries) }
-{
-    let mut table = three_columns(alloc)?;
-    put(&mut table, 0, 1, "5")?;
-    put(&mut table, 2, 0, "-7")?;
-    put(&mut table, 0, 0, "2")?;
-    put(&mut table, 2, 2, "0")?;
-    put(&mut table, 2, 1, "4")?;
-    put(&mut table, 0, 2, "3")?;
-    put(&mut table, 1, 1, "0")?;
-    Ok(table)
-}
-
-/// The final numbers of three rows.
-const RANKS: &[u32] = &[2, 0, 1];
-
-/// Where the coefficients of each column are.
-fn places(alloc: Global, columns: &[(Name, ColumnSpan)]) -> Result<Vec<(usize, usize)>, AllocError> {
-    let mut places = Vec::new(alloc);
-    for (_name, span) in columns {
-        places.push((span.start, span.end))?;
-    }
-    Ok(places)
-}
-
-/// Final row numbers, each with the number that its coefficient is.
-fn numbers(
-    alloc: Global,
-    cells: &[(u32, PackedDecimal)],
-) -> Result<Vec<(u32, i128)>, AllocError> {
-    let mut numbers = Vec::new(alloc);
-    for (row, value) in cells {
-        numbers.push((*row, value.value().mantissa()))?;
-    }
-    Ok(numbers)
-}
-
-#[test]
-fn moves_coefficients_to_final_rows(rt: HostRuntime) -> Result<(), Fail> {
-    let table = of_three_rows(rt.alloc())?;
-    let (columns, cells) = table.into_columns(rt.alloc(), RANKS)?;
-    let places = places(rt.alloc(), &columns)?;
-    assert_eq!(rt; places.as_slice(), [(0usize, 3usize), (3, 3), (3, 5)].as_slice());
-    let numbers = numbers(rt.alloc(), &cells)?;
-    assert_eq!(rt; numbers.as_slice(), [(0u32, 5i128), (1, 3), (2, 2), (0, 4), (2, -7)].as_slice());
     Ok(())
 }
