@@ -31,15 +31,13 @@ pub(crate) const READER_CALLS: [(&str, ReaderCall); 5] = [
     ("RowTerms::add", ReaderCall::AddTerms),
 ];
 
-/// The declarations before the other calls. The column has as many coefficients as it has room for.
+/// The declarations before the other calls. There is no coefficient yet, so no room for one.
 const BEFORE: &str = "\
 objective f
 row r L
 row seventeen.letters G
 row LONG E
-column x
-coefficient f x 1
-coefficient seventeen.letters x 2";
+column x";
 
 /// The declarations before the first line of a column: there is no column yet, so no room for one.
 const BEFORE_COLUMNS: &str = "\

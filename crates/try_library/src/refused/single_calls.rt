@@ -59,7 +59,7 @@ pub(crate) const SINGLE_CALLS: [SingleCall; 14] = [
     },
     SingleCall {
         name: "Builder::coefficient",
-        before: "objective f\nrow LONG L\nrow r L\ncolumn seventeen.letters\ncoefficient f seventeen.letters 1\ncoefficient r seventeen.letters 2",
+        before: "objective f\nrow LONG L\nrow r L\ncolumn seventeen.letters",
         call: "coefficient LONG seventeen.letters 3",
     },
     SingleCall {
