@@ -4,10 +4,20 @@ use Rattle.mpslp_convert.{specs.Feeding.{IsFedOn}, proofs.{LoadLemmas.{TakesAtMo
 use Rattle.mpslp_convert.proofs.fed_model.read_model.Goals as goal
 
 pub returns-in-Ok-eq0-clause-answer : goal.returns-in-Ok-eq0-clause-answer
-returns-in-Ok-eq0-clause-answer = search (rules, length-take, gave-all, reading-of)
+returns-in-Ok-eq0-clause-answer g c =
+    let before = c.reads.invariant.feeding in
+    reading-of g.A.Reader.ModelReader.declares g.A.Format.declares g.A.Reader.ModelReader.first_fault g.A.Format.first_fault (g.R.Source.left c.args.source.now)
+    (g.R.Source.left c.read.new.self) (g.R.Source.failed c.read.new.self) c.args.max_bytes before.bytes c.finish_fed.result (search rules) (search rules)
+    (gave-all (g.R.Source.left c.args.source.now) (g.R.Source.left c.reads.source) (g.R.Source.left c.read.new.self)
+    (g.R.Source.failed c.read.new.self) c.reads.room c.args.max_bytes c.in-Ok-eq0.field-0 before.bytes c.read.new.buffer before.taken before.counted
+    (search (rules, c.in-Ok-eq0.ensures.fails)) c.in-Ok-eq0.field-0-test c.in-Ok-eq0.ensures.bytes.0
+    (search (rules, c.in-Ok-eq0.ensures.bytes, c.in-Ok-eq0.field-0-test))) (c.finish_fed.ensures before.bytes before.fed)
 
 pub returns-in-Ok-eq0-clause-asked : goal.returns-in-Ok-eq0-clause-asked
-returns-in-Ok-eq0-clause-asked = search (rules, length-take)
+returns-in-Ok-eq0-clause-asked g c =
+    let before = c.reads.invariant.feeding in
+    TakesAtMost-more _ _ _ before.bytes _ _ before.taken c.in-Ok-eq0.ensures.bytes.0
+    (omega (arith, before.counted, c.in-Ok-eq0.field-0-test, length-take c.in-Ok-eq0.field-0 c.read.new.buffer))
 
 pub returns-then-taken-room-clause-asked : goal.returns-then-taken-room-clause-asked
 returns-then-taken-room-clause-asked g c =
