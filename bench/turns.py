@@ -9,7 +9,8 @@ that program divided by that of PROGRAM in the same round (above 1: PROGRAM is f
 seconds, and the largest memory of any run, divided by the size of the file. Times of runs in different rounds are never
 compared.
 
-A peer that rejects a file, or writes less than an eighth of it, has no time. Files are kept in bench/data/.
+A peer that rejects a file, or writes less than an eighth of it, has no time. Files are kept in bench/data/, with the converter
+that is compiled of coinutils.cpp, since CoinUtils has no program of its own; it needs g++ and coinor-libcoinutils-dev.
 
 With --instructions the table has how many million instructions PROGRAM and OTHER execute for each file, by valgrind, and the second
 divided by the first. That takes one run of each, and does not depend on other load.
@@ -53,6 +54,9 @@ ALWAYS_LP = ("lp", "lp-shuffled", "canonical-lp", "shortest-rows", *CANONICAL_SH
 
 LEAST_OUTPUT = 1 / 8
 
+# Reads and writes a model by CoinUtils: made of coinutils.cpp where CoinUtils can be compiled with.
+COIN, COIN_HEADERS = DATA / "coinutils", Path("/usr/include/coin")
+
 
 @dataclass(frozen=True)
 class Program:
@@ -87,10 +91,17 @@ def programs(path: str, other: str, source: str, target: str) -> list[Program]:
     lp_solve_reads = {"mps": ("-fmps", "INPUT"), "lp": None}[source]
     if lp_solve_reads and target == "mps":
         peers.append(Program("lp_solve", ("lp_solve", "-parse", *lp_solve_reads, "-wfmps", "OUTPUT")))
-    coin = HERE / "data" / "coinutils"
-    if coin.exists():
-        peers.append(Program("CoinUtils", (str(coin), source, "INPUT", target, "OUTPUT")))
+    peers.append(Program("CoinUtils", (str(COIN), source, "INPUT", target, "OUTPUT")))
     return ours + [peer for peer in peers if shutil.which(peer.words[0])]
+
+
+def build_coinutils() -> None:
+    """Compiles the converter by CoinUtils, if it is missing or older than its source and can be compiled."""
+    code = HERE / "coinutils.cpp"
+    is_current = COIN.exists() and COIN.stat().st_mtime >= code.stat().st_mtime
+    if not is_current and COIN_HEADERS.is_dir() and shutil.which("g++"):
+        DATA.mkdir(exist_ok=True)
+        subprocess.run(["g++", "-O2", "-I", str(COIN_HEADERS), "-o", str(COIN), str(code), "-lCoinUtils"], check=True)
 
 
 def run_once(program: Program, source: Path, limit: float) -> Run | None:
@@ -206,6 +217,7 @@ def main() -> None:
             parser.error(f"unknown kind of file: {kind}")
     for size in options.sizes:
         size_in_bytes(size)
+    build_coinutils()
     if options.instructions:
         print_head("file", "MB", "million instructions of mpslp", "of the other version", "ratio")
     else:
