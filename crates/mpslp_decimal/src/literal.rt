@@ -362,8 +362,8 @@ pub(crate) fn in_range(
     Ok(Decimal::from_parts(mantissa, exponent))
 }
 
-/// The most bytes of a text that is read as a plain integer: a sign, and digits whose number fits in 64 bits.
-const PLAIN_LEN: usize = 19;
+/// The most bytes of a text that is read as a plain integer. A longer text mostly has a point, so that the attempt would be in vain.
+const PLAIN_LEN: usize = 4;
 
 /// The sign and the number of a text of an optional sign and few digits, the last of which is not 0; `None` for any other text.
 /// Most numbers of a file are such texts.
