@@ -417,7 +417,7 @@ digits-within text = omega (arith, length-take (prefix_len is_digit text) text)
 point-within : (text : List ℕ) → length (after_point text) ≤ length text
 point-within = grind arith
 
-within : (text : List ℕ) → length (mantissa_front text) ≤ length text
+pub within : (text : List ℕ) → length (mantissa_front text) ≤ length text
 within text =
     let whole = ap length (digits-whole text) ∙ length-append (digits_front text) _ in
     omega (

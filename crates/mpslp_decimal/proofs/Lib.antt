@@ -6,6 +6,7 @@ pub mod OrderLemmas
 pub mod GrammarLemmas
 pub mod TableLemmas
 pub mod SpellsLemmas
+pub mod PlainLemmas
 pub mod OrderOfValues
 pub mod SumLemmas
 pub mod ExactLaws

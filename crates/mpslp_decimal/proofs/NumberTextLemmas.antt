@@ -1,10 +1,10 @@
 -- The text of a decimal is read back as the decimal.
 use Rattle.std.proofs.Common.{Bool, List, [], add-one, ap, append_assoc, arith, drop, false, length, length-append, length-drop, refl}
-use Rattle.std.proofs.Common.{replicate, subst, suc, sym, take, true, ℕ, ◌%◌, ◌*◌, ◌++◌, ◌+◌, ◌-◌, ◌<◌, ◌^◌, ◌∙◌, ◌∷◌, ◌≡◌, ◌≤◌}
-use Rattle.std.proofs.lemmas.{Bool.{le-ltb, leb-true, lt-ltb, ltb-true}, Fmt.{length-decimal-le, length-decimal-le_wide}, Int.ints}
-use Rattle.std.{proofs.lemmas.List.{append-nil, length-replicate, take-replicate}, specs.{Cmp.first_so, Fmt.{decimal, digits}}}
+use Rattle.std.proofs.Common.{replicate, subst, suc, sym, take, true, zero, ℕ, ◌%◌, ◌*◌, ◌++◌, ◌+◌, ◌-◌, ◌<◌, ◌^◌, ◌∙◌, ◌∷◌, ◌≡◌, ◌≤◌}
+use Rattle.std.proofs.lemmas.{Bool.{Decides.nat_tests, le-ltb, leb-true, lt-ltb, ltb-true}, Fmt.{decimal_digit, length-decimal-le, length-decimal-le_wide}, Int.ints}
+use Rattle.std.{proofs.lemmas.List.{append-nil, length-replicate, take-replicate}, specs.{Cmp.first_so, Fmt.{decimal, digits, signed_decimal}}}
 use Rattle.std.specs.{List.{after_first, before_first, list_any}, Prelude.{Err, Ok, Result, codes, if◌then◌else◌, int_le, nat_le, nat_lt}}
-use Rattle.std.specs.Prelude.{neg_ℤ, negsuc, not, pos, unsigned_abs, ℤ, ◌&&◌, ◌-ℤ◌, ◌||◌}
+use Rattle.std.specs.Prelude.{neg_ℤ, negsuc, not, pos, unsigned_abs, ℤ, ◌&&◌, ◌-ℤ◌, ◌==◌, ◌||◌, ◌≤ℤ◌}
 use Rattle.mpslp_decimal.proofs.CutLemmas.{AreDigits, Each, Each-append, Each-weaker, Spells, after-at, after-none, any-none, before-at}
 use Rattle.mpslp_decimal.proofs.CutLemmas.{before-none, decimal-spells, digit-no_mark, digit-no_point, digits_sum-append, digits_sum-zeros}
 use Rattle.mpslp_decimal.proofs.{CutLemmas.{list_all-digits, zeros_are_digits}, NormalLemmas.{decimal_at, normal-tens}}
@@ -323,6 +323,53 @@ number_text-is = grind (arith, zero-is, zero-pieces)
 pub printed-pieces : (d : Number) (none sign all ds : List ℕ) (e : ℤ) → IsDecimal d → none ≡ [] → sign ≡ none ++ sign_text (is_negative d)
     → all ≡ sign ++ scaled_text ds e → ds ≡ decimal (unsigned_abs d.mantissa) → e ≡ d.exponent → all ≡ number_text d
 printed-pieces = grind (arith, number_text-is)
+
+not-zero : (n : ℕ) → (suc n == 0) ≡ false
+not-zero = grind (arith, nat_tests)
+
+none-below : (n : ℕ) → nat_le 0 n ≡ true
+none-below = grind (arith, nat_tests)
+
+-- an integer is printed as it is
+pub integer-text : (d : Number) (n : ℤ) → d.mantissa ≡ n → d.exponent ≡ pos 0 → signed_decimal n ≡ number_text d
+integer-text d n m e = sym (ap number_text (λ i. record { mantissa = m i; exponent = e i }) ∙ by n)
+  where
+    second : (b : Bool) (xs ys : List ℕ) → b ≡ false → (if b then xs else ys) ≡ ys
+    second b xs ys h = rw h refl
+
+    first : (b : Bool) (xs ys zs : List ℕ) → b ≡ true → (if b then xs else ys) ++ zs ≡ xs ++ zs
+    first b xs ys zs h = rw h refl
+
+    by : (n : ℤ) → number_text (record { mantissa = n; exponent = pos 0 }) ≡ signed_decimal n
+    by (pos zero) = sym (decimal_digit 0 (omega arith))
+    by (pos (suc n)) = second (suc n == 0) (codes "0") _ (not-zero n) ∙ append-nil (decimal (suc n))
+    by (negsuc n) =
+        second (suc n == 0) (codes "0") _ (not-zero n) ∙ first (nat_le 0 n) (codes "-") [] (decimal (suc n) ++ []) (none-below n)
+        ∙ ap (λ x. 45 ∷ x) (append-nil (decimal (suc n)))
+
+abbrev all_digits : List ℕ
+all_digits = 48 ∷ 49 ∷ 50 ∷ 51 ∷ 52 ∷ 53 ∷ 54 ∷ 55 ∷ 56 ∷ 57 ∷ []
+
+digit-slice : (n : ℕ) → n < 10 → take (n + 1 - n) (drop n all_digits) ≡ (48 + n) ∷ []
+digit-slice zero h = refl
+digit-slice (suc zero) h = refl
+digit-slice (suc (suc zero)) h = refl
+digit-slice (suc (suc (suc zero))) h = refl
+digit-slice (suc (suc (suc (suc zero)))) h = refl
+digit-slice (suc (suc (suc (suc (suc zero))))) h = refl
+digit-slice (suc (suc (suc (suc (suc (suc zero)))))) h = refl
+digit-slice (suc (suc (suc (suc (suc (suc (suc zero))))))) h = refl
+digit-slice (suc (suc (suc (suc (suc (suc (suc (suc zero)))))))) h = refl
+digit-slice (suc (suc (suc (suc (suc (suc (suc (suc (suc zero))))))))) h = refl
+digit-slice (suc (suc (suc (suc (suc (suc (suc (suc (suc (suc n)))))))))) h = absurd (omega (arith, h))
+
+-- a digit is printed as it is
+pub digit-text : (d : Number) (m : ℤ) → m ≡ d.mantissa → d.exponent ≡ pos 0 → pos 0 ≤ℤ m → m ≤ℤ pos 9
+    → take (unsigned_abs m + 1 - unsigned_abs m) (drop (unsigned_abs m) all_digits) ≡ number_text d
+digit-text d (negsuc n) m e low high = absurd (omega (arith, ints, low))
+digit-text d (pos n) m e low high =
+    let small : n < 10 = omega (arith, ints, high) in
+    digit-slice n small ∙ sym (decimal_digit n small) ∙ integer-text d (pos n) (sym m) e
 
 -- decimals with the same text are equal
 pub one-text : (a b : Number) → IsDecimal a → IsDecimal b → number_text a ≡ number_text b → a ≡ b

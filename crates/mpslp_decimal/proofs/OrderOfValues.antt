@@ -94,6 +94,11 @@ pub compare-left : (a b : Number) (r : Ordering) (places : ℕ) → IsDecimal a 
     → places ≡ unsigned_abs (a.exponent -ℤ b.exponent) → r ≡ int_cmp (a.mantissa *ℤ pos (10 ^ places)) b.mantissa → r ≡ order_of a b
 compare-left = grind (arith, compare-beside, order-decimal)
 
+-- with equal exponents
+pub compare-level : (a b : Number) (r : Ordering) → IsDecimal a → IsDecimal b → a.exponent ≡ b.exponent
+    → r ≡ int_cmp a.mantissa b.mantissa → r ≡ order_of a b
+compare-level a b r p q e h = compare-left a b r 0 p q (grind arith) (grind (arith, ints)) (h ∙ ap (λ m. int_cmp m b.mantissa) (omega (arith, ints)))
+
 size-back : (e f : ℤ) → unsigned_abs (e -ℤ f) ≡ unsigned_abs (f -ℤ e)
 size-back = grind arith
 

@@ -362,8 +362,51 @@ pub(crate) fn in_range(
     Ok(Decimal::from_parts(mantissa, exponent))
 }
 
+/// The most bytes of a text that is read as a plain integer. A longer text mostly has a point, so that the attempt would be in vain.
+const PLAIN_LEN: usize = 4;
+
+/// The sign and the number of a text of an optional sign and few digits, the last of which is not 0; `None` for any other text.
+/// Most numbers of a file are such texts.
+#[inline(always)]
+fn plain_integer(text: &[u8]) -> Option<(bool, u64)>
+    ensures ends { IfSome result (λ found. 0 < found.1 % 10) }
+    ensures value { IfSome result (λ found. number_of text.now ≡ in_range (record { mantissa = to_signed found.0 found.1; exponent = pos 0 })) }
+{
+    if text.len() > PLAIN_LEN {
+        return None;
+    }
+    let (is_negative, unsigned) = split_sign(text);
+    let (size, rest) = append_digits(unsigned, 0)?;
+    if !rest.is_empty() {
+        return None;
+    }
+    if size % 10 == 0 {
+        return None;
+    }
+    Some((is_negative, size))
+}
+
 /// The decimal with the value of a literal, or the first error.
+#[inline(always)]
 pub(crate) fn parse(text: &[u8]) -> Result<Decimal, NumberFault>
+    ensures { result ≡ number_of text.now }
+{
+    if let [b'0'] = text {
+        return Ok(Decimal::zero());
+    }
+    match plain_integer(text) {
+        Some((is_negative, size)) => {
+            let size = i128::from(size);
+            let mantissa = if is_negative { -size } else { size };
+            Ok(Decimal::from_parts(mantissa, 0))
+        }
+        None => parse_any(text),
+    }
+}
+
+/// The decimal with the value of a literal of any kind, or the first error.
+#[inline(never)]
+fn parse_any(text: &[u8]) -> Result<Decimal, NumberFault>
     ensures { result ≡ number_of text.now }
 {
     let Some(scan) = Scan::of(text) else {

@@ -1,6 +1,6 @@
 //! The canonical text of a decimal.
 
-ghost use Rattle.std.specs.Prelude.{◌≡◌, ◌+◌, ◌≤◌, ◌++◌, ◌<◌, ℕ, List, [], length, replicate, unsigned_abs, decimal};
+ghost use Rattle.std.specs.Prelude.{◌≡◌, ◌+◌, ◌≤◌, ◌++◌, ◌<◌, ℕ, List, [], length, replicate, unsigned_abs, decimal, IfSome, IsSome, pos};
 ghost use Rattle.mpslp_decimal.specs.Decimal.{depth};
 ghost use Rattle.mpslp_decimal.specs.NumberText.{most_places, number_text, sign_text, scaled_text, with_point};
 
@@ -21,10 +21,44 @@ const LEAST_WITH_POINT: i32 = -18;
 /// Enough zeros for each text without an exponent part.
 const ZEROS: &[u8] = b"00000000000000000000";
 
+/// The least integer that is printed in 64 bits.
+const SMALLEST: i128 = i64::MIN as i128;
+
+/// The greatest integer that is printed in 64 bits.
+const LARGEST: i128 = i64::MAX as i128;
+
+/// The digits, each at the index of its value.
+const DIGITS: &[u8] = b"0123456789";
+
+impl Decimal {
+    /// The canonical text of the number, if it is one digit; `None` for any other number. Many numbers of a file are digits, and
+    /// their texts need no buffer.
+    #[inline(always)]
+    pub fn digit(self) -> Option<&'static [u8]>
+        ensures text { IfSome result (λ digit. digit.now ≡ number_text self) }
+        ensures found { (n : ℕ) → self.mantissa ≡ pos n → self.exponent ≡ pos 0 → n < 10 → IsSome result }
+    {
+        if self.exponent() != 0 {
+            return None;
+        }
+        let mantissa = self.mantissa();
+        if mantissa < 0 {
+            return None;
+        }
+        if mantissa > 9 {
+            return None;
+        }
+        let value = mantissa as usize;
+        Some(&DIGITS[value..value + 1])
+    }
+}
+
 /// Prints canonical texts of decimals, one after another, in a buffer of fixed size. Does not allocate.
 #[derive(Drop)]
 pub struct DecimalText {
     bytes: ArrayVec<u8, CAPACITY>,
+    /// Where a small integer is printed, whose text is all digits after its sign.
+    integer: Buffer,
 }
 
 impl Model for DecimalText {
@@ -45,6 +79,21 @@ fn mantissa_digits(buffer: &mut Buffer, size: u128) -> &[u8]
     }
 }
 
+/// The mantissa of a decimal, if it fits in 64 bits and the exponent is 0.
+#[inline(always)]
+fn small_integer(value: Decimal) -> Option<i64>
+    ensures { IfSome result (λ number. (value.mantissa ≡ number) × (value.exponent ≡ pos 0)) }
+{
+    if value.exponent() != 0 {
+        return None;
+    }
+    let mantissa = value.mantissa();
+    if mantissa < SMALLEST || mantissa > LARGEST {
+        return None;
+    }
+    Some(mantissa as i64)
+}
+
 impl DecimalText {
     /// An empty buffer.
     pub fn new() -> DecimalText
@@ -52,6 +101,7 @@ impl DecimalText {
     {
         DecimalText {
             bytes: ArrayVec::new(),
+            integer: Buffer::new(),
         }
     }
 
@@ -60,6 +110,17 @@ impl DecimalText {
     /// Zero is `0`. Exponents from 0 to 5 are printed as zeros, those from -18 to -1 with a point and a digit before it, and
     /// any other exponent after an `e`, as in `15e-20`.
     pub fn put(&mut self, value: Decimal) -> &[u8]
+        ensures { result.now ≡ number_text value }
+    {
+        match small_integer(value) {
+            Some(number) => self.integer.format(number).as_bytes(),
+            None => self.put_scaled(value),
+        }
+    }
+
+    /// The canonical text of a decimal of any size.
+    #[inline(never)]
+    fn put_scaled(&mut self, value: Decimal) -> &[u8]
         ensures { result.now ≡ number_text value }
     {
         self.clear();

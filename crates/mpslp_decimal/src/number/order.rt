@@ -47,8 +47,19 @@ impl Decimal {
     }
 }
 
-/// Compares two decimals at the smaller of their exponents.
+/// Compares two decimals. Most that are compared have the same exponent, so that their mantissas decide.
 fn compare(left: Decimal, right: Decimal) -> Ordering
+    ensures { result ≡ order_of left right }
+{
+    if left.exponent() == right.exponent() {
+        return left.mantissa().cmp(&right.mantissa());
+    }
+    compare_apart(left, right)
+}
+
+/// Compares two decimals at the smaller of their exponents.
+#[inline(never)]
+fn compare_apart(left: Decimal, right: Decimal) -> Ordering
     ensures { result ≡ order_of left right }
 {
     let places = left.exponent().abs_diff(right.exponent());

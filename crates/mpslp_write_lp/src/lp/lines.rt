@@ -13,8 +13,20 @@ use mpslp_decimal::{Decimal, DecimalText};
 use mpslp_model::Sink;
 use mpslp_output::Output;
 
-/// Prints a number.
+/// Prints a number. Many are digits, which need no buffer.
+#[inline(always)]
 fn put_number<W: Sink>(output: &mut Output<W>, value: Decimal)
+    ensures { Puts W.Sink output.old output.new (number_text value) }
+{
+    match value.digit() {
+        Some(digit) => output.put(digit),
+        None => put_long_number(output, value),
+    }
+}
+
+/// Prints a number of any size.
+#[inline(never)]
+fn put_long_number<W: Sink>(output: &mut Output<W>, value: Decimal)
     ensures { Puts W.Sink output.old output.new (number_text value) }
 {
     let mut text = DecimalText::new();
@@ -33,6 +45,7 @@ fn sign_text(minus: bool) -> &'static [u8]
 }
 
 /// Prints the sign of a number and its absolute value, after two spaces.
+#[inline(always)]
 fn put_signed<W: Sink>(output: &mut Output<W>, value: Decimal)
     ensures { Puts W.Sink output.old output.new ((codes "  " ++ (sign_bytes (is_negative value) ++ codes " ")) ++ number_text (size_of value)) }
 {
@@ -51,6 +64,7 @@ pub(crate) fn put_label_line<W: Sink>(output: &mut Output<W>, name: &[u8])
 }
 
 /// Prints the line of a column and its coefficient.
+#[inline(always)]
 pub(crate) fn put_term_line<W: Sink>(output: &mut Output<W>, column: &[u8], value: Decimal)
     ensures { Prints line_text W.Sink output.old output.new (term_line (column.now, value) ∷ []) }
 {

@@ -18,13 +18,32 @@ fn put_field<W: Sink>(output: &mut Output<W>, field: &[u8])
     output.put(field);
 }
 
+/// Prints a number of any size as a field after another one.
+#[inline(never)]
+fn put_long_number<W: Sink>(output: &mut Output<W>, value: Decimal)
+    ensures { Puts W.Sink output.old output.new (codes "  " ++ number_text value) }
+{
+    let mut text = DecimalText::new();
+    put_field(output, text.put(value));
+}
+
+/// Prints a number as a field after another one. Many are digits, which need no buffer.
+#[inline(always)]
+fn put_number<W: Sink>(output: &mut Output<W>, value: Decimal)
+    ensures { Puts W.Sink output.old output.new (codes "  " ++ number_text value) }
+{
+    match value.digit() {
+        Some(digit) => put_field(output, digit),
+        None => put_long_number(output, value),
+    }
+}
+
 /// Prints a number as the last field, and ends the line.
 #[inline(always)]
 fn put_last_number<W: Sink>(output: &mut Output<W>, value: Decimal)
     ensures { Puts W.Sink output.old output.new ((codes "  " ++ number_text value) ++ 10 ∷ []) }
 {
-    let mut text = DecimalText::new();
-    put_field(output, text.put(value));
+    put_number(output, value);
     output.put(b"\n");
 }
 
