@@ -3,7 +3,7 @@ use Rattle.mpslp_lp.proofs.Prelude
 use Prelude.{◌≡◌, ◌≤◌, refl, ap, ◌∙◌, ℕ, ◌+◌, ◌-◌, ◌^◌, min, List, [], ◌∷◌, ◌++◌, Bool, true, false, arith, None, enumerate_from, Draft}
 use Prelude.{FaultKind, fault_on_line, Outcome, Finished, Refused, Open, Context, State, AfterEnd, AfterToken, Goes, Refuses, take_line}
 use Prelude.{read_from, is_at_end, sym, subst, Result, Ok, Err, LinearModel, model_of, Finishes, ReadFault, ReadsLp, outcome, DeclaresLp}
-use Prelude.{◌<◌, map, Option, Some, if◌then◌else◌, lines, Token, tokens, Terminal, TerminalAt, terminal_of, line_terminals, lexical_fault}
+use Prelude.{◌<◌, map, Option, Some, lines, Token, tokens, Terminal, TerminalAt, terminal_of, line_terminals, lexical_fault}
 use Prelude.{as_terminal, terminals, start, AtStart, Between, says_after, take_all, numbered_lines, sound_terminals, first_own_fault}
 use Prelude.{or_else, append-nil, append_assoc, is_some, whole_fault, LineTooLong, MissingEnd, has_legal_length, LineError, first_lp_fault}
 use Prelude.{TakesToken, lines_outcome, IsFaultOfLines, LedTo, HasRead, FaultStaysWhenLinesFollow}

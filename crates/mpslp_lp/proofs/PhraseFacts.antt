@@ -1,6 +1,6 @@
 -- What each phrase declares: legal declarations, none of which is rejected after those before it.
 use Rattle.mpslp_lp.proofs.Prelude
-use Prelude.{◌⊎◌, inl, inr, ◌≡◌, refl, sym, subst, ◌∙◌, ℕ, ◌+◌, ◌-◌, List, [], ◌∷◌, ◌++◌, Bool, true, false, arith, Option, Some, None}
+use Prelude.{◌⊎◌, inl, inr, ◌≡◌, refl, sym, subst, ◌∙◌, ℕ, List, [], ◌∷◌, ◌++◌, Bool, true, false, arith, Option, Some, None}
 use Prelude.{is_some, unwrap_or, ◌&&◌, if◌then◌else◌, list_all, list_any, flat_map, option_map_or, first_so, second_so, list_all-append}
 use Prelude.{Decimal, is_decimal, negated, same_bytes, is_lp_name, draft_of, Declaration, declare_sense, declare_objective}
 use Prelude.{declare_constant, declare_row, declare_rhs, declare_range, declare_column, declare_coefficient, declare_lower, declare_upper}

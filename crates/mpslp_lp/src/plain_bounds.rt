@@ -65,6 +65,26 @@ fn agreeing_side(relation: Relation, tokens: &mut Tokens<'_>) -> Option<RightSid
     }
 }
 
+/// Leaves the state after a bound that so far has only a left-hand side, with this relation.
+#[inline(never)]
+fn take_no_second_side<'a>(
+    context: &mut Context,
+    state: &mut State,
+    column: &[u8],
+    relation: Relation,
+    tokens: Tokens<'a>,
+) -> Result<Tokens<'a>, LineError>
+    requires { IsMpsName column.now }
+    ensures { TakesSome context.old (State.Between (Place.InBounds (Some (column.now, relation)))) tokens.entry result context.new state.new }
+{
+    let name = context.copied(column)?;
+    set_state(
+        state,
+        State::Between(Place::InBounds(Some((name, relation)))),
+    );
+    Ok(tokens)
+}
+
 /// Takes the right-hand side that comes next, if there is one, of a bound that has a left-hand side with this relation.
 fn take_second_side<'a>(
     context: &mut Context,
@@ -79,14 +99,7 @@ fn take_second_side<'a>(
     let mut left = tokens.again();
     match agreeing_side(relation, &mut left) {
         Some(right) => take_right_side(context, state, false, column, &right, left),
-        None => {
-            let name = context.copied(column)?;
-            set_state(
-                state,
-                State::Between(Place::InBounds(Some((name, relation)))),
-            );
-            Ok(tokens)
-        }
+        None => take_no_second_side(context, state, column, relation, tokens),
     }
 }
 
@@ -115,6 +128,7 @@ fn take_after_limit<'a>(
 }
 
 /// Takes a bound that begins with this column. `left` are the tokens after the column.
+#[inline(never)]
 fn take_after_column<'a>(
     context: &mut Context,
     state: &mut State,

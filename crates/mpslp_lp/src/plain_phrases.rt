@@ -6,7 +6,7 @@ ghost use Rattle.mpslp_lp.specs.PlainPhrase.{TakesSome};
 use crate::plain_bounds::take_bound;
 use crate::plain_names::take_names;
 use crate::plain_row_starts::take_new_row;
-use crate::plain_rows::{take_rest_of_row, take_right_side};
+use crate::plain_rows::{take_labelled_row, take_rest_of_row, take_right_side};
 use mpslp_lines::LineError;
 use mpslp_lp_grammar::{Context, ListSection, Place, State};
 use mpslp_lp_tokens::Tokens;
@@ -26,6 +26,7 @@ pub(crate) fn take_phrases<'a>(
         State::Between(Place::InGenerals) => take_names(context, ListSection::Generals, tokens),
         State::Between(Place::InBinaries) => take_names(context, ListSection::Binaries, tokens),
         State::Between(Place::InSemis) => take_names(context, ListSection::Semis, tokens),
+        State::RowLabel(_) => take_labelled_row(context, state, tokens),
         _ => take_rest_of_row(context, state, tokens),
     }
 }

@@ -17,7 +17,7 @@ ghost use Rattle.mpslp_lp.specs.PlainStart.{BeginsWithColumn, BeginsWithTerm, ro
 
 use crate::plain_rows::{end_plain_row, take_rest_of_row};
 use crate::plain_terms::set_state;
-use crate::plain_tokens::{RightSide, next_name, next_terminal, right_side_after};
+use crate::plain_tokens::{RightSide, next_name, next_terminal, right_side_after, takes_colon};
 use mpslp_decimal::Decimal;
 use mpslp_lines::LineError;
 use mpslp_lp_grammar::{
@@ -164,7 +164,28 @@ fn take_first_term<'a>(
     Ok(left)
 }
 
-/// Takes the first term of a row, if it comes next after this label.
+/// Takes the first term of a row with this label, if it comes next on the line of the label.
+#[inline(never)]
+fn take_labelled_term<'a>(
+    context: &mut Context,
+    state: &mut State,
+    name: Name,
+    tokens: Tokens<'a>,
+) -> Result<Tokens<'a>, LineError>
+    ensures { TakesSome context.old (State.RowLabel name) tokens.entry result context.new state.new }
+{
+    let mut left = tokens.again();
+    match next_term(&mut left) {
+        Some(term) => take_first_term(context, state, name, term, left),
+        None => {
+            set_state(state, State::RowLabel(name));
+            Ok(tokens)
+        }
+    }
+}
+
+/// Takes the first term of a row, if it comes next after this label. Most labels are the last token of their line.
+#[inline(always)]
 fn take_after_label<'a>(
     context: &mut Context,
     state: &mut State,
@@ -175,14 +196,11 @@ fn take_after_label<'a>(
     ensures { TakesSome context.old (State.RowLabel label.now) tokens.entry result context.new state.new }
 {
     let name = context.copied(label)?;
-    let mut left = tokens.again();
-    match next_term(&mut left) {
-        Some(term) => take_first_term(context, state, name, term, left),
-        None => {
-            set_state(state, State::RowLabel(name));
-            Ok(tokens)
-        }
+    if tokens.bytes_left().is_empty() {
+        set_state(state, State::RowLabel(name));
+        return Ok(tokens);
     }
+    take_labelled_term(context, state, name, tokens)
 }
 
 /// Takes the first term of a row without a label, if this token, a sign or a number, begins it. `left` are the tokens after this one.
@@ -238,9 +256,10 @@ fn take_row_of_column<'a>(
     end_plain_row(context, row, right, left)
 }
 
-/// Takes the start of a row that begins with this name: a label and the first term after it, a column that is the first term, or the
-/// whole row if that is its only term. `left` are the tokens after the name.
-fn take_after_name<'a>(
+/// Takes the start of a row without a label that begins with this column: the first term, or the whole row if that is its only term.
+/// `left` are the tokens after the column.
+#[inline(never)]
+fn take_after_column<'a>(
     context: &mut Context,
     state: &mut State,
     name: &[u8],
@@ -256,12 +275,54 @@ fn take_after_name<'a>(
         return Ok(tokens);
     };
     match second.kind {
-        TerminalKind::Colon => take_after_label(context, state, name, after),
         TerminalKind::Sign(_) => take_column(context, state, name, left),
         TerminalKind::Compares(relation) => match right_side_after(relation, &mut after) {
             Some(right) => take_row_of_column(context, name, &right, after),
             None => Ok(tokens),
         },
+        _ => Ok(tokens),
+    }
+}
+
+/// Takes the start of a row that begins with this name: a label and the first term after it, or a column and what
+/// [`take_after_column`] takes. `left` are the tokens after the name.
+#[inline(always)]
+fn take_after_name<'a>(
+    context: &mut Context,
+    state: &mut State,
+    name: &[u8],
+    tokens: Tokens<'a>,
+    left: Tokens<'a>,
+) -> Result<Tokens<'a>, LineError>
+    requires { IsMpsName name.now }
+    ensures { Begins tokens.entry (Terminal.Name name.now) left.entry → state.old ≡ State.Between Place.BetweenRows
+        → TakesSome context.old state.old tokens.entry result context.new state.new }
+{
+    let mut after = left.again();
+    if takes_colon(&mut after) {
+        take_after_label(context, state, name, after)
+    } else {
+        take_after_column(context, state, name, tokens, left)
+    }
+}
+
+/// Takes the start of a row that begins with a sign or a number, if it comes next. Returns the tokens after it.
+#[inline(never)]
+fn take_unnamed_start<'a>(
+    context: &mut Context,
+    state: &mut State,
+    tokens: Tokens<'a>,
+) -> Result<Tokens<'a>, LineError>
+    ensures { state.old ≡ State.Between Place.BetweenRows → TakesSome context.old state.old tokens.entry result context.new state.new }
+{
+    let mut left = tokens.again();
+    let Some(first) = next_terminal(&mut left) else {
+        return Ok(tokens);
+    };
+    match first.kind {
+        TerminalKind::Sign(_) | TerminalKind::Number(_) => {
+            take_unlabelled_term(context, state, &first, tokens, left)
+        }
         _ => Ok(tokens),
     }
 }
@@ -276,15 +337,9 @@ fn take_row_start<'a>(
     ensures { state.old ≡ State.Between Place.BetweenRows → TakesSome context.old state.old tokens.entry result context.new state.new }
 {
     let mut left = tokens.again();
-    let Some(first) = next_terminal(&mut left) else {
-        return Ok(tokens);
-    };
-    match first.kind {
-        TerminalKind::Name => take_after_name(context, state, first.text, tokens, left),
-        TerminalKind::Sign(_) | TerminalKind::Number(_) => {
-            take_unlabelled_term(context, state, &first, tokens, left)
-        }
-        _ => Ok(tokens),
+    match next_name(&mut left) {
+        Some(name) => take_after_name(context, state, name, tokens, left),
+        None => take_unnamed_start(context, state, tokens),
     }
 }
 

@@ -7,7 +7,7 @@ ghost use Rattle.mpslp_lp_grammar.specs.declared.states.State.{State};
 ghost use Rattle.mpslp_lp_tokens.specs.Token.{Token};
 ghost use Rattle.mpslp_lp.specs.PlainPhrase.{BeginsWithRight, TakesSome};
 
-use crate::plain_terms::{set_state, take_terms};
+use crate::plain_terms::{restore_state, take_more_terms, take_terms_after_label};
 use crate::plain_tokens::{RightSide, next_right_side};
 use crate::read_line::error_before;
 use mpslp_lines::LineError;
@@ -51,15 +51,46 @@ pub(crate) fn take_right_side<'a>(
             if fits_left(&row, right.relation) {
                 end_plain_row(context, row, &right, left)
             } else {
-                set_state(state, State::Between(Place::InRow(row)));
+                restore_state(state, State::Between(Place::InRow(row)));
                 Ok(tokens)
             }
         }
         other => {
-            set_state(state, other);
+            restore_state(state, other);
             Ok(tokens)
         }
     }
+}
+
+/// Takes the right-hand side of a row, if the state is after a term of a row and the side comes next. Returns the tokens after it.
+#[inline(always)]
+fn take_right_side_in_row<'a>(
+    context: &mut Context,
+    state: &mut State,
+    tokens: Tokens<'a>,
+) -> Result<Tokens<'a>, LineError>
+    ensures { TakesSome context.old state.old tokens.entry result context.new state.new }
+{
+    match state {
+        State::Between(Place::InRow(_)) => take_right_side(context, state, tokens),
+        _ => Ok(tokens),
+    }
+}
+
+/// Takes the terms that come next after the label of a row, and its right-hand side after them. Returns the tokens after these.
+#[inline(never)]
+pub(crate) fn take_labelled_row<'a>(
+    context: &mut Context,
+    state: &mut State,
+    tokens: Tokens<'a>,
+) -> Result<Tokens<'a>, LineError>
+    ensures { TakesSome context.old state.old tokens.entry result context.new state.new }
+{
+    let left = take_terms_after_label(context, state, tokens)?;
+    if left.bytes_left().is_empty() {
+        return Ok(left);
+    }
+    take_right_side_in_row(context, state, left)
 }
 
 /// Takes the terms that come next and, if they are those of a row, its right-hand side after them. Returns the tokens after these.
@@ -71,12 +102,9 @@ pub(crate) fn take_rest_of_row<'a>(
 ) -> Result<Tokens<'a>, LineError>
     ensures { TakesSome context.old state.old tokens.entry result context.new state.new }
 {
-    let left = take_terms(context, state, tokens)?;
+    let left = take_more_terms(context, state, tokens)?;
     if left.bytes_left().is_empty() {
         return Ok(left);
     }
-    match state {
-        State::Between(Place::InRow(_)) => take_right_side(context, state, left),
-        _ => Ok(left),
-    }
+    take_right_side_in_row(context, state, left)
 }

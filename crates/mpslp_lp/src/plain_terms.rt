@@ -41,6 +41,14 @@ pub(crate) fn set_state(state: &mut State, next: State)
     *state = next;
 }
 
+/// Puts a state back that turned out to be another one than expected, which never happens where a reader calls this.
+#[inline(never)]
+pub(crate) fn restore_state(state: &mut State, other: State)
+    ensures { state.new ≡ other }
+{
+    *state = other;
+}
+
 /// The text of the number (`1` if the term has none) and the name that come next.
 #[inline(always)]
 fn unsigned_term<'a>(tokens: &mut Tokens<'a>) -> Option<(&'a [u8], &'a [u8])>
@@ -148,7 +156,7 @@ fn take_first_terms<'a>(
 /// Takes the plain terms of a row that come next, if the first of them comes after the label of the row. Returns the tokens after
 /// them.
 #[inline(always)]
-fn take_terms_after_label<'a>(
+pub(crate) fn take_terms_after_label<'a>(
     context: &mut Context,
     state: &mut State,
     tokens: Tokens<'a>,
@@ -162,7 +170,7 @@ fn take_terms_after_label<'a>(
     match replace(state, State::AfterEnd) {
         State::RowLabel(name) => take_first_terms(context, name, state, term, after_term),
         other => {
-            set_state(state, other);
+            restore_state(state, other);
             Ok(tokens)
         }
     }
@@ -227,24 +235,6 @@ pub(crate) fn take_more_terms<'a>(
     match state {
         State::Between(Place::InRow(row)) => take_plain_terms(context, row, tokens),
         State::Between(Place::InObjective(name)) => take_objective_terms(context, name, tokens),
-        _ => Ok(tokens),
-    }
-}
-
-/// Takes the plain terms that come next, if the state is after a label or a term of a row, or after a term of the objective.
-/// Returns the tokens after them.
-#[inline(always)]
-pub(crate) fn take_terms<'a>(
-    context: &mut Context,
-    state: &mut State,
-    tokens: Tokens<'a>,
-) -> Result<Tokens<'a>, LineError>
-    ensures { TakesSome context.old state.old tokens.entry result context.new state.new }
-{
-    match state {
-        State::Between(Place::InRow(row)) => take_plain_terms(context, row, tokens),
-        State::Between(Place::InObjective(name)) => take_objective_terms(context, name, tokens),
-        State::RowLabel(_) => take_terms_after_label(context, state, tokens),
         _ => Ok(tokens),
     }
 }

@@ -1,6 +1,6 @@
 //! The tokens with which plain phrases go on: a token is taken only if it is of the kind that is asked for and has no lexical error.
 
-ghost use Rattle.std.specs.Prelude.{List, IfSome};
+ghost use Rattle.std.specs.Prelude.{List, IfSome, IsTrue};
 ghost use Rattle.mpslp_types.specs.Name.{IsMpsName};
 ghost use Rattle.mpslp_lp_grammar.specs.Terminal.{Terminal};
 ghost use Rattle.mpslp_lp_grammar.specs.TerminalToken.{HasLegalName, terminal_of_token};
@@ -55,6 +55,20 @@ pub(crate) fn next_name<'a>(tokens: &mut Tokens<'a>) -> Option<&'a [u8]>
     match classify_found(token.kind, token.text) {
         Ok(TerminalKind::Name) => Some(token.text),
         _ => None,
+    }
+}
+
+/// Takes the next token if it is a colon. Returns whether it is one.
+#[inline(always)]
+pub(crate) fn takes_colon(tokens: &mut Tokens<'_>) -> bool
+    ensures { IsTrue result → Begins tokens.old Terminal.Colon tokens.new }
+{
+    match tokens.next() {
+        Some(token) => match token.kind {
+            TokenKind::Colon => true,
+            _ => false,
+        },
+        None => false,
     }
 }
 

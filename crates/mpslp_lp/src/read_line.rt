@@ -141,7 +141,12 @@ fn take_tokens(context: &mut Context, state: &mut State, line: &[u8]) -> Result<
         (λ _. take_tokens context.old state.old (tokens line.now) ≡ Goes context.new state.new)
         (λ error. TakesToken (take_tokens context.old state.old (tokens line.now)) (Err error) context.new) }
 {
-    let left = take_more_terms(context, state, tokens_of(line))?;
+    let tokens = tokens_of(line);
+    // Right-hand sides of canonical LP begin so, and no term does.
+    if let [b' ', b' ', b'<' | b'=' | b'>', ..] = line {
+        return take_others(context, state, tokens);
+    }
+    let left = take_more_terms(context, state, tokens)?;
     if left.bytes_left().is_empty() {
         return Ok(());
     }

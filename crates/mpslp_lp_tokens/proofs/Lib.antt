@@ -3,3 +3,4 @@ pub mod WordLemmas
 pub mod NameTokens
 pub mod NumberRun
 pub mod FrontLemmas
+mod WordLength

@@ -1,6 +1,6 @@
 //! The longest token that is a prefix of a text, found in one pass.
 
-ghost use Rattle.std.specs.Prelude.{◌≡◌, ◌≤◌, [], ◌∷◌, length};
+ghost use Rattle.std.specs.Prelude.{◌≡◌, ◌≤◌, ◌&&◌, [], ◌∷◌, length};
 ghost use Rattle.std.specs.List.{prefix_len};
 ghost use Rattle.mpslp_decimal.specs.Literal.{is_digit};
 ghost use Rattle.mpslp_lp_tokens.specs.Token.{begins_word, continues_word, is_number, operator_kind, token_at};
@@ -95,8 +95,9 @@ fn is_first_of_word(byte: u8) -> bool
     FIRST_BYTES_OF_WORDS[byte as usize] != b'-'
 }
 
-/// The length of the word with which the text begins.
-fn word_len(text: &[u8]) -> usize
+/// The length of the word with which the text begins, byte by byte.
+#[inline(always)]
+fn word_len_by_bytes(text: &[u8]) -> usize
     ensures count { result ≡ prefix_len continues_word text.now }
     ensures within { result ≤ length text.now }
 {
@@ -106,6 +107,30 @@ fn word_len(text: &[u8]) -> usize
         }
     }
     text.len()
+}
+
+/// Whether a word may continue with these four bytes.
+#[inline(always)]
+fn continue_word(first: u8, second: u8, third: u8, fourth: u8) -> bool
+    ensures { result ≡ (continues_word first && (continues_word second && (continues_word third && continues_word fourth))) }
+{
+    is_lp_byte(first) && (is_lp_byte(second) && (is_lp_byte(third) && is_lp_byte(fourth)))
+}
+
+/// The length of the word with which the text begins. Most names are longer than four bytes, so four are tested at once.
+#[inline(always)]
+fn word_len(text: &[u8]) -> usize
+    ensures count { result ≡ prefix_len continues_word text.now }
+    ensures within { result ≤ length text.now }
+{
+    let mut rest = text;
+    while let [first, second, third, fourth, more @ ..] = rest {
+        if !continue_word(*first, *second, *third, *fourth) {
+            break;
+        }
+        rest = more;
+    }
+    text.len() - rest.len() + word_len_by_bytes(rest)
 }
 
 /// The kind of an operator of two bytes.

@@ -1,4 +1,4 @@
-use Rattle.mpslp_lp.proofs.{Prelude.{subst, ap, ◌∙◌, arith, Some, InBounds, Between, take_tokens, TakesSome}, PlainPhrases.{bound-compared}}
+use Rattle.mpslp_lp.proofs.{Prelude.{subst, Some, InBounds, Between, TakesSome}, PlainPhrases.{bound-compared}}
 use Rattle.mpslp_lp.proofs.plain_bounds.take_second_side.Goals as goal
 
 pub returns-in-Some : goal.returns-in-Some
@@ -6,10 +6,3 @@ returns-in-Some c = let context = c.args.context.now in let column = c.args.colu
     let right = c.in-Some.right in let start = Between (InBounds (Some (column, relation))) in subst (λ found.
     TakesSome context start found c.take_right_side.result c.take_right_side.new.context c.take_right_side.new.state) c.again-left.ensures
     (c.take_right_side.ensures start c.again-left.result (bound-compared _ _ _ _ c.in-Some.ensures.agrees) c.in-Some.ensures.begins)
-
-pub returns-in_ok-name-in-None : goal.returns-in_ok-name-in-None
-returns-in_ok-name-in-None c = let context = c.args.context.now in let tokens = c.args.tokens in (
-  ap (λ next. take_tokens context next tokens) c.set_state.ensures
-      ∙ ap (λ name. take_tokens context (Between (InBounds (Some (name, c.args.relation)))) tokens) c.in_ok-name-in-None.ensures,
-  omega arith,
-)

@@ -1,15 +1,6 @@
-use Rattle.mpslp_lp.proofs.Prelude.{◌≡◌, sym, subst, refl, inl, inr, default_row, terminal_of_token, terminal_with_text, take, TerminalKind}
-use Rattle.mpslp_lp.proofs.Prelude.{BetweenRows, Between, RowLabel, Begins}
+use Rattle.mpslp_lp.proofs.Prelude.{subst, Terminal, Begins}
 use Rattle.mpslp_lp.proofs.plain_row_starts.take_row_start.Goals as goal
 
-pub returns-in-Name : goal.returns-in-Name
-returns-in-Name c = let first = c.in-Some.first in let rest = c.next_terminal.new.tokens in
-    c.take_after_name.ensures (subst (λ kind. Begins c.args.tokens (terminal_with_text kind first.text.now) rest) c.in-Name.is
-    (subst (λ found. Begins found (terminal_of_token first) rest) c.again-left.ensures c.in-Some.ensures.next))
-
-pub returns-in-Sign : goal.returns-in-Sign
-returns-in-Sign c = let context = c.args.context.now in let first = c.in-Some.first in
-    let SameAt = λ (kind : TerminalKind). take context (Between BetweenRows) (terminal_with_text kind first.text.now) ≡ take context
-    (RowLabel (default_row context)) (terminal_with_text kind first.text.now) in c.take_unlabelled_term.ensures (elim c.in-Sign.is as (λ _.
-    SameAt first.kind) [ inl sign ↦ subst SameAt (sym sign.1) refl | inr number ↦ subst SameAt (sym number.1) refl ])
-    (subst (λ found. Begins found (terminal_of_token first) c.next_terminal.new.tokens) c.again-left.ensures c.in-Some.ensures.next)
+pub returns-in-Some : goal.returns-in-Some
+returns-in-Some c = c.take_after_name.ensures
+    (subst (λ found. Begins found (Terminal.Name c.in-Some.name.now) c.next_name.new.tokens) c.again-left.ensures c.in-Some.ensures.next)
