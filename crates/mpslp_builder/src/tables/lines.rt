@@ -99,11 +99,7 @@ impl Tables {
     }
 
     /// Adds a column without coefficients, which will be looked up in this order. Its name must be new. Returns its number.
-    pub(crate) fn start_column(
-        &mut self,
-        name: Name,
-        order: LookUps,
-    ) -> Result<usize, AllocError>
+    pub(crate) fn start_column(&mut self, name: Name, order: LookUps) -> Result<usize, AllocError>
         requires numbered { IsNumbered self.old }
         requires absent { has_name (draft None None self.old).columns name ≡ false }
         requires legal { is_mps_name name ≡ true }
