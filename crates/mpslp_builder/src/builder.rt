@@ -11,6 +11,7 @@ ghost use Rattle.mpslp_builder.specs.Refusal.{refusals, bounds_refusals};
 ghost use Rattle.mpslp_builder.specs.Answer.{AnswersTo, AnswersToAll, IsNotOutOfMemory};
 
 use crate::tables::Tables;
+use crate::tables::hints::LookUps;
 use mpslp_decimal::Decimal;
 use mpslp_decimal::laws::each_value_is_a_decimal;
 use mpslp_model_core::{PackedRowDefinition, RowLimits};
@@ -195,7 +196,7 @@ impl Builder {
         if self.has_column(name.as_bytes()) {
             return Ok(());
         }
-        self.tables.add_column(name)?;
+        self.tables.add_column(name, LookUps::InOrder)?;
         Ok(())
     }
 

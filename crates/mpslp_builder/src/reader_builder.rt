@@ -11,6 +11,7 @@ ghost use Rattle.mpslp_builder.specs.RowTerms.{term_declared, DeclaresInTurn};
 use crate::builder::Builder;
 use crate::entries::Entries;
 use crate::row_terms::RowTerms;
+use crate::tables::hints::LookUps;
 use mpslp_decimal::Decimal;
 use mpslp_types::{BuildFault, Name};
 
@@ -84,7 +85,7 @@ impl ReaderBuilder {
         if draft.has_column(name.as_bytes()) {
             return Ok(false);
         }
-        let column = draft.tables.start_column(name)?;
+        let column = draft.tables.start_column(name, LookUps::InOrder)?;
         draft.tables.put_line(column, is_marked, rows, entries)?;
         Ok(true)
     }

@@ -3,6 +3,7 @@
 mod changes;
 mod facts;
 pub(crate) mod file_faults;
+pub(crate) mod hints;
 pub(crate) mod lines;
 mod names;
 mod row_terms;
@@ -11,6 +12,7 @@ pub(crate) mod targets;
 ghost use Rattle.std.specs.Prelude.{◌≡◌, ◌<◌};
 ghost use Rattle.mpslp_builder.specs.Calls.{row_key_of, IsOnceEach, IsEmptyTables};
 
+use crate::tables::hints::Hints;
 use indexmap::IndexMap;
 use mpslp_builder_parts::{ColumnTable, ObjectiveParts, RowParts};
 use mpslp_types::{HashSeed, Name};
@@ -29,6 +31,8 @@ pub(crate) struct Tables {
     pub(crate) recent_row: usize,
     /// The number of the column that was used last. It only speeds up look-ups, so any number is correct.
     pub(crate) recent: usize,
+    /// The numbers that columns of terms probably have. They only speed up look-ups, so any are correct.
+    pub(crate) hints: Hints,
 }
 
 /// The objective or a row, which share one set of names.
@@ -64,6 +68,7 @@ impl Tables {
             columns: ColumnTable::new(alloc, seed),
             recent_row: 0,
             recent: 0,
+            hints: Hints::new(alloc),
         }
     }
 

@@ -14,6 +14,7 @@ ghost use Rattle.mpslp_builder.specs.Tables.{name_of_objective, draft, IsNumbere
 
 use crate::builder::Builder;
 use crate::tables::file_faults::FoundFault;
+use crate::tables::hints::drop_hints;
 use crate::tables::{NameMap, Tables};
 use mpslp_builder_parts::{ObjectiveParts, RowParts, ordered, ranks_of, row_of};
 use mpslp_decimal::{Decimal, PackedDecimal};
@@ -92,7 +93,9 @@ pub(crate) fn into_model(
         columns,
         recent_row: _,
         recent: _,
+        hints,
     } = tables;
+    drop_hints(hints);
     let (row_order, rows) = ordered(alloc, rows_in(alloc, rows)?)?;
     let ranks = ranks_of(alloc, &row_order)?;
     let (spans, cells) = columns.into_columns(alloc, &ranks)?;

@@ -8,6 +8,7 @@ ghost use Rattle.mpslp_builder.specs.Declaration.{has_name};
 ghost use Rattle.mpslp_builder.specs.Tables.{draft};
 ghost use Rattle.mpslp_builder.specs.Calls.{row_key_of, row_name, column_name, has_limits, cells_at, new_column, with_cell, with_bounds, IsSameTables, HasObjective, HasRowAdded, HasRowChanged, HasColumnAdded, HasColumnChanged, HasRhsPut};
 
+use crate::tables::hints::LookUps;
 use crate::tables::{RowRef, Tables};
 use mpslp_builder_parts::{ObjectiveParts, RowParts};
 use mpslp_decimal::{Decimal, PackedDecimal};
@@ -49,13 +50,15 @@ impl Tables {
         Ok(())
     }
 
-    /// Adds a column without coefficients. Its name must be new.
-    pub(crate) fn add_column(&mut self, name: Name) -> Result<(), AllocError>
+    /// Adds a column without coefficients, which will be looked up in this order. Its name must be new.
+    pub(crate) fn add_column(&mut self, name: Name, order: LookUps) -> Result<(), AllocError>
         requires { has_name (draft None None self.old).columns name ≡ false }
         ensures ok { OnOk result (HasColumnAdded self.old name new_column self.new) }
         ensures err { OnErr result (IsSameTables self.old self.new) }
     {
         self.recent = self.columns.len();
+        let seed = *self.rows.hasher();
+        self.hints.note(order, seed, name.as_bytes(), self.recent)?;
         self.columns.insert(name)
     }
 

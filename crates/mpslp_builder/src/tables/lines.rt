@@ -14,6 +14,7 @@ ghost use Rattle.mpslp_builder.specs.LineTables.{AreRows, AreKnownRows, AreFree,
 
 use crate::entries::Entries;
 use crate::tables::Tables;
+use crate::tables::hints::LookUps;
 use mpslp_decimal::Decimal;
 use mpslp_decimal::laws::each_value_is_a_decimal;
 use mpslp_types::Name;
@@ -97,8 +98,8 @@ impl Tables {
         Some(LinePlace { column, rows })
     }
 
-    /// Adds a column without coefficients. Its name must be new. Returns its number.
-    pub(crate) fn start_column(&mut self, name: Name) -> Result<usize, AllocError>
+    /// Adds a column without coefficients, which will be looked up in this order. Its name must be new. Returns its number.
+    pub(crate) fn start_column(&mut self, name: Name, order: LookUps) -> Result<usize, AllocError>
         requires numbered { IsNumbered self.old }
         requires absent { has_name (draft None None self.old).columns name ≡ false }
         requires legal { is_mps_name name ≡ true }
@@ -107,7 +108,7 @@ impl Tables {
         ensures ok { IfOk result (λ column. HasStarted self.old name column self.new) }
     {
         let column = self.columns.len();
-        self.add_column(name)?;
+        self.add_column(name, order)?;
         Ok(column)
     }
 

@@ -12,6 +12,7 @@ ghost use Rattle.mpslp_builder.specs.TermTables.{HasColumn, TermIsDeclaredUnless
 
 use crate::row_terms::RowTerms;
 use crate::tables::Tables;
+use crate::tables::hints::LookUps;
 use indexmap::IndexMap;
 use mpslp_decimal::Decimal;
 use mpslp_types::laws::each_name_is_legal;
@@ -23,7 +24,7 @@ const AHEAD: usize = 16;
 
 /// The number of terms of a row up to which each column is looked up when its coefficient is stored: for so few, looking ahead takes
 /// longer than the misses of the cache that it saves.
-const FEW: usize = 3;
+const FEW: usize = 1;
 
 /// Consecutive numbers.
 fn numbers_from(first: usize) -> [usize; AHEAD] {
@@ -48,15 +49,12 @@ impl Tables {
         if is_run { Some(first) } else { None }
     }
 
-    /// The numbers of the columns of the first terms, 0 where there is none.
+    /// The numbers that the columns of the first terms probably have.
     fn numbers_of(&self, terms: &[(Name, Decimal)]) -> [usize; AHEAD] {
+        let seed = *self.rows.hasher();
         let mut numbers = [0usize; AHEAD];
-        let mut next = self.recent;
         for i in 0..terms.len().min(AHEAD) {
-            if let Some(column) = self.column_from(terms[i].0.as_bytes(), next) {
-                numbers[i] = column;
-                next = column.saturating_add(1);
-            }
+            numbers[i] = self.hints.guess(seed, terms[i].0.as_bytes());
         }
         numbers
     }
@@ -69,10 +67,11 @@ impl Tables {
             Some(first) => numbers_from(first),
             None => self.numbers_of(terms),
         };
-        // This reads the last coefficient of each column, after which the next one is stored. In a loop of their own the misses of
-        // the cache overlap.
+        // This reads the name of each column, and its last coefficient, after which the next one is stored. In a loop of their own
+        // the misses of the cache overlap.
         for i in 0..count {
-            if self.has_cell(guesses[i], row) {
+            let is_found = self.is_column(guesses[i], terms[i].0.as_bytes());
+            if !is_found || self.has_cell(guesses[i], row) {
                 guesses[i] = 0;
             }
         }
@@ -102,7 +101,7 @@ impl Tables {
         self.each_name_occurs_once();
         match self.column_from(name, guess) {
             Some(column) => Ok(column),
-            None => self.start_column(Name::from_legal(alloc, name)?),
+            None => self.start_column(Name::from_legal(alloc, name)?, LookUps::InAnyOrder),
         }
     }
 
