@@ -19,7 +19,7 @@ use std::cmp::Ordering;
 const FRONT: usize = 8;
 
 /// The maximum number of entries: their numbers have 32 bits.
-const MOST_ENTRIES: usize = 4_294_967_295;
+const MOST_ENTRIES: usize = 4_294_967_296;
 
 /// The number of an entry, with bytes of its name as one number. Names are compared only if these are equal.
 #[derive(Clone, Copy, Drop)]
@@ -158,7 +158,7 @@ fn numbers_of(alloc: Global, fronts: &[Front]) -> Result<Vec<usize>, AllocError>
 ///
 /// # Errors
 ///
-/// [`AllocError`] if there is no memory for the keys, for sorting them or for the numbers, or if there are more than 4,294,967,295
+/// [`AllocError`] if there is no memory for the keys, for sorting them or for the numbers, or if there are more than 4,294,967,296
 /// entries.
 pub fn order_of<V>(alloc: Global, entries: &[(Name, V)]) -> Result<Vec<usize>, AllocError>
     ensures permutation { IfOk result (λ order. IsPermutation (range_with_len 0 (length entries.now)) order.items) }
