@@ -1,15 +1,15 @@
--- The first bytes of a name as a number are read from 16 bytes at once.
+-- The first bytes of a name as a number are read from 8 bytes at once.
 use Rattle.std.proofs.Common.{◌≡◌, refl, sym, ◌∙◌, ℕ, zero, suc, ◌+◌, ◌-◌, ◌<◌, ◌≤◌, ◌++◌, List, get_or, take, drop, replicate, length, arith, true}
 use Rattle.std.proofs.{Common.{false, nat_lt}, lemmas.{Bool.Decides.nat_tests, List.{get_or_append_left, get_or-take, get_or-append_right}}}
 use Rattle.std.proofs.lemmas.List.{get_or-drop, get_or_past, length-take-le}
-use Rattle.std.specs.{Int.{from_be_bytes, w128}, Prelude.slice_index}
+use Rattle.std.specs.{Int.{from_be_bytes, w64}, Prelude.slice_index}
 use Rattle.mpslp_builder_parts.specs.Ordered.{front_value}
 
 pub front-same : (n : ℕ) (a b : List ℕ) → ((i : ℕ) → i < n → slice_index a i ≡ slice_index b i) → front_value n a ≡ front_value n b
 front-same zero a b h = refl
 front-same (suc n) a b h = grind (arith, front-same n a b (λ i l. h i (omega (arith, l))), h n (omega arith))
 
-pub be-front : (bytes : List ℕ) → from_be_bytes w128 bytes ≡ front_value 16 bytes
+pub be-front : (bytes : List ℕ) → from_be_bytes w64 bytes ≡ front_value 8 bytes
 be-front bytes = omega arith
 
 zero_at : (n k : ℕ) → get_or (replicate {A = ℕ} n 0) k 0 ≡ 0

@@ -1,14 +1,14 @@
 -- Entries in the order of their names.
-use Rattle.std.proofs.Common.{IsPermutation, List, [], ap, arith, get_or, length, map, refl, set, subst, suc, sym, take, zero, ℕ, ◌*◌, ◌+◌}
+use Rattle.std.proofs.Common.{IsPermutation, false, List, [], ap, arith, get_or, drop, length, map, refl, set, subst, suc, sym, take, zero, ℕ, ◌*◌, ◌+◌}
 use Rattle.std.proofs.{Common.{◌<◌, ◌∙◌, ◌∷◌, ◌≡◌, ◌≤◌}, lemmas.List.{get_or-map, get_or-set_other, get_or-set_same, get_or-take}}
-use Rattle.std.proofs.lemmas.List.{length-map, length-set, length-take-le, FromFn.{get_or-range_with_len, length-range_with_len}}
+use Rattle.std.proofs.lemmas.List.{drop_all, length-map, length-set, length-take-le, FromFn.{get_or-range_with_len, length-range_with_len}}
 use Rattle.std.{proofs.lemmas.{List.Sorted.{All-permutation, IsPermutation-map}, Option.slice_get-get_or}, specs.Cmp.IsTotalOrder}
 use Rattle.std.specs.{Cmp.{nat_cmp_total, on_total, ranked, then_total}, FinMap.nat_cmp-IsAntisymmetric, List.{All, SwappedAt, cons_option}}
 use Rattle.std.specs.{List.{range_with_len, Sorted.IsSortedBy}, Ordering.{is_lt, nat_cmp, ordering_then}, Prelude.{IfOk, Result, Some}}
 use Rattle.std.specs.{Prelude.{slice_index, ◌≢◌}, declared.cmp.Ordering.TheVariants.{Equal, Greater, Less}}
 use Rattle.mpslp_model_core.proofs.{CellLemmas.{bytes_total, tied_names}, RenumberLemmas.all-from_each}
 use Rattle.mpslp_types.{proofs.EachLemmas.Each, specs.Name.bytes_cmp}
-use Rattle.mpslp_builder_parts.specs.{Ordered.{entries_at, front_at, front_cmp, front_value, name_at}, declared.order.Front.Front}
+use Rattle.mpslp_builder_parts.specs.{Ordered.{BeginAlike, entries_at, front_at, front_cmp, front_value, name_at}, declared.order.Front.Front}
 
 -- the weight of a byte that is followed by so many others
 abbrev pub worth : ℕ → ℕ
@@ -80,29 +80,40 @@ front_total entries = then_total (on_total (λ f. f.bytes) nat_cmp_total) (on_to
 -- ---- sorted keys, and their numbers
 
 -- a key has the first bytes of the name
-abbrev pub IsFrontOf : {V : Type 0} → List (List ℕ × V) → Front → Type 0
-IsFrontOf entries f = f.bytes ≡ front_value 16 (name_at entries f.number)
+abbrev pub IsFrontOf : {V : Type 0} → List (List ℕ × V) → ℕ → Front → Type 0
+IsFrontOf entries shared f =
+    (f.bytes ≡ front_value 8 (drop shared (name_at entries f.number))) × BeginAlike shared (name_at entries 0) (name_at entries f.number)
 
-abbrev pub HaveBytes : {V : Type 0} → List (List ℕ × V) → Type 0
-HaveBytes entries = (n : ℕ) → AreBytes (name_at entries n)
+abbrev pub HaveBytes : {V : Type 0} → List (List ℕ × V) → ℕ → Type 0
+HaveBytes entries shared = (n : ℕ) → AreBytes (drop shared (name_at entries n))
 
-as_names : {V : Type 0} (entries : List (List ℕ × V)) → HaveBytes entries → (a b : Front) → IsFrontOf entries a → IsFrontOf entries b
+-- bytes that both names begin with do not matter
+pub alike-cmp : (shared : ℕ) (a b : List ℕ) → take shared a ≡ take shared b → bytes_cmp a b ≡ bytes_cmp (drop shared a) (drop shared b)
+alike-cmp zero a b same = refl
+alike-cmp (suc shared) [] [] same = refl
+alike-cmp (suc shared) (x ∷ a) (y ∷ b) same = grind (arith, alike-cmp shared a b)
+alike-cmp (suc shared) _ _ same = grind arith
+
+as_names : {V : Type 0} (entries : List (List ℕ × V)) (shared : ℕ) → HaveBytes entries shared → (a b : Front)
+    → IsFrontOf entries shared a → IsFrontOf entries shared b
     → front_cmp entries a b ≡ bytes_cmp (name_at entries a.number) (name_at entries b.number)
-as_names entries bytes a b p q =
-    (λ i. ordering_then (nat_cmp (p i) (q i)) (bytes_cmp (name_at entries a.number) (name_at entries b.number)))
-    ∙ front-then 16 _ _ (bytes a.number) (bytes b.number)
+as_names entries shared bytes a b p q =
+    let rest = alike-cmp shared (name_at entries a.number) (name_at entries b.number) (sym p.1.1 ∙ q.1.1) in
+    (λ i. ordering_then (nat_cmp (p.0 i) (q.0 i)) (rest i))
+    ∙ front-then 8 _ _ (bytes a.number) (bytes b.number) ∙ sym rest
 
-pub sorted_numbers : {V : Type 0} (entries : List (List ℕ × V)) → HaveBytes entries → (fronts : List Front) → All (IsFrontOf entries) fronts
+pub sorted_numbers : {V : Type 0} (entries : List (List ℕ × V)) (shared : ℕ) → HaveBytes entries shared → (fronts : List Front)
+    → All (IsFrontOf entries shared) fronts
     → IsSortedBy (λ a b. is_lt (front_cmp entries a b)) fronts
     → IsSortedBy (λ n m. is_lt (bytes_cmp (name_at entries n) (name_at entries m))) (map (λ f. f.number) fronts)
-sorted_numbers entries bytes [] own sorted k d l h = grind arith
-sorted_numbers entries bytes (f ∷ fronts) own sorted k d l h =
+sorted_numbers entries shared bytes [] own sorted k d l h = grind arith
+sorted_numbers entries shared bytes (f ∷ fronts) own sorted k d l h =
     let all = f ∷ fronts in
     let there : k + 1 < length all = omega (arith, h, length-map all (λ f. f.number)) in
     let here : k < length all = omega (arith, there) in
     (λ i. is_lt (bytes_cmp (name_at entries (get_or-map (λ f. f.number) all (k + 1) f d there i))
     (name_at entries (get_or-map (λ f. f.number) all k f d here i))))
-    ∙ ap is_lt (sym (as_names entries bytes _ _ (own (k + 1) f there) (own k f here)))
+    ∙ ap is_lt (sym (as_names entries shared bytes _ _ (own (k + 1) f there) (own k f here)))
     ∙ sorted k f l there
 
 -- a property below a number and at it
@@ -116,34 +127,56 @@ pub if_ok : {A B : Type 0} {P Q : A → Type 0} (r : Result A B) → ((a : A) �
 if_ok _ f h = grind arith
 
 -- a missing entry has no bytes in its name
-name_bytes : {V : Type 0} (entries : List (List ℕ × V)) (n i : ℕ) → (n < length entries → get_or (name_at entries n) i 0 < 256)
-    → get_or (name_at entries n) i 0 < 256
-name_bytes (x ∷ entries) (suc n) i h = name_bytes entries n i (λ l. h (omega (arith, l)))
-name_bytes _ _ i h = grind arith
+name_bytes : {V : Type 0} (entries : List (List ℕ × V)) (shared n i : ℕ) → (n < length entries → get_or (drop shared (name_at entries n)) i 0 < 256)
+    → get_or (drop shared (name_at entries n)) i 0 < 256
+name_bytes (x ∷ entries) shared (suc n) i h = name_bytes entries shared n i (λ l. h (omega (arith, l)))
+name_bytes (x ∷ entries) shared zero i h = h (omega arith)
+name_bytes [] shared n i h = grind (arith, drop_all)
 
-pub have_bytes : {V : Type 0} (entries : List (List ℕ × V)) → ((n i : ℕ) → n < length entries → slice_index (name_at entries n) i < 256)
-    → HaveBytes entries
-have_bytes entries h n i = name_bytes entries n i (h n i)
+pub have_bytes : {V : Type 0} (entries : List (List ℕ × V)) (shared : ℕ)
+    → ((n i : ℕ) → n < length entries → slice_index (drop shared (name_at entries n)) i < 256) → HaveBytes entries shared
+have_bytes entries shared h n i = name_bytes entries shared n i (h n i)
 
-own_fronts : {V : Type 0} (entries : List (List ℕ × V)) (ns : List ℕ) → Each (IsFrontOf entries) (map (front_at entries) ns)
-own_fronts entries [] = tt
-own_fronts entries (n ∷ ns) = (refl, own_fronts entries ns)
+-- each entry's name begins with these bytes of the first one
+abbrev pub AllAlike : {V : Type 0} → List (List ℕ × V) → ℕ → Type 0
+AllAlike entries shared = (n : ℕ) → n < length entries → BeginAlike shared (name_at entries 0) (name_at entries n)
 
-numbers-fronts : {V : Type 0} (entries : List (List ℕ × V)) (ns : List ℕ) → map (λ f. f.number) (map (front_at entries) ns) ≡ ns
-numbers-fronts entries [] = refl
-numbers-fronts entries (n ∷ ns) = ap (λ ns. n ∷ ns) (numbers-fronts entries ns)
+own_fronts : {V : Type 0} (entries : List (List ℕ × V)) (shared : ℕ) → AllAlike entries shared → (start count : ℕ)
+    → start + count ≤ length entries → Each (IsFrontOf entries shared) (map (front_at entries shared) (range_with_len start count))
+own_fronts entries shared alike start zero h = tt
+own_fronts entries shared alike start (suc count) h =
+    ((refl, alike start (omega (arith, h))), own_fronts entries shared alike (start + 1) count (omega (arith, h)))
 
-pub numbers-permutation : {V : Type 0} (entries : List (List ℕ × V)) (ns : List ℕ) (fronts sorted : List Front)
-    → fronts ≡ map (front_at entries) ns → IsPermutation fronts sorted → IsPermutation ns (map (λ f. f.number) sorted)
-numbers-permutation entries ns fronts sorted is p =
-    subst (λ ns. IsPermutation ns (map (λ f. f.number) sorted)) (ap (λ fs. map (λ f. f.number) fs) is ∙ numbers-fronts entries ns)
+numbers-fronts : {V : Type 0} (entries : List (List ℕ × V)) (shared : ℕ) (ns : List ℕ)
+    → map (λ f. f.number) (map (front_at entries shared) ns) ≡ ns
+numbers-fronts entries shared [] = refl
+numbers-fronts entries shared (n ∷ ns) = ap (λ ns. n ∷ ns) (numbers-fronts entries shared ns)
+
+pub numbers-permutation : {V : Type 0} (entries : List (List ℕ × V)) (shared : ℕ) (ns : List ℕ) (fronts sorted : List Front)
+    → fronts ≡ map (front_at entries shared) ns → IsPermutation fronts sorted → IsPermutation ns (map (λ f. f.number) sorted)
+numbers-permutation entries shared ns fronts sorted is p =
+    subst (λ ns. IsPermutation ns (map (λ f. f.number) sorted)) (ap (λ fs. map (λ f. f.number) fs) is ∙ numbers-fronts entries shared ns)
     (IsPermutation-map (λ f. f.number) fronts sorted p)
 
-pub own-fronts : {V : Type 0} (entries : List (List ℕ × V)) (ns : List ℕ) (fronts sorted : List Front) → fronts ≡ map (front_at entries) ns
-    → IsPermutation fronts sorted → All (IsFrontOf entries) sorted
-own-fronts entries ns fronts sorted is p =
-    All-permutation (IsFrontOf entries) fronts sorted p
-    (subst (All (IsFrontOf entries)) (sym is) (all-from_each _ _ (own_fronts entries ns)))
+pub own-fronts : {V : Type 0} (entries : List (List ℕ × V)) (shared : ℕ) → AllAlike entries shared → (fronts sorted : List Front)
+    → fronts ≡ map (front_at entries shared) (range_with_len 0 (length entries)) → IsPermutation fronts sorted
+    → All (IsFrontOf entries shared) sorted
+own-fronts entries shared alike fronts sorted is p =
+    All-permutation (IsFrontOf entries shared) fronts sorted p
+    (subst (All (IsFrontOf entries shared)) (sym is)
+    (all-from_each _ _ (own_fronts entries shared alike 0 (length entries) (omega arith))))
+
+-- names of which none is below the one before it
+pub sorted_already : {V : Type 0} (entries : List (List ℕ × V))
+    → ((k : ℕ) → k + 1 < length entries → is_lt (bytes_cmp (name_at entries (k + 1)) (name_at entries k)) ≡ false)
+    → IsSortedBy (λ n m. is_lt (bytes_cmp (name_at entries n) (name_at entries m))) (range_with_len 0 (length entries))
+sorted_already entries rises k d low l =
+    let n = length entries in
+    let there : k + 1 < n = omega (arith, l, length-range_with_len 0 n) in
+    let here : k < n = omega (arith, there) in
+    let next : get_or (range_with_len 0 n) (k + 1) d ≡ k + 1 = omega (arith, get_or-range_with_len 0 n (k + 1) d there) in
+    let own : get_or (range_with_len 0 n) k d ≡ k = omega (arith, get_or-range_with_len 0 n k d here) in
+    (λ i. is_lt (bytes_cmp (name_at entries (next i)) (name_at entries (own i)))) ∙ rises k there
 
 -- ---- Items that are moved to their places one after another, each by a swap.
 
@@ -211,6 +244,32 @@ taken_is {X} all (n ∷ order) (x ∷ done) len same within =
     let rest = taken_is all order done (omega (arith, len)) (λ p d l. same (suc p) d (omega (arith, l)))
     (λ p l. within (suc p) (omega (arith, l))) in
     ap (λ more. x ∷ more) rest ∙ ap (λ o. cons_option o (entries_at all order)) (sym first)
+
+-- all items in the order in which they are
+pub all_taken : {X : Type 0} (all : List X) → all ≡ entries_at all (range_with_len 0 (length all))
+all_taken all =
+    let n = length all in
+    let number : (p d : ℕ) → p < n → get_or (range_with_len 0 n) p d ≡ p = λ p d l. omega (arith, get_or-range_with_len 0 n p d l) in
+    taken_is all (range_with_len 0 n) all (sym (length-range_with_len 0 n))
+    (λ p d l. let here : p < n = omega (arith, l, length-range_with_len 0 n) in ap (λ q. get_or all q d) (sym (number p 0 here)))
+    (λ p l. let here : p < n = omega (arith, l, length-range_with_len 0 n) in omega (arith, here, number p 0 here))
+
+-- entries that are not moved, because their names are in order
+module _ {V : Type 0} (entries : List (List ℕ × V)) (numbers : List ℕ) (len : ℕ) (len_is : len ≡ length entries)
+    (numbers_are : numbers ≡ range_with_len 0 len) where
+  pub all_numbers : range_with_len 0 (length entries) ≡ numbers
+  all_numbers = sym (numbers_are ∙ ap (range_with_len 0) len_is)
+
+  pub sorted_in_place : (seen : List (List ℕ × V)) → seen ≡ entries
+      → IsSortedBy (λ n m. is_lt (bytes_cmp (name_at seen n) (name_at seen m))) (range_with_len 0 (length seen))
+      → IsSortedBy (λ n m. is_lt (bytes_cmp (name_at entries n) (name_at entries m))) numbers
+  sorted_in_place seen same sorted =
+      subst (IsSortedBy (λ n m. is_lt (bytes_cmp (name_at entries n) (name_at entries m)))) all_numbers
+      (subst (λ (es : List (List ℕ × V)). IsSortedBy (λ n m. is_lt (bytes_cmp (name_at es n) (name_at es m))) (range_with_len 0 (length es)))
+      same sorted)
+
+  pub taken_in_place : entries ≡ entries_at entries numbers
+  taken_in_place = all_taken entries ∙ ap (entries_at entries) all_numbers
 
 -- what is at the first places are the items of the order
 pub all_moved : {X : Type 0} (all : List X) (order : List ℕ) (items : List X) (numbers places : List ℕ)

@@ -11,7 +11,7 @@ ghost use Rattle.mpslp_model_core.specs.RowForms.{row_definition};
 ghost use Rattle.mpslp_builder_parts.specs.Ordered.{name_at, entries_at};
 ghost use Rattle.mpslp_builder_parts.specs.Parts.{limits_in};
 
-use crate::order::{in_order, order_of};
+use crate::order::{in_order, is_in_order, numbers_below, order_of};
 use crate::row_parts::RowParts;
 use mpslp_decimal::Decimal;
 use mpslp_model_core::{ModelRow, RowLimits, UnpackedRowDefinition, limits_of, plain_limits};
@@ -19,6 +19,7 @@ use mpslp_types::{Name, RowType};
 use std::alloc::{AllocError, Global};
 
 /// The limits of a row; if they are not decimals, those of a row without limits.
+#[inline(always)]
 fn limits_or_none(
     definition: &UnpackedRowDefinition,
     rhs: Decimal,
@@ -33,6 +34,7 @@ fn limits_or_none(
 }
 
 /// The limits of a row.
+#[inline(always)]
 fn limits_in(row: &RowParts) -> RowLimits
     ensures { result ≡ limits_in row.now }
 {
@@ -50,7 +52,8 @@ pub fn row_of(alloc: Global, row: &RowParts) -> Result<ModelRow, AllocError>
     ModelRow::of(alloc, limits_in(row))
 }
 
-/// Returns the former indices of rows or columns in byte order of their names, and the rows or columns in that order.
+/// Returns the former indices of rows or columns in byte order of their names, and the rows or columns in that order. Those that
+/// are in this order are neither moved nor copied.
 ///
 /// # Errors
 ///
@@ -63,6 +66,10 @@ pub fn ordered<X: Drop>(
     ensures sorted { IfOk result (λ r. IsSortedByKey (name_at entries.items) bytes_cmp r.0.items) }
     ensures taken { IfOk result (λ r. r.1.items ≡ entries_at entries.items r.0.items) }
 {
+    if is_in_order(&entries) {
+        let numbers = numbers_below(alloc, entries.len())?;
+        return Ok((numbers, entries));
+    }
     let order = order_of(alloc, &entries)?;
     let ordered = in_order(alloc, entries, &order)?;
     Ok((order, ordered))

@@ -1,29 +1,38 @@
 //! Entries in the byte order of their names.
+//!
+//! Most files declare names in byte order, or in few runs that are: numbers at the end of names are in byte order as far as they have
+//! the same number of digits. So the sort is one that merges runs.
 
-ghost use Rattle.std.specs.Prelude.{◌≡◌, ◌≢◌, ◌<◌, ◌+◌, ◌*◌, ◌^◌, ℕ, IfOk, length, map, slice_index};
+ghost use Rattle.std.specs.Prelude.{◌≡◌, ◌≢◌, ◌<◌, ◌≤◌, ◌+◌, ◌*◌, ◌^◌, ℕ, IsTrue, IfOk, drop, length, map, slice_index};
 ghost use Rattle.std.specs.List.{range_with_len};
 ghost use Rattle.std.specs.List.Sorted.{IsPermutation, IsSortedBy, IsSortedByKey};
 ghost use Rattle.std.specs.Ordering.{is_lt};
 ghost use Rattle.mpslp_types.specs.Name.{bytes_cmp};
-ghost use Rattle.mpslp_builder_parts.specs.Ordered.{name_at, front_value, front_at, front_cmp, entries_at};
+ghost use Rattle.mpslp_builder_parts.specs.Ordered.{BeginAlike, name_at, front_value, front_at, front_cmp, entries_at};
 
 use mpslp_types::Name;
 use std::alloc::{AllocError, Global};
 use std::cmp::Ordering;
 
-/// How many bytes of a name are compared as one number. Names of many models are longer than 8 bytes, but few are longer than 16.
-const FRONT: usize = 16;
+/// How many bytes of a name are compared as one number: those after the bytes that all names share. So few names are compared
+/// as a whole.
+const FRONT: usize = 8;
 
-/// The number of an entry, with the first bytes of its name as one number. Names are compared only if these are equal.
+/// The maximum number of entries: their numbers have 32 bits.
+const MOST_ENTRIES: usize = 4_294_967_296;
+
+/// The number of an entry, with bytes of its name as one number. Names are compared only if these are equal.
 #[derive(Clone, Copy, Drop)]
 struct Front {
-    bytes: u128,
-    number: usize,
+    bytes: u64,
+    number: u32,
 }
+
+const _: () = prove!(size_of::<Front>() == 16);
 
 /// The first bytes of a name, with 0 for each byte after its end.
 fn first_bytes(name: &[u8]) -> [u8; FRONT]
-    ensures { (i : ℕ) → i < 16 → slice_index result i ≡ slice_index name.now i }
+    ensures { (i : ℕ) → i < 8 → slice_index result i ≡ slice_index name.now i }
 {
     let len = name.len().min(FRONT);
     let mut bytes = [0u8; FRONT];
@@ -32,11 +41,11 @@ fn first_bytes(name: &[u8]) -> [u8; FRONT]
 }
 
 /// The first bytes of a name as one number.
-fn front_value(name: &[u8]) -> u128
-    ensures value { result ≡ front_value 16 name.now }
+fn front_value(name: &[u8]) -> u64
+    ensures value { result ≡ front_value 8 name.now }
     ensures bytes { (i : ℕ) → slice_index name.now i < 256 }
 {
-    u128::from_be_bytes(first_bytes(name))
+    u64::from_be_bytes(first_bytes(name))
 }
 
 /// The name of the entry of this number.
@@ -54,59 +63,129 @@ fn compare<V>(entries: &[(Name, V)], a: &Front, b: &Front) -> Ordering
     ensures { result ≡ front_cmp entries.now a.now b.now }
 {
     match a.bytes.cmp(&b.bytes) {
-        Ordering::Equal => name_at(entries, a.number).cmp(name_at(entries, b.number)),
+        Ordering::Equal => name_at(entries, a.number as usize).cmp(name_at(
+            entries,
+            b.number as usize,
+        )),
         decided => decided,
     }
 }
 
-/// The numbers of all entries with the first bytes of their names, in the order of the entries.
-fn fronts_of<V>(alloc: Global, entries: &[(Name, V)]) -> Result<Vec<Front>, AllocError>
-    ensures fronts { IfOk result (λ fronts. fronts.items ≡ map (front_at entries.now) (range_with_len 0 (length entries.now))) }
-    ensures bytes { IfOk result (λ _. (n i : ℕ) → n < length entries.now → slice_index (name_at entries.now n) i < 256) }
+/// The name without so many bytes at its start.
+fn bytes_after(name: &[u8], start: usize) -> &[u8]
+    requires { start ≤ length name.now }
+    ensures { result.now ≡ drop start name.now }
 {
+    &name[start..]
+}
+
+/// With how many bytes two names begin alike, at most so many.
+fn alike_len(first: &[u8], name: &[u8], most: usize) -> usize
+    requires { most ≤ length first.now }
+    ensures most { result ≤ most }
+    ensures alike { BeginAlike result first.now name.now }
+{
+    let most = most.min(name.len());
+    for len in 0..most {
+        if first[len] != name[len] {
+            return len;
+        }
+    }
+    most
+}
+
+/// With how many bytes the names of all entries begin alike.
+fn shared_len<V>(entries: &[(Name, V)]) -> usize
+    ensures { (n : ℕ) → n < length entries.now → BeginAlike result (name_at entries.now 0) (name_at entries.now n) }
+{
+    let first = name_at(entries, 0);
+    let mut shared = first.len();
+    for number in 0..entries.len() {
+        shared = alike_len(first, name_at(entries, number), shared);
+    }
+    shared
+}
+
+/// The numbers of all entries with the bytes of their names after those that all share, in the order of the entries.
+fn fronts_of<V>(
+    alloc: Global,
+    entries: &[(Name, V)],
+    shared: usize,
+) -> Result<Vec<Front>, AllocError>
+    requires { (n : ℕ) → n < length entries.now → BeginAlike shared (name_at entries.now 0) (name_at entries.now n) }
+    ensures fronts { IfOk result (λ fronts. fronts.items ≡ map (front_at entries.now shared) (range_with_len 0 (length entries.now))) }
+    ensures bytes { IfOk result (λ _. (n i : ℕ) → n < length entries.now → slice_index (drop shared (name_at entries.now n)) i < 256) }
+{
+    if entries.len() > MOST_ENTRIES {
+        return Err(AllocError);
+    }
     let mut fronts = Vec::with_capacity(alloc, entries.len())?;
     for number in 0..entries.len() {
-        let bytes = front_value(entries[number].0.as_bytes());
-        fronts.push(Front { bytes, number })?;
+        let name = name_at(entries, number);
+        let bytes = front_value(bytes_after(name, shared));
+        fronts.push(Front {
+            bytes,
+            number: number as u32,
+        })?;
     }
     Ok(fronts)
 }
 
-/// Sorts the keys, so that the names are in byte order.
-fn sort_fronts<V>(fronts: Vec<Front>, entries: &[(Name, V)]) -> Vec<Front>
-    ensures permutation { IsPermutation fronts.items result.items }
-    ensures sorted { IsSortedBy (λ a b. is_lt (front_cmp entries.now a b)) result.items }
+/// Sorts the keys, so that the names are in byte order. Runs that are in this order are merged.
+fn sort_fronts<V>(fronts: Vec<Front>, entries: &[(Name, V)]) -> Result<Vec<Front>, AllocError>
+    ensures permutation { IfOk result (λ sorted. IsPermutation fronts.items sorted.items) }
+    ensures sorted { IfOk result (λ sorted. IsSortedBy (λ a b. is_lt (front_cmp entries.now a b)) sorted.items) }
 {
     let mut fronts = fronts;
-    fronts.sort_unstable_by(|a, b| compare(entries, a, b));
-    fronts
+    fronts.sort_by(|a, b| compare(entries, a, b))?;
+    Ok(fronts)
 }
 
 /// The numbers, without the first bytes of the names.
 fn numbers_of(alloc: Global, fronts: &[Front]) -> Result<Vec<usize>, AllocError>
     ensures { IfOk result (λ numbers. numbers.items ≡ map (λ front. front.number) fronts.now) }
 {
-    fronts.iter().map(|front| front.number).collect(alloc)
+    fronts
+        .iter()
+        .map(|front| front.number as usize)
+        .collect(alloc)
 }
 
 /// Returns the numbers of the entries in byte order of their names.
 ///
-/// Each name becomes a small key, its first 16 bytes as one number; names are compared only if these are equal. The order
-/// of entries with the same name is unspecified.
+/// Each name becomes a small key, the first 8 bytes after those that all names share, as one number; names are compared only if
+/// these are equal. The order of entries with the same name is unspecified.
 ///
 /// # Errors
 ///
-/// [`AllocError`] if there is no memory for the keys or the numbers.
+/// [`AllocError`] if there is no memory for the keys, for sorting them or for the numbers, or if there are more than 4,294,967,296
+/// entries.
 pub fn order_of<V>(alloc: Global, entries: &[(Name, V)]) -> Result<Vec<usize>, AllocError>
     ensures permutation { IfOk result (λ order. IsPermutation (range_with_len 0 (length entries.now)) order.items) }
     ensures sorted { IfOk result (λ order. IsSortedByKey (name_at entries.now) bytes_cmp order.items) }
 {
-    let fronts = sort_fronts(fronts_of(alloc, entries)?, entries);
+    let shared = shared_len(entries);
+    let fronts = sort_fronts(fronts_of(alloc, entries, shared)?, entries)?;
     numbers_of(alloc, &fronts)
 }
 
+/// Whether the names of the entries are in byte order.
+pub(crate) fn is_in_order<V>(entries: &[(Name, V)]) -> bool
+    ensures { IsTrue result → IsSortedByKey (name_at entries.now) bytes_cmp (range_with_len 0 (length entries.now)) }
+{
+    for number in 1..entries.len() {
+        if name_at(entries, number)
+            .cmp(name_at(entries, number - 1))
+            .is_lt()
+        {
+            return false;
+        }
+    }
+    true
+}
+
 /// The numbers from 0 on.
-fn numbers_below(alloc: Global, count: usize) -> Result<Vec<usize>, AllocError>
+pub(crate) fn numbers_below(alloc: Global, count: usize) -> Result<Vec<usize>, AllocError>
     ensures { IfOk result (λ numbers. numbers.items ≡ range_with_len 0 count) }
 {
     (0..count).collect(alloc)

@@ -114,6 +114,7 @@ impl RowParts {
     }
 
     /// The declaration of the row.
+    #[inline(always)]
     pub fn definition(&self) -> UnpackedRowDefinition
         ensures { row_definition result ≡ self.now.definition }
     {
@@ -167,6 +168,7 @@ impl RowParts {
     }
 
     /// The right-hand side, or 0 if none is declared.
+    #[inline(always)]
     pub fn rhs_or_zero(&self) -> Decimal
         ensures { result ≡ unwrap_or (rhs_of self.now) zero_number }
     {
@@ -178,6 +180,7 @@ impl RowParts {
     }
 
     /// The range, if one is declared.
+    #[inline(always)]
     pub fn range_value(&self) -> Option<Decimal>
         ensures { result ≡ range_of self.now }
     {

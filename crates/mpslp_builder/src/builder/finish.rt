@@ -172,7 +172,7 @@ impl Builder {
     ///
     /// # Errors
     ///
-    /// As [`finish`](Builder::finish), and `OutOfMemory` only if an allocation fails.
+    /// As [`finish`](Builder::finish).
     pub fn finish_by_columns(self) -> Result<Model, ReadFault>
         requires { IsTrue (is_some self.objective) }
         ensures { Finishes self result }

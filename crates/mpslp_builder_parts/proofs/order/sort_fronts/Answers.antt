@@ -4,5 +4,5 @@ use Rattle.mpslp_builder_parts.proofs.order.sort_fronts.Goals as goal
 
 pub returns-clause-sorted : goal.returns-clause-sorted
 returns-clause-sorted g c =
-    c.sort_unstable_by.ensures.sorted (λ a b. is_lt (front_cmp c.args.entries.now a b))
+    c.in_ok-sort_by.ensures.sorted (λ a b. is_lt (front_cmp c.args.entries.now a b))
     (ranks_by (front_total c.args.entries.now) (λ (f : Front). f)) (always_returns_same _ _ _ (λ a r f' k. search rules))
