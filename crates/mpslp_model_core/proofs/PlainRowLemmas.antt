@@ -1,5 +1,5 @@
 -- A row by its type without a range: its only possible error is its right-hand side. Rows with two equal limits, and columns without bounds.
-use Rattle.std.{proofs.Common.{◌≡◌, Bool, true, false, absurd, ap, arith, refl, sym}, specs.{Prelude.{None, Option, Some, is_none, not, unwrap_or, ◌&&◌, ◌||◌}, Cmp.int_cmp_total}}
+use Rattle.std.{proofs.Common.{◌≡◌, Bool, true, false, ap, arith, refl, sym}, specs.{Prelude.{None, Option, Some, is_none, not, unwrap_or, ◌&&◌, ◌||◌}, Cmp.int_cmp_total}}
 use Rattle.mpslp_decimal.specs.Decimal.{Number, zero_number, difference_of}
 use Rattle.mpslp_types.specs.{Limit.limit_of, declared.kinds.Limit.{Limit, TheVariants.{Finite, MinusInf, PlusInf}}}
 use Rattle.mpslp_model_core.specs.{Model.Row, Limits.{RowDefinition, by_limits, has_infinite_rhs, is_declared_integer, no_side_declared}, RowForms.is_plain}

@@ -241,19 +241,33 @@ fn limit_of_both(lower: Decimal, upper: Decimal) -> Option<Limit>
     None
 }
 
-/// The other limit of a row by its limits whose lower one is minus infinity, or whose upper one is plus infinity, or either of two
-/// equal ones. Only its magnitude may be wrong, so the row is faulty if and only if that is too large.
+/// The other limit if the lower one is minus infinity or the upper one plus infinity, or either of two equal ones. Only its magnitude
+/// may be wrong, so a row with these limits is faulty if and only if that is too large.
+fn limit_of_limits(lower: &Limit, upper: &Limit) -> Option<Limit>
+    ensures { IfSome result (λ limit. (b : Number) (r : Option Number) → is_large_limit limit ≡ is_faulty_row (by_limits lower.now upper.now) b r) }
+{
+    match lower {
+        Limit::MinusInf => Some(*upper),
+        Limit::Finite(value) => match upper {
+            Limit::PlusInf => Some(*lower),
+            Limit::Finite(other) => limit_of_both(*value, *other),
+            Limit::MinusInf => None,
+        },
+        Limit::PlusInf => match upper {
+            Limit::PlusInf => Some(*lower),
+            _ => None,
+        },
+    }
+}
+
+/// The limit that decides whether a row by its limits is faulty, if one of them does.
 #[inline(always)]
 fn only_limit(definition: &UnpackedRowDefinition) -> Option<Limit>
     ensures { IfSome result (λ limit. (b : Number) (r : Option Number) → is_large_limit limit ≡ is_faulty_row (row_definition definition.now) b r) }
 {
     match definition {
-        UnpackedRowDefinition::ByLimits(Limit::MinusInf, upper) => Some(*upper),
-        UnpackedRowDefinition::ByLimits(lower, Limit::PlusInf) => Some(*lower),
-        UnpackedRowDefinition::ByLimits(Limit::Finite(lower), Limit::Finite(upper)) => {
-            limit_of_both(*lower, *upper)
-        }
-        _ => None,
+        UnpackedRowDefinition::ByLimits(lower, upper) => limit_of_limits(lower, upper),
+        UnpackedRowDefinition::ByType(_) => None,
     }
 }
 

@@ -3,4 +3,4 @@ use Rattle.mpslp_model_core.proofs.PlainRowLemmas.{range_same}
 use Rattle.mpslp_model_core.proofs.model_row.range_of_equal.Goals as goal
 
 pub returns : goal.returns
-returns c = c.zero.ensures ∙ range_same _
+returns c = c.zero.ensures ∙ range_same c.before.args.value.now
