@@ -1,6 +1,6 @@
 //! The type and bounds of a column, from what is declared of it, and what may be wrong with them.
 
-ghost use Rattle.std.specs.Prelude.{◌≡◌};
+ghost use Rattle.std.specs.Prelude.{◌≡◌, ◌&&◌, not};
 ghost use Rattle.mpslp_types.specs.Limit.{is_finite_above_zero, are_semi_bounds};
 ghost use Rattle.mpslp_model_core.specs.Model.{suits};
 ghost use Rattle.mpslp_model_core.specs.Limits.{no_side_declared, upper_by_default, declared_lower, declared_upper, is_declared_integer, declared_kind, declared_column, is_negative_upper, are_no_binary_bounds};
@@ -180,10 +180,21 @@ impl DeclaredColumn {
         }
     }
 
-    /// Whether the column has any error.
+    /// Whether the column is semi-continuous.
+    fn is_semi(&self) -> bool
+        ensures { result ≡ (self.now.semi && not (is_declared_integer self.now)) }
+    {
+        self.semi && !self.is_integer()
+    }
+
+    /// Whether the column has any error. Without a declared bound only a semi-continuous column has one.
+    #[inline(always)]
     pub fn is_faulty(&self) -> bool
         ensures { result ≡ are_faulty_bounds self.now }
     {
+        if self.has_no_side() {
+            return self.is_semi();
+        }
         self.has_negative_upper()
             || (self.has_crossed_bounds() || (self.has_binary_bounds() || self.has_semi_bounds()))
     }

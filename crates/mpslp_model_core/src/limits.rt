@@ -5,11 +5,12 @@ ghost use Rattle.std.specs.Ordering.{is_lt};
 ghost use Rattle.std.specs.Option.{option_map_or};
 ghost use Rattle.mpslp_decimal.specs.Decimal.{Number, decimal_cmp, is_infinite_size, size_of, sum_of, difference_of};
 ghost use Rattle.mpslp_types.specs.Limit.{is_at_most};
-ghost use Rattle.mpslp_model_core.specs.Limits.{sides, plain_limits, ranged_limits, limits_of, has_infinite_rhs};
+ghost use Rattle.mpslp_types.specs.declared.kinds.Limit.TheVariants.{Finite};
+ghost use Rattle.mpslp_model_core.specs.Limits.{by_limits, sides, plain_limits, ranged_limits, limits_of, has_infinite_rhs};
 ghost use Rattle.mpslp_model_core.specs.RowForms.{row_definition, is_plain};
 ghost use Rattle.mpslp_model_core.specs.WrongParts.{is_large_limit, distance_passes, is_inexact, is_too_large, is_crossed, is_faulty_row, row_test, kind_of_row_fault};
 
-use crate::sides::RowLimits;
+use crate::sides::{RowLimits, is_same_number};
 use mpslp_decimal::Decimal;
 use mpslp_types::{FaultKind, Limit, RowType};
 
@@ -49,6 +50,7 @@ fn sides(lower: Option<Decimal>, upper: Option<Decimal>) -> Option<RowLimits>
 }
 
 /// The limits by type and right-hand side, without a range.
+#[inline(always)]
 pub fn plain_limits(row_type: RowType, rhs: Decimal) -> RowLimits
     ensures { result ≡ plain_limits row_type rhs }
 {
@@ -96,6 +98,7 @@ fn ranged_limits(row_type: RowType, rhs: Decimal, range: Decimal) -> Option<RowL
 }
 
 /// The limits of a row, if they are decimals.
+#[inline(always)]
 pub fn limits_of(
     definition: &UnpackedRowDefinition,
     rhs: Decimal,
@@ -117,6 +120,7 @@ pub fn limits_of(
 
 /// Whether the right-hand side is infinite in a row that cannot have it: plus infinity on G, minus infinity on L, either on E
 /// or with a range.
+#[inline(always)]
 fn has_infinite_rhs(
     definition: &UnpackedRowDefinition,
     rhs: Decimal,
@@ -217,6 +221,7 @@ fn is_crossed(limits: &Option<RowLimits>) -> bool
 }
 
 /// Whether the row is declared by its type, and has no range.
+#[inline(always)]
 fn is_plain(definition: &UnpackedRowDefinition, range: &Option<Decimal>) -> bool
     ensures { result ≡ is_plain (row_definition definition.now) range.now }
 {
@@ -226,20 +231,50 @@ fn is_plain(definition: &UnpackedRowDefinition, range: &Option<Decimal>) -> bool
     }
 }
 
-/// The other limit of a row by its limits whose lower one is minus infinity, or whose upper one is plus infinity. Only its magnitude
-/// may be wrong, so the row is faulty if and only if that is too large.
+/// The limit, if both are the same number. Only its magnitude may be wrong.
+fn limit_of_both(lower: Decimal, upper: Decimal) -> Option<Limit>
+    ensures { IfSome result (λ limit. (b : Number) (r : Option Number) → is_large_limit limit ≡ is_faulty_row (by_limits (Finite lower) (Finite upper)) b r) }
+{
+    if is_same_number(lower, upper) {
+        return Some(Limit::Finite(lower));
+    }
+    None
+}
+
+/// The other limit if the lower one is minus infinity or the upper one plus infinity, or either of two equal ones. Only its magnitude
+/// may be wrong, so a row with these limits is faulty if and only if that is too large.
+fn limit_of_limits(lower: &Limit, upper: &Limit) -> Option<Limit>
+    ensures { IfSome result (λ limit. (b : Number) (r : Option Number) → is_large_limit limit ≡ is_faulty_row (by_limits lower.now upper.now) b r) }
+{
+    match lower {
+        Limit::MinusInf => Some(*upper),
+        Limit::Finite(value) => match upper {
+            Limit::PlusInf => Some(*lower),
+            Limit::Finite(other) => limit_of_both(*value, *other),
+            Limit::MinusInf => None,
+        },
+        Limit::PlusInf => match upper {
+            Limit::PlusInf => Some(*lower),
+            _ => None,
+        },
+    }
+}
+
+/// The limit that decides whether a row by its limits is faulty, if one of them does.
+#[inline(always)]
 fn only_limit(definition: &UnpackedRowDefinition) -> Option<Limit>
     ensures { IfSome result (λ limit. (b : Number) (r : Option Number) → is_large_limit limit ≡ is_faulty_row (row_definition definition.now) b r) }
 {
     match definition {
-        UnpackedRowDefinition::ByLimits(Limit::MinusInf, upper) => Some(*upper),
-        UnpackedRowDefinition::ByLimits(lower, Limit::PlusInf) => Some(*lower),
-        _ => None,
+        UnpackedRowDefinition::ByLimits(lower, upper) => limit_of_limits(lower, upper),
+        UnpackedRowDefinition::ByType(_) => None,
     }
 }
 
 /// Whether a row with this definition, right-hand side and range has any error. Its limits are computed only once, and not at
-/// all where only one number may be wrong: for a row by its type without a range, or by its limits with an infinite one.
+/// all where only one number may be wrong: for a row by its type without a range, or by its limits with an infinite one or two equal
+/// ones.
+#[inline(always)]
 pub fn is_faulty_row(
     definition: &UnpackedRowDefinition,
     rhs: Decimal,

@@ -1,15 +1,14 @@
 //! Models and their accessors.
 
-ghost use Rattle.std.specs.Prelude.{◌≡◌, ◌<◌, IfOk, IsTrue, Some, length, map, position, slice_get, unwrap_or, if◌then◌else◌};
+ghost use Rattle.std.specs.Prelude.{◌≡◌, ◌<◌, IfOk, IsTrue, Some, length, map, position, slice_get};
 ghost use Rattle.std.specs.Option.{option_map};
-ghost use Rattle.mpslp_decimal.specs.Decimal.{negated, zero_number, decimal_cmp, difference_of};
+ghost use Rattle.mpslp_decimal.specs.Decimal.{negated};
 ghost use Rattle.std.specs.Bool.{Decides};
-ghost use Rattle.std.specs.Ordering.{is_eq};
 ghost use Rattle.std.specs.FinMap.{entries, is_sorted};
 ghost use Rattle.mpslp_types.specs.Name.{same_bytes, bytes_cmp};
 ghost use Rattle.mpslp_model_core.specs.Same.{IsSameObjective};
 ghost use Rattle.mpslp_model_core.specs.ModelParts.{linear_model, AreModelParts};
-ghost use Rattle.mpslp_model_core.specs.Views.{letter_E, letter_R, row_names, column_names, rows_of, columns_of, num_rows, num_columns, num_elements, row_name, column_name, row_index, column_index, row_sense, right_hand_side, row_range, coefficient_at, column_elements, numbered_elements, row_columns, row_elements};
+ghost use Rattle.mpslp_model_core.specs.Views.{row_names, column_names, rows_of, columns_of, num_rows, num_columns, num_elements, row_name, column_name, row_index, column_index, row_sense, right_hand_side, row_range, coefficient_at, column_elements, numbered_elements, row_columns, row_elements};
 ghost use Rattle.mpslp_model_core.specs.Model.{is_integer_column};
 
 use crate::by_row::{
@@ -25,11 +24,9 @@ use crate::row_entries::RowEntries;
 use crate::row_names::{RowNames, name_at, names_of};
 use crate::sides::{ColumnBounds, RowLimits};
 use mpslp_decimal::Decimal;
-use mpslp_decimal::laws::each_value_is_a_decimal;
 use mpslp_maps::{entry_at, find_index};
 use mpslp_types::{Kind, Limit, Name, Sense};
 use std::alloc::{AllocError, Global};
-use std::cmp::Ordering;
 use std::marker;
 
 /// Whether the rows are the same.
@@ -90,68 +87,6 @@ pub(crate) fn index_of<X>(entries: &[(Name, X)], name: &[u8]) -> Option<usize>
     ensures { result ≡ position (λ entry. same_bytes name.now entry.0) entries.now }
 {
     find_index(entries, &name)
-}
-
-/// The letter of a row with two finite limits.
-fn letter_between(lower: &Decimal, upper: &Decimal) -> u8
-    ensures { result ≡ (if is_eq (decimal_cmp lower.now upper.now) then letter_E else letter_R) }
-{
-    each_value_is_a_decimal(*lower);
-    each_value_is_a_decimal(*upper);
-    match lower.cmp(upper) {
-        Ordering::Less => b'R',
-        Ordering::Equal => b'E',
-        Ordering::Greater => b'R',
-    }
-}
-
-/// The letter of a row.
-fn sense_letter(row: RowLimits) -> u8
-    ensures { result ≡ row_sense row }
-{
-    match &row.lower {
-        Limit::MinusInf => match &row.upper {
-            Limit::Finite(_) => b'L',
-            _ => b'N',
-        },
-        Limit::Finite(lower) => match &row.upper {
-            Limit::Finite(upper) => letter_between(lower, upper),
-            Limit::PlusInf => b'G',
-            Limit::MinusInf => b'N',
-        },
-        Limit::PlusInf => b'N',
-    }
-}
-
-/// The upper limit of a row if it is finite, otherwise the lower one, otherwise 0.
-fn rhs_of(row: RowLimits) -> Decimal
-    ensures { result ≡ right_hand_side row }
-{
-    match (row.lower, row.upper) {
-        (_, Limit::Finite(upper)) => upper,
-        (Limit::Finite(lower), _) => lower,
-        _ => Decimal::zero(),
-    }
-}
-
-/// Upper minus lower; 0 if that is not a decimal, which occurs in no model.
-fn distance(lower: &Decimal, upper: &Decimal) -> Decimal
-    ensures { result ≡ unwrap_or (difference_of upper.now lower.now) zero_number }
-{
-    upper.checked_sub(*lower).unwrap_or(Decimal::zero())
-}
-
-/// Upper minus lower if both are finite, otherwise 0.
-fn range_between(row: RowLimits) -> Decimal
-    ensures { result ≡ row_range row }
-{
-    match &row.lower {
-        Limit::Finite(lower) => match &row.upper {
-            Limit::Finite(upper) => distance(lower, upper),
-            _ => Decimal::zero(),
-        },
-        _ => Decimal::zero(),
-    }
 }
 
 impl Model {
@@ -300,12 +235,20 @@ impl Model {
         self.parts.columns.index_of(name)
     }
 
+    /// The row of number `i`.
+    fn row_at(&self, i: usize) -> &ModelRow
+        requires { i < num_rows self.now }
+        ensures { slice_get (rows_of self.now) i ≡ Some result.now }
+    {
+        &entry_at(&self.parts.rows, i).1
+    }
+
     /// The limits of the row of number `i`.
     fn row_limits(&self, i: usize) -> RowLimits
         requires { i < num_rows self.now }
         ensures { slice_get (rows_of self.now) i ≡ Some result }
     {
-        entry_at(&self.parts.rows, i).1.limits()
+        self.row_at(i).limits()
     }
 
     /// The type and bounds of the column of number `j`.
@@ -338,7 +281,7 @@ impl Model {
         requires { i < num_rows self.now }
         ensures { option_map row_sense (slice_get (rows_of self.now) i) ≡ Some result }
     {
-        sense_letter(self.row_limits(i))
+        self.row_at(i).sense()
     }
 
     /// The upper limit of the row of number `i` if it is finite, otherwise the lower one, otherwise 0.
@@ -346,7 +289,7 @@ impl Model {
         requires { i < num_rows self.now }
         ensures { option_map right_hand_side (slice_get (rows_of self.now) i) ≡ Some result }
     {
-        rhs_of(self.row_limits(i))
+        self.row_at(i).right_hand_side()
     }
 
     /// The distance between the limits of the row of number `i`, or 0 if one is infinite.
@@ -354,7 +297,7 @@ impl Model {
         requires { i < num_rows self.now }
         ensures { option_map row_range (slice_get (rows_of self.now) i) ≡ Some result }
     {
-        range_between(self.row_limits(i))
+        self.row_at(i).range()
     }
 
     /// The lower bound of the column of number `j`.

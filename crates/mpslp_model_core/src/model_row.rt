@@ -1,14 +1,19 @@
 //! The limits of a row, and the type and bounds of a column, as a model stores them. A model has many, and most have at most one
 //! number: so they take 24 bytes, and only others are boxed.
 
-ghost use Rattle.std.specs.Prelude.{◌≡◌, IfOk};
+ghost use Rattle.std.specs.Prelude.{◌≡◌, IfOk, unwrap_or, if◌then◌else◌};
+ghost use Rattle.std.specs.Ordering.{is_eq};
+ghost use Rattle.mpslp_decimal.specs.Decimal.{decimal_cmp, difference_of, zero_number};
 ghost use Rattle.mpslp_types.specs.declared.kinds.Limit.TheVariants.{MinusInf, Finite};
+ghost use Rattle.mpslp_model_core.specs.Views.{letter_E, letter_R, row_sense, right_hand_side, row_range};
 
 use crate::packed::{PackedColumn, PackedRow};
 use crate::sides::{ColumnBounds, RowLimits, is_same_number};
+use mpslp_decimal::laws::each_value_is_a_decimal;
 use mpslp_decimal::{Decimal, PackedDecimal};
 use mpslp_types::{Kind, Limit};
 use std::alloc::{AllocError, Global};
+use std::cmp::Ordering;
 use std::marker::Model;
 
 /// The limits of a row of a model. Contracts see them as a `Row`.
@@ -41,6 +46,82 @@ impl Model for ModelRow {
     ghost Value = { Row };
 
     ghost view = { λ row. row_of_stored row.stored };
+}
+
+/// The letter of a row with two finite limits.
+fn letter_between(lower: &Decimal, upper: &Decimal) -> u8
+    ensures { result ≡ (if is_eq (decimal_cmp lower.now upper.now) then letter_E else letter_R) }
+{
+    each_value_is_a_decimal(*lower);
+    each_value_is_a_decimal(*upper);
+    match lower.cmp(upper) {
+        Ordering::Less => b'R',
+        Ordering::Equal => b'E',
+        Ordering::Greater => b'R',
+    }
+}
+
+/// The letter of a row.
+fn sense_letter(row: RowLimits) -> u8
+    ensures { result ≡ row_sense row }
+{
+    match &row.lower {
+        Limit::MinusInf => match &row.upper {
+            Limit::Finite(_) => b'L',
+            _ => b'N',
+        },
+        Limit::Finite(lower) => match &row.upper {
+            Limit::Finite(upper) => letter_between(lower, upper),
+            Limit::PlusInf => b'G',
+            Limit::MinusInf => b'N',
+        },
+        Limit::PlusInf => b'N',
+    }
+}
+
+/// The upper limit of a row if it is finite, otherwise the lower one, otherwise 0.
+fn rhs_of(row: RowLimits) -> Decimal
+    ensures { result ≡ right_hand_side row }
+{
+    match (row.lower, row.upper) {
+        (_, Limit::Finite(upper)) => upper,
+        (Limit::Finite(lower), _) => lower,
+        _ => Decimal::zero(),
+    }
+}
+
+/// Upper minus lower; 0 if that is not a decimal, which occurs in no model.
+fn distance(lower: &Decimal, upper: &Decimal) -> Decimal
+    ensures { result ≡ unwrap_or (difference_of upper.now lower.now) zero_number }
+{
+    upper.checked_sub(*lower).unwrap_or(Decimal::zero())
+}
+
+/// Upper minus lower if both are finite, otherwise 0.
+fn range_between(row: RowLimits) -> Decimal
+    ensures { result ≡ row_range row }
+{
+    match &row.lower {
+        Limit::Finite(lower) => match &row.upper {
+            Limit::Finite(upper) => distance(lower, upper),
+            _ => Decimal::zero(),
+        },
+        _ => Decimal::zero(),
+    }
+}
+
+/// The letter of a row with two equal limits.
+fn letter_of_equal(value: &PackedDecimal) -> u8
+    ensures { result ≡ row_sense (record { lower = Finite value.now; upper = Finite value.now }) }
+{
+    b'E'
+}
+
+/// The distance between two equal limits.
+fn range_of_equal(value: &PackedDecimal) -> Decimal
+    ensures { result ≡ row_range (record { lower = Finite value.now; upper = Finite value.now }) }
+{
+    Decimal::zero()
 }
 
 /// Any limits, boxed.
@@ -123,6 +204,43 @@ impl ModelRow {
             Limit::MinusInf => row_below(alloc, &limits.upper),
             Limit::Finite(lower) => row_above(alloc, lower, &limits.upper),
             Limit::PlusInf => boxed_row(alloc, limits),
+        }
+    }
+
+    /// The letter of the row.
+    pub(crate) fn sense(&self) -> u8
+        ensures { result ≡ row_sense self.now }
+    {
+        match &self.stored {
+            StoredRow::Free => b'N',
+            StoredRow::AtMost(_) => b'L',
+            StoredRow::AtLeast(_) => b'G',
+            StoredRow::Equal(value) => letter_of_equal(value),
+            StoredRow::Other(limits) => sense_letter(limits.limits()),
+        }
+    }
+
+    /// The upper limit if it is finite, otherwise the lower one, otherwise 0.
+    pub(crate) fn right_hand_side(&self) -> Decimal
+        ensures { result ≡ right_hand_side self.now }
+    {
+        match &self.stored {
+            StoredRow::Free => Decimal::zero(),
+            StoredRow::AtMost(value) | StoredRow::AtLeast(value) | StoredRow::Equal(value) => {
+                value.value()
+            }
+            StoredRow::Other(limits) => rhs_of(limits.limits()),
+        }
+    }
+
+    /// The distance between the limits, or 0 if one is infinite.
+    pub(crate) fn range(&self) -> Decimal
+        ensures { result ≡ row_range self.now }
+    {
+        match &self.stored {
+            StoredRow::Free | StoredRow::AtMost(_) | StoredRow::AtLeast(_) => Decimal::zero(),
+            StoredRow::Equal(value) => range_of_equal(value),
+            StoredRow::Other(limits) => range_between(limits.limits()),
         }
     }
 

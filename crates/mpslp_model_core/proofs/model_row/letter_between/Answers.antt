@@ -1,7 +1,7 @@
 use Rattle.std.{proofs.Common.{sym, ap, ◌∙◌, ℕ}, specs.{Prelude.if◌then◌else◌, Ordering.is_eq, declared.cmp.Ordering.Ordering}}
 use Rattle.mpslp_decimal.proofs.OrderOfValues.{order-decimal}
 use Rattle.mpslp_model_core.specs.Views.{letter_E, letter_R}
-use Rattle.mpslp_model_core.proofs.model.letter_between.Goals as goal
+use Rattle.mpslp_model_core.proofs.model_row.letter_between.Goals as goal
 
 letter : Ordering → ℕ
 letter r = if is_eq r then letter_E else letter_R

@@ -1,6 +1,6 @@
-use Rattle.std.{proofs.Common.{sym, ap, subst, ◌∙◌, ℕ, ◌<◌, List, length}, specs.Prelude.Some}
+use Rattle.std.proofs.Common.{sym, ap, subst, ◌∙◌, ℕ, ◌<◌, List, length}
 use Rattle.mpslp_model_core.{specs.Model.Row, proofs.ViewLemmas.{rows_seen, count_seen, entry_seen}}
-use Rattle.mpslp_model_core.proofs.model.Model.row_limits.Goals as goal
+use Rattle.mpslp_model_core.proofs.model.Model.row_at.Goals as goal
 
 pub entry_at-requires : goal.entry_at-requires
 entry_at-requires c = subst (λ (n : ℕ). c.args.i < n)
@@ -8,4 +8,4 @@ entry_at-requires c = subst (λ (n : ℕ). c.args.i < n)
 
 pub returns : goal.returns
 returns c = entry_seen (λ (e : List ℕ × Row). e.1) c.args.i (rows_seen c.self.view_is c.self.invariant.parts ∙ sym c.deref.ensures.value)
-    c.entry_at.ensures ∙ ap (λ (row : Row). Some row) (sym c.limits.ensures)
+    c.entry_at.ensures
