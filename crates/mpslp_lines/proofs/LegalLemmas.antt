@@ -4,21 +4,21 @@ use Rattle.std.proofs.{Common.{◌∙◌, ◌∷◌, ◌≡◌, ◌≤◌}, lemm
 use Rattle.std.{proofs.lemmas.Simd.length-chunk, specs.{Int.bit_at, List.list_all, Prelude.{slice_index, ◌&&◌}, Simd.Lanes.{chunk, mask_l}}}
 use Rattle.mpslp_lines.specs.{FaultTests.is_legal_byte, LegalLanes.AreLegal}
 
-abbrev bit_of : Bool → ℕ
+abbrev pub bit_of : Bool → ℕ
 bit_of b = cond b 1 0
 
 -- the lanes of 16 bytes that pass a comparison with a byte
 abbrev pub lanes_by : (ℕ → ℕ → Bool) → List ℕ → ℕ → ℕ → ℕ
 lanes_by t text at y = mask_l (map (λ x. t x y) (chunk at 16 text))
 
-lane-bit : (t : ℕ → ℕ → Bool) (text : List ℕ) (at y k : ℕ) → at + 16 ≤ length text → k < 16
+pub lane-bit : (t : ℕ → ℕ → Bool) (text : List ℕ) (at y k : ℕ) → at + 16 ≤ length text → k < 16
     → bit_at (lanes_by t text at y) k ≡ bit_of (t (slice_index text (at + k)) y)
 lane-bit t text at y k within below =
     bit_mask_l _ k
     ∙ ap bit_of (get_or-map (λ x. t x y) _ k 0 false (omega (arith, length-chunk at 16 text within))
     ∙ ap (λ x. t x y) (get_or-chunk at 16 text k 0 below))
 
-same-bits : (a b : Bool) → bit_of a ≡ bit_of b → a ≡ b
+pub same-bits : (a b : Bool) → bit_of a ≡ bit_of b → a ≡ b
 same-bits = grind arith
 
 legal-byte : (byte : ℕ) → leb byte 126 ≡ true → ltb byte 32 ≡ eqb byte 9 → is_legal_byte byte ≡ true

@@ -1,5 +1,6 @@
 pub mod FaultTests
 pub mod LegalLanes
+pub mod LineFeeds
 pub mod Declaring
 pub mod ErrorOf
 pub mod LineAnswer

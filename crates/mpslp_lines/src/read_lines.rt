@@ -8,7 +8,7 @@ ghost use Rattle.mpslp_model.specs.Formats.{IsAnswerTo};
 ghost use Rattle.mpslp_lines.specs.FaultTests.{has_legal_length};
 ghost use Rattle.mpslp_lines.specs.LinesRead.{IsReader, RefusesLines, ReadsOn};
 
-use bstr::ByteSlice;
+use crate::line_ends::first_line;
 use mpslp_model::{HashSeed, Model, ReadFault};
 use std::alloc::Global;
 
@@ -81,11 +81,13 @@ pub(crate) fn read_lines<L: ReadLines>(reader: &mut L, part: &[u8]) -> Result<()
     requires unended { L.at_end reader.old ≡ false }
     ensures { ReadsOn L.has_read L.lines_fault reader.old (lines part.now) reader.new result }
 {
-    for line in part.lines() {
+    let mut rest = part;
+    while let Some((line, more)) = first_line(rest) {
         reader.read_line(line)?;
         if reader.is_at_end() {
             return Ok(());
         }
+        rest = more;
     }
     Ok(())
 }

@@ -29,6 +29,7 @@ use mpslp_mps_fields::is_marker_line;
 use std::alloc::Global;
 
 /// Reads a marker line.
+#[inline(never)]
 fn read_marker(context: &mut LineContext, fields: &[&[u8]]) -> Result<(), LineError>
     requires section { context.old.section ≡ Some Section.Columns }
     requires marker { is_marker_line (map (λ field. field.now) fields.now) ≡ true }
@@ -158,6 +159,7 @@ fn declare_values(
 }
 
 /// Reads a line of a column, and checks each error before anything is declared.
+#[inline(never)]
 fn read_checked(
     context: &mut LineContext,
     builder: &mut Builder,

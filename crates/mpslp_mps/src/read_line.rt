@@ -25,6 +25,7 @@ use mpslp_mps_fields::{Section, front_fields, is_comment, is_data};
 use std::alloc::Global;
 
 /// Reads a data line under OBJSENSE.
+#[inline(never)]
 pub(crate) fn read_sense(
     context: &mut LineContext,
     builder: &mut Builder,
@@ -41,6 +42,7 @@ pub(crate) fn read_sense(
 }
 
 /// Reads a data line under OBJNAME.
+#[inline(never)]
 pub(crate) fn read_objname(context: &mut LineContext, fields: &[&[u8]]) -> Result<(), LineError>
     requires section { context.old.section ≡ Some Section.ObjName }
     ensures answers { (earlier : Draft) → ReadsContent context.old earlier (data_line (map (λ field. field.now) fields.now)) result context.new earlier }
@@ -119,6 +121,7 @@ fn read_data(
 }
 
 /// Reads a line that does not begin with a space or tab and is not skipped.
+#[inline(never)]
 fn read_keyword(
     context: &mut LineContext,
     builder: &mut ReaderBuilder,

@@ -47,6 +47,7 @@ impl<'a> Model for RowValues<'a> {
 }
 
 /// The value of one pair, or its error.
+#[inline(always)]
 fn value_of_one<'a>(pair: Pair<'a>) -> Result<RowValues<'a>, FaultKind>
     ensures { ReturnsUnless (numbers_fault (pair.entry ∷ [])) result (λ values. values ≡ map row_value (pair.entry ∷ [])) }
 {
@@ -63,6 +64,7 @@ fn value_of_one<'a>(pair: Pair<'a>) -> Result<RowValues<'a>, FaultKind>
 }
 
 /// The values of two pairs, or the first of their errors in the order of kinds.
+#[inline(always)]
 fn values_of_both<'a>(pair: Pair<'a>, other: Pair<'a>) -> Result<RowValues<'a>, FaultKind>
     ensures { ReturnsUnless (numbers_fault (pair.entry ∷ other.entry ∷ [])) result (λ values. values ≡ map row_value (pair.entry ∷ other.entry ∷ [])) }
 {
@@ -86,6 +88,7 @@ fn values_of_both<'a>(pair: Pair<'a>, other: Pair<'a>) -> Result<RowValues<'a>, 
 }
 
 /// The values of the pairs of a line, or the first of their errors in the order of kinds.
+#[inline(always)]
 pub(crate) fn values_of<'a>(pairs: Pairs<'a>) -> Result<RowValues<'a>, FaultKind>
     ensures { ReturnsUnless (numbers_fault pairs.entry) result (λ values. values ≡ map row_value pairs.entry) }
 {

@@ -204,6 +204,7 @@ fn declare_ranges<'a>(builder: &mut Builder, ranges: RowValues<'a>) -> Result<()
 }
 
 /// Reads a line of RANGES.
+#[inline(never)]
 pub(crate) fn read_range(
     context: &mut LineContext,
     builder: &mut Builder,

@@ -1,14 +1,15 @@
 -- A text is divided into fields from its start.
-use Rattle.std.proofs.Common.{Bool, Bor, List, [], ap, append_assoc, arith, bit_or, drop, eqb, false, length, map, max, min, mod-eq_of_lt}
+use Rattle.std.proofs.Common.{Bool, Bor, List, [], ap, append_assoc, arith, bit_or, drop, eqb, false, length, map, max, mod-eq_of_lt}
 use Rattle.std.proofs.Common.{pow_mono, pow_pos, refl, shl_lt, shr-shr, subst, suc, sym, take, true, w64, ℕ, ⊎_elim, ◌%◌, ◌*◌, ◌++◌, ◌+◌}
 use Rattle.std.proofs.{Common.{◌-◌, ◌/◌, ◌<◌, ◌^◌, ◌∙◌, ◌∷◌, ◌≡◌, ◌≤◌}, lemmas.{Bool.{cases_lt, lt-ltb, Decides.nat_tests}, List.drop-drop}}
 use Rattle.std.proofs.lemmas.List.{get_or-drop, get_or-map, length-drop, length-map, map-append, Sums.position_or_len_is}
 use Rattle.std.proofs.lemmas.{List.Sums.prefix_len-le-length, Nat.{or_lt, Bits.{bit_at-zero, bit_at_above, bit_at_cat_high}}}
-use Rattle.std.proofs.lemmas.{Nat.Bits.{bit_at_cat_low, bit_at_not, bit_at_or}, Simd.{bit_mask_l, get_or-chunk, length-chunk, mask_l-lt}}
+use Rattle.std.proofs.lemmas.{Nat.Bits.{bit_at_cat_low, bit_at_not, bit_at_or, bit_at_set_other, bit_at_set_same}, Simd.{bit_mask_l, get_or-chunk, length-chunk, mask_l-lt}}
 use Rattle.std.specs.{Int.{bit_at, bit_not}, List.{position, position_or_len, slice_split}, Prelude.{None, codes, filter, nat_lt, not}}
 use Rattle.std.specs.{Prelude.slice_index, Simd.Lanes.{chunk, mask_l}}
+use lib.Count.{count_trailing_zeros}
 use Rattle.bstr.specs.Bytes.{is_in}
-use Rattle.mpslp_mps_fields.specs.{Blanks.{AreBlanks, IsFirstSet, bit_of}, Line.{Fields, fields, is_blank}}
+use Rattle.mpslp_mps_fields.specs.{Blanks.{AreBlanks, IsFieldEnd, IsFirstSet, bit_of}, Line.{Fields, fields, is_blank}}
 
 abbrev has_bytes : List ℕ → Bool
 has_bytes run = nat_lt 0 (length run)
@@ -194,19 +195,26 @@ one-blank = grind arith
 from-rest : (bits from k : ℕ) → from ≤ k → bit_at bits k ≡ bit_at (bits / 2 ^ from) (k - from)
 from-rest = grind (arith, shr-shr)
 
-pub none-set : (bits from : ℕ) → from < 64 → bits / 2 ^ from ≡ 0 → IsFirstSet bits from 64
-none-set bits from low h = record {
-  low = omega arith;
-  high = omega arith;
+none-set : (bits from at : ℕ) → from ≤ at → 64 ≤ at → bits / 2 ^ from ≡ 0 → IsFirstSet bits from at
+none-set bits from at low high h = record {
+  low = low;
   before = λ k a b. from-rest bits from k a ∙ ap (λ n. bit_at n (k - from)) h ∙ bit_at-zero _;
   here = λ l. absurd (omega arith);
 }
+
+zero-count : count_trailing_zeros 64 0 ≡ 64
+unfolding count_trailing_zeros
+zero-count = refl
+
+pub none-left : (bits from : ℕ) → bits / 2 ^ from ≡ 0 → IsFirstSet bits from (from + count_trailing_zeros 64 (bits / 2 ^ from))
+none-left bits from h =
+    let t : count_trailing_zeros 64 (bits / 2 ^ from) ≡ 64 = ap (count_trailing_zeros 64) h ∙ zero-count in
+    none-set bits from _ (omega arith) (omega (arith, t)) h
 
 pub some-set : (bits from t : ℕ) → bits < 2 ^ 64 → bit_at (bits / 2 ^ from) t ≡ 1 → ((k : ℕ) → k < t → bit_at (bits / 2 ^ from) k ≡ 0)
     → IsFirstSet bits from (from + t)
 some-set bits from t fits set below = record {
   low = omega arith;
-  high = ⊎_elim (λ l. omega arith) (λ ge. absurd (omega (arith, there, bit_at_above bits 64 (from + t) fits ge))) (cases_lt (from + t) 64);
   before = λ k a b. from-rest bits from k a ∙ below (k - from) (omega arith);
   here = λ _. there;
 }
@@ -214,12 +222,31 @@ some-set bits from t fits set below = record {
     there : bit_at bits (from + t) ≡ 1
     there = sym (ap (λ x. x % 2) (shr-shr bits from t)) ∙ set
 
--- ---- the fields of a short line
+-- the first bit that is set of these and of one more is the end of a field
+pub field-end : (bits len start end : ℕ) → len < 64 → start < len → IsFirstSet (bit_or bits (1 * 2 ^ len % 2 ^ 64)) start end
+    → IsFieldEnd bits len start end
+field-end bits len start end short begins first = record {
+  low = first.low;
+  within = within;
+  clear = λ k from below. sym (other k (omega (arith, within))) ∙ first.before k from below;
+  set = λ below. sym (other end below) ∙ first.here (omega arith);
+}
+  where
+    own : bit_at (bit_or bits (1 * 2 ^ len % 2 ^ 64)) len ≡ 1
+    own = bit_at_set_same w64 bits len short
 
-module _ (line : List ℕ) (blanks from start : ℕ) (short : length line ≤ 64) (are : AreBlanks line 0 (length line) blanks)
+    other : (k : ℕ) → k < len → bit_at (bit_or bits (1 * 2 ^ len % 2 ^ 64)) k ≡ bit_at bits k
+    other k below = bit_at_set_other w64 bits len short k (λ e. omega arith)
+
+    within : end ≤ len
+    within = ⊎_elim (λ l. absurd (omega (arith, own, first.before len (omega arith) l))) (λ ge. ge) (cases_lt len end)
+
+-- ---- the fields among the first bytes of a line, whose spaces and tabs are known
+
+module _ (line : List ℕ) (count blanks from start : ℕ) (short : count ≤ 64) (part : count ≤ length line) (are : AreBlanks line 0 count blanks)
     (fits : blanks < 2 ^ 64)
-    (within : from ≤ length line) (next : IsFirstSet (bit_not w64 blanks) from start) where
-  blank-bit : (k : ℕ) → k < length line → bit_at blanks k ≡ bit_of (is_blank (slice_index line k))
+    (within : from ≤ count) (next : IsFirstSet (bit_not w64 blanks) from start) where
+  blank-bit : (k : ℕ) → k < count → bit_at blanks k ≡ bit_of (is_blank (slice_index line k))
   blank-bit k l = are.each k l ∙ from-start line k
 
   is-set : (b : Bool) → bit_of b ≡ 1 → b ≡ true
@@ -229,14 +256,14 @@ module _ (line : List ℕ) (blanks from start : ℕ) (short : length line ≤ 64
   is-clear = grind arith
 
   -- before the start are blanks
-  passed : (k : ℕ) → from + k < start → from + k < length line → is_solid (slice_index (drop from line) k) ≡ false
+  passed : (k : ℕ) → from + k < start → from + k < count → is_solid (slice_index (drop from line) k) ≡ false
   passed k before below =
       let clear = next.before (from + k) (omega arith) before in
       let set : bit_at blanks (from + k) ≡ 1 = omega (arith, clear, bit_at_not w64 blanks (from + k) fits (omega arith)) in
       ap is_solid (get_or-drop from line k 0) ∙ ap not (is-set _ (sym (blank-bit _ below) ∙ set))
 
-  pub no-short_fields : length line ≤ start → fields (drop from line) ≡ []
-  no-short_fields ends = no-fields (drop from line) _ refl (omega (arith, rest, all))
+  pub no-short_fields : count ≡ length line → length line ≤ start → fields (drop from line) ≡ []
+  no-short_fields whole ends = no-fields (drop from line) _ refl (omega (arith, rest, all))
     where
       all : position_or_len is_solid (drop from line) ≡ length (drop from line)
       all = position_or_len_is is_solid (drop from line) _ 0 (omega arith)
@@ -247,7 +274,9 @@ module _ (line : List ℕ) (blanks from start : ℕ) (short : length line ≤ 64
           ≡ length (drop from line) - position_or_len is_solid (drop from line)
       rest = length-drop _ _
 
-  module _ (after end : ℕ) (begins : start < length line) (last : IsFirstSet blanks start after) (cut : end ≡ min after (length line)) where
+  module _ (end : ℕ) (begins : start < count) (low : start ≤ end) (inside : end ≤ count)
+      (clear : (k : ℕ) → start ≤ k → k < end → bit_at blanks k ≡ 0)
+      (closed : end < length line → (end < count) × (bit_at blanks end ≡ 1)) where
     solid-start : is_solid (slice_index (drop from line) (start - from)) ≡ true
     solid-start =
         let e : from + (start - from) ≡ start = omega (arith, next.low) in
@@ -264,10 +293,10 @@ module _ (line : List ℕ) (blanks from start : ℕ) (short : length line ≤ 64
     solid-before : (k : ℕ) → k < end - start → is_blank (slice_index (drop start line) k) ≡ false
     solid-before k below =
         ap is_blank (get_or-drop start line k 0)
-        ∙ is-clear _ (sym (blank-bit _ (omega arith)) ∙ last.before (start + k) (omega arith) (omega arith))
+        ∙ is-clear _ (sym (blank-bit _ (omega arith)) ∙ clear (start + k) (omega arith) (omega arith))
 
     blank-end : end - start < length (drop start line) → is_blank (slice_index (drop start line) (end - start)) ≡ true
-    blank-end = grind (arith, length-drop, get_or-drop, is-set, blank-bit)
+    blank-end = grind (arith, length-drop, get_or-drop, is-set, blank-bit, closed)
 
     to-end : position_or_len is_blank (drop start line) ≡ end - start
     to-end = grind (arith, position_or_len_is, length-drop, solid-before, blank-end)

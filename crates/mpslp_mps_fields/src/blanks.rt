@@ -87,15 +87,20 @@ pub(crate) fn blanks_of(text: &[u8]) -> u64
     blanks_of_few(text)
 }
 
-/// The place of the first bit that is set, from an index on; 64 if there is none.
+/// The spaces and tabs among the first 64 bytes of a text.
+#[inline(always)]
+pub(crate) fn front_blanks(text: &[u8]) -> u64
+    requires { SHORT ≤ length text.now }
+    ensures { AreBlanks text.now 0 SHORT result }
+{
+    blanks_of_32(text, 0) | blanks_of_32(text, 32) << 32
+}
+
+/// The place of the first bit that is set, from an index on; 64 or more if there is none.
 #[inline(always)]
 pub(crate) fn first_set(bits: u64, from: usize) -> usize
     requires { from < SHORT }
     ensures { IsFirstSet bits from result }
 {
-    let rest = bits >> from;
-    if rest == 0 {
-        return SHORT;
-    }
-    from + rest.trailing_zeros() as usize
+    from + (bits >> from).trailing_zeros() as usize
 }

@@ -1,11 +1,11 @@
 //! The fields of a line.
 
-ghost use Rattle.std.specs.Prelude.{◌≡◌, ◌≤◌, [], ◌∷◌, map, take, drop, length, not, MatchOption, IfSome};
+ghost use Rattle.std.specs.Prelude.{◌≡◌, ◌≤◌, ◌<◌, ◌-◌, ◌++◌, [], ◌∷◌, map, take, drop, length, not, MatchOption, IfSome};
 ghost use Rattle.std.specs.List.{position, position_or_len};
 ghost use Rattle.mpslp_mps_fields.specs.Line.{is_blank, fields};
-ghost use Rattle.mpslp_mps_fields.specs.Blanks.{AreBlanks};
+ghost use Rattle.mpslp_mps_fields.specs.Blanks.{AreBlanks, IsFieldEnd};
 
-use crate::blanks::{SHORT, blanks_of, first_set};
+use crate::blanks::{SHORT, blanks_of, first_set, front_blanks};
 use crate::line::is_blank;
 use arrayvec::ArrayVec;
 use bstr::ByteSlice;
@@ -54,8 +54,9 @@ fn from_field(text: &[u8]) -> &[u8]
     &rest[blanks_len(rest)..]
 }
 
-/// The first field of a text and the rest after it; `None` if the text has no field.
-fn next_field<'a>(text: &'a [u8]) -> Option<(&'a [u8], &'a [u8])>
+/// The first field of a text of any length and the rest after it; `None` if the text has no field. Its bytes are tested one after
+/// another.
+fn next_field_by_bytes<'a>(text: &'a [u8]) -> Option<(&'a [u8], &'a [u8])>
     ensures { MatchOption result (fields text.now ≡ []) (λ found. fields text.now ≡ found.0.now ∷ fields found.1.now) }
 {
     let text = from_field(text);
@@ -65,48 +66,53 @@ fn next_field<'a>(text: &'a [u8]) -> Option<(&'a [u8], &'a [u8])>
     Some(text.split_at(field_len(text)))
 }
 
-/// The first fields of a line of any length, at most [`FRONT_LEN`].
-#[inline(never)]
-fn long_fields<'a>(line: &'a [u8]) -> ArrayVec<&'a [u8], FRONT_LEN>
-    ensures { map (λ field. field.now) result.items ≡ take FRONT_LEN (fields line.now) }
+/// The place where a field of a short line ends: the first space or tab after its start, or the end of the line, which is taken for
+/// one more blank. `blanks` are the spaces and tabs of the line.
+#[inline(always)]
+fn short_field_end(blanks: u64, len: usize, start: usize) -> usize
+    requires short { len < SHORT }
+    requires begins { start < len }
+    ensures end { IsFieldEnd blanks len start result }
+    ensures within { result ≤ len }
 {
-    let mut found = ArrayVec::new();
-    let mut rest = line;
-    for _ in 0..FRONT_LEN {
-        let Some((field, after)) = next_field(rest) else {
-            break;
-        };
-        found.push(field);
-        rest = after;
-    }
-    found
+    first_set(blanks | 1 << len, start)
 }
 
 /// The first field of a short line from an index on, and the index after it; `None` if there is no field. `blanks` are the spaces and
 /// tabs of the line.
 #[inline(always)]
 fn next_short_field<'a>(line: &'a [u8], blanks: u64, from: usize) -> Option<(&'a [u8], usize)>
-    requires short { length line.now ≤ SHORT }
+    requires short { length line.now < SHORT }
     requires blanks { AreBlanks line.now 0 (length line.now) blanks }
     requires within { from ≤ length line.now }
     ensures field { MatchOption result (fields (drop from line.now) ≡ []) (λ found. fields (drop from line.now) ≡ found.0.now ∷ fields (drop found.1 line.now)) }
     ensures within { IfSome result (λ found. found.1 ≤ length line.now) }
 {
-    if from >= line.len() {
-        return None;
-    }
     let start = first_set(!blanks, from);
     if start >= line.len() {
         return None;
     }
-    let end = first_set(blanks, start).min(line.len());
+    let end = short_field_end(blanks, line.len(), start);
     Some((&line[start..end], end))
 }
 
-/// The first fields of a line of at most 64 bytes, at most [`FRONT_LEN`].
+/// The first field of a text and the rest after it; `None` if the text has no field.
+fn next_field<'a>(text: &'a [u8]) -> Option<(&'a [u8], &'a [u8])>
+    ensures { MatchOption result (fields text.now ≡ []) (λ found. fields text.now ≡ found.0.now ∷ fields found.1.now) }
+{
+    if text.len() >= SHORT {
+        return next_field_by_bytes(text);
+    }
+    match next_short_field(text, blanks_of(text), 0) {
+        Some((field, end)) => Some((field, &text[end..])),
+        None => None,
+    }
+}
+
+/// The first fields of a line of less than 64 bytes, at most [`FRONT_LEN`].
 #[inline(always)]
 fn short_fields<'a>(line: &'a [u8]) -> ArrayVec<&'a [u8], FRONT_LEN>
-    requires { length line.now ≤ SHORT }
+    requires { length line.now < SHORT }
     ensures { map (λ field. field.now) result.items ≡ take FRONT_LEN (fields line.now) }
 {
     let blanks = blanks_of(line);
@@ -122,12 +128,71 @@ fn short_fields<'a>(line: &'a [u8]) -> ArrayVec<&'a [u8], FRONT_LEN>
     found
 }
 
+/// The first field of a line from an index on, and the index after it; `None` if this field does not end within the first 64 bytes.
+/// `blanks` are the spaces and tabs of these bytes.
+#[inline(always)]
+fn next_front_field<'a>(line: &'a [u8], blanks: u64, from: usize) -> Option<(&'a [u8], usize)>
+    requires long { SHORT ≤ length line.now }
+    requires blanks { AreBlanks line.now 0 SHORT blanks }
+    requires within { from < SHORT }
+    ensures field { IfSome result (λ found. fields (drop from line.now) ≡ found.0.now ∷ fields (drop found.1 line.now)) }
+    ensures within { IfSome result (λ found. found.1 < SHORT) }
+{
+    let start = first_set(!blanks, from);
+    if start >= SHORT {
+        return None;
+    }
+    let end = first_set(blanks, start);
+    if end >= SHORT {
+        return None;
+    }
+    Some((&line[start..end], end))
+}
+
+/// These fields and the first ones of a text after them, at most [`FRONT_LEN`] together.
+fn more_fields<'a>(
+    before: ArrayVec<&'a [u8], FRONT_LEN>,
+    text: &'a [u8],
+) -> ArrayVec<&'a [u8], FRONT_LEN>
+    ensures { map (λ field. field.now) result.items ≡ map (λ field. field.now) before.entry.items ++ take (FRONT_LEN - length before.entry.items) (fields text.now) }
+{
+    let mut found = before;
+    let mut rest = text;
+    for _ in found.len()..FRONT_LEN {
+        let Some((field, after)) = next_field(rest) else {
+            break;
+        };
+        found.push(field);
+        rest = after;
+    }
+    found
+}
+
+/// The first fields of a line of 64 bytes or more, at most [`FRONT_LEN`].
+#[inline(never)]
+fn long_fields<'a>(line: &'a [u8]) -> ArrayVec<&'a [u8], FRONT_LEN>
+    requires { SHORT ≤ length line.now }
+    ensures { map (λ field. field.now) result.items ≡ take FRONT_LEN (fields line.now) }
+{
+    let blanks = front_blanks(line);
+    let mut found = ArrayVec::new();
+    let mut from = 0;
+    for _ in 0..FRONT_LEN {
+        let Some((field, end)) = next_front_field(line, blanks, from) else {
+            break;
+        };
+        found.push(field);
+        from = end;
+    }
+    more_fields(found, &line[from..])
+}
+
 /// The first fields of a line, at most [`FRONT_LEN`]: enough to determine its shape. Fields are separated by spaces and
 /// tabs.
 pub fn front_fields<'a>(line: &'a [u8]) -> ArrayVec<&'a [u8], FRONT_LEN>
     ensures { map (λ field. field.now) result.items ≡ take FRONT_LEN (fields line.now) }
 {
-    if line.len() > SHORT {
+    if line.len() >= SHORT {
         return long_fields(line);
     }
     short_fields(line)

@@ -1,23 +1,17 @@
-use Rattle.std.{proofs.Common.{sym, ◌∙◌, ◌≡◌}, specs.Str.Lines.lines}
-use Rattle.mpslp_lines.proofs.{LineLemmas.bstr-lines, PieceLemmas.{ends-refused, passed-all, passed-end, passed-line, passed-none}}
-use Rattle.mpslp_lines.proofs.PieceLemmas.{passed-reader}
+use Rattle.std.{proofs.Common.{refl, sym, ◌∙◌}, specs.Str.Lines.lines}
+use Rattle.mpslp_lines.proofs.PieceLemmas.{ends-refused, passed-all, passed-end, passed-line, passed-none, passed-reader}
 use Rattle.mpslp_lines.proofs.read_lines.read_lines.Goals as goal
 
 pub loop-line-init : goal.loop-line-init
-loop-line-init g c =
-    let all : c.into_iter-line-iterator.result ≡ lines c.args.part.now =
-    c.into_iter-line-iterator.ensures.into_iter_gives ∙ c.lines-line-items.ensures.value ∙ bstr-lines c.args.part.now in
-    record {
-      next = tt;
-      finite = tt;
-      unended = c.requires.unended;
-      passed = passed-none g.L.ReadLines.has_read c.args.reader.now (lines c.args.part.now) c.into_iter-line-iterator.result all;
-    }
+loop-line-init g c = record {
+  unended = c.requires.unended;
+  passed = passed-none g.L.ReadLines.has_read c.args.reader.now (lines c.args.part.now) (lines c.args.part.now) refl;
+}
 
 pub read_line-requires-clause-reader : goal.read_line-requires-clause-reader
 read_line-requires-clause-reader g c =
     let before = c.loop-line in
-    passed-reader g.L.ReadLines.has_read c.args.reader.now before.reader (lines c.args.part.now) before.line-iterator
+    passed-reader g.L.ReadLines.has_read c.args.reader.now before.reader (lines c.args.part.now) (lines before.rest.now)
     before.invariant.passed c.requires.reader
 
 pub returns-in_err-read_line : goal.returns-in_err-read_line
@@ -25,19 +19,19 @@ returns-in_err-read_line g c =
     let r = g.L.ReadLines in
     let before = c.loop-line in
     ends-refused r.has_read r.lines_fault g.met.L.ReadLines.fault_stays c.args.reader.now before.reader c.read_line.new.self
-    (lines c.args.part.now) before.line-iterator c.next.new.self
+    (lines c.args.part.now) (lines before.rest.now) (lines c.in-Some.more.now)
     c.in-Some.line.now c.in_err-read_line.field-0.0 c.from_residual.result c.from_residual.ensures.1 before.invariant.passed
-    c.in-Some.ensures.steps c.in_err-read_line.ensures
+    c.in-Some.ensures.line c.in_err-read_line.ensures
 
 pub returns-then-is_at_end : goal.returns-then-is_at_end
 returns-then-is_at_end g c =
     let r = g.L.ReadLines in
     let before = c.loop-line in
     let all = lines c.args.part.now in
-    let read = passed-line r.has_read r.lines_fault c.args.reader.now before.reader c.read_line.new.self all before.line-iterator
-    c.next.new.self c.in-Some.line.now
-    before.invariant.passed c.in-Some.ensures.steps c.in_ok-read_line.ensures in
-    passed-end r.has_read r.at_end g.met.L.ReadLines.after_end c.args.reader.now c.read_line.new.self all c.next.new.self read
+    let read = passed-line r.has_read r.lines_fault c.args.reader.now before.reader c.read_line.new.self all (lines before.rest.now)
+    (lines c.in-Some.more.now) c.in-Some.line.now
+    before.invariant.passed c.in-Some.ensures.line c.in_ok-read_line.ensures in
+    passed-end r.has_read r.at_end g.met.L.ReadLines.after_end c.args.reader.now c.read_line.new.self all (lines c.in-Some.more.now) read
     (sym c.is_at_end.ensures ∙ c.if-is_at_end.true)
 
 pub loop-line-preserved : goal.loop-line-preserved
@@ -45,17 +39,15 @@ loop-line-preserved g c =
     let r = g.L.ReadLines in
     let before = c.loop-line in
     record {
-      next = tt;
-      finite = tt;
       unended = sym c.is_at_end.ensures ∙ c.if-is_at_end.false;
       passed = passed-line r.has_read r.lines_fault c.args.reader.now before.reader c.read_line.new.self (lines c.args.part.now)
-          before.line-iterator c.next.new.self c.in-Some.line.now
-          before.invariant.passed c.in-Some.ensures.steps c.in_ok-read_line.ensures;
+          (lines before.rest.now) (lines c.in-Some.more.now) c.in-Some.line.now
+          before.invariant.passed c.in-Some.ensures.line c.in_ok-read_line.ensures;
     }
 
 pub returns : goal.returns
 returns g c =
     let r = g.L.ReadLines in
     let before = c.loop-line in
-    passed-all r.has_read r.lines_fault c.args.reader.now before.reader (lines c.args.part.now) before.line-iterator before.invariant.passed
-    c.in-None.ensures.steps.0
+    passed-all r.has_read r.lines_fault c.args.reader.now before.reader (lines c.args.part.now) (lines before.rest.now) before.invariant.passed
+    c.in_default.ensures.line

@@ -1,12 +1,13 @@
-use Rattle.std.{proofs.Common.{false, ◌≡◌}, specs.Str.Lines.lines}
+use Rattle.std.{proofs.Common.{false, length, ◌≡◌}, specs.Str.Lines.lines}
 use Rattle.mpslp_lines.proofs.PieceLemmas.{Passed}
 use Rattle.mpslp_lines.proofs.read_lines.read_lines.Given as goal
 
 -- the lines before those that are left were read
 abbrev pub invariant-loop-line : goal.invariant-loop-line
 invariant-loop-line g l = record {
-  next : (goal.iterator-loop-line g).can_next l.line-iterator;
-  finite : (goal.iterator-loop-line g).is_finite l.line-iterator;
   unended : g.L.ReadLines.at_end l.reader ≡ false;
-  passed : Passed g.L.ReadLines.has_read l.fn.reader l.reader (lines l.fn.part) l.line-iterator;
+  passed : Passed g.L.ReadLines.has_read l.fn.reader l.reader (lines l.part) (lines l.rest);
 }
+
+abbrev pub decreases-loop-line : goal.decreases-loop-line
+decreases-loop-line g l = length l.rest

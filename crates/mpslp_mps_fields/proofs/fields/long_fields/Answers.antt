@@ -4,6 +4,7 @@ use Rattle.mpslp_mps_fields.proofs.fields.long_fields.Goals as goal
 
 pub loop-preserved : goal.loop-preserved
 loop-preserved c = record {
-  fields = front-more _ _ _ _ _ _ _ (omega arith) c.push.ensures.items c.in-Some.ensures c.loop.invariant.fields;
+  fields = front-more _ _ _ _ _ _ _ (omega arith) c.push.ensures.items c.in-Some.ensures.field c.loop.invariant.fields;
   count = omega arith;
+  within = c.in-Some.ensures.within;
 }
