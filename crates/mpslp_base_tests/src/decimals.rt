@@ -75,6 +75,27 @@ fn is_printed(line: &str) -> bool {
     has_text(literal.as_bytes(), want)
 }
 
+/// Literals, each with its digit, or with `none` if its number is not a digit.
+const DIGITS: &str = "0 0
+-0 0
+1 1
+9 9
+9.0 9
+70e-1 7
+10 none
+-1 none
+0.5 none
+1e1 none";
+
+/// Whether the number of a literal is the digit after it.
+fn has_digit(line: &str) -> bool {
+    let (literal, want) = line.split_once(' ').unwrap_or((line, ""));
+    match Decimal::parse(literal.as_bytes()) {
+        Ok(value) => value.digit().unwrap_or(b"none") == want.as_bytes(),
+        Err(_) => false,
+    }
+}
+
 /// The name of the error of a text that is no decimal.
 fn fault_of(text: &[u8]) -> &'static str {
     match Decimal::parse(text) {
@@ -112,6 +133,13 @@ fn reads_and_prints_long_literals(rt: HostRuntime) {
 fn reads_and_prints_scaled_literals(rt: HostRuntime) {
     for line in WITH_EXPONENT.lines() {
         assert!(rt; is_printed(line), "at {line}");
+    }
+}
+
+#[test]
+fn returns_the_text_of_a_digit(rt: HostRuntime) {
+    for line in DIGITS.lines() {
+        assert!(rt; has_digit(line), "at {line}");
     }
 }
 
