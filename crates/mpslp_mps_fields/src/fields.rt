@@ -66,8 +66,8 @@ fn next_field_by_bytes<'a>(text: &'a [u8]) -> Option<(&'a [u8], &'a [u8])>
     Some(text.split_at(field_len(text)))
 }
 
-/// The place where a field of a short line ends: the first space or tab after its start, or the end of the line, which is taken for
-/// one more blank. `blanks` are the spaces and tabs of the line.
+/// The place where a field of a short line ends: the first space or tab after its start, or the end of the line, which counts as one
+/// more space. `blanks` are the spaces and tabs of the line.
 #[inline(always)]
 fn short_field_end(blanks: u64, len: usize, start: usize) -> usize
     requires short { len < SHORT }
