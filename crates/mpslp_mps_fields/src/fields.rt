@@ -109,14 +109,14 @@ fn next_field<'a>(text: &'a [u8]) -> Option<(&'a [u8], &'a [u8])>
     }
 }
 
-/// The first fields of a line of less than 64 bytes, at most [`FRONT_LEN`].
+/// Puts the first fields of a line of less than 64 bytes, at most [`FRONT_LEN`].
 #[inline(always)]
-fn short_fields<'a>(line: &'a [u8]) -> ArrayVec<&'a [u8], FRONT_LEN>
-    requires { length line.now < SHORT }
-    ensures { map (λ field. field.now) result.items ≡ take FRONT_LEN (fields line.now) }
+fn put_short_fields<'a>(line: &'a [u8], found: &mut ArrayVec<&'a [u8], FRONT_LEN>)
+    requires short { length line.now < SHORT }
+    requires empty { found.old.items ≡ [] }
+    ensures { map (λ field. field.now) found.new.items ≡ take FRONT_LEN (fields line.now) }
 {
     let blanks = blanks_of(line);
-    let mut found = ArrayVec::new();
     let mut from = 0;
     for _ in 0..FRONT_LEN {
         let Some((field, end)) = next_short_field(line, blanks, from) else {
@@ -125,7 +125,6 @@ fn short_fields<'a>(line: &'a [u8]) -> ArrayVec<&'a [u8], FRONT_LEN>
         found.push(field);
         from = end;
     }
-    found
 }
 
 /// The first field of a line from an index on, and the index after it; `None` if this field does not end within the first 64 bytes.
@@ -149,14 +148,10 @@ fn next_front_field<'a>(line: &'a [u8], blanks: u64, from: usize) -> Option<(&'a
     Some((&line[start..end], end))
 }
 
-/// These fields and the first ones of a text after them, at most [`FRONT_LEN`] together.
-fn more_fields<'a>(
-    before: ArrayVec<&'a [u8], FRONT_LEN>,
-    text: &'a [u8],
-) -> ArrayVec<&'a [u8], FRONT_LEN>
-    ensures { map (λ field. field.now) result.items ≡ map (λ field. field.now) before.entry.items ++ take (FRONT_LEN - length before.entry.items) (fields text.now) }
+/// Appends the first fields of a text, until there are [`FRONT_LEN`].
+fn put_more_fields<'a>(text: &'a [u8], found: &mut ArrayVec<&'a [u8], FRONT_LEN>)
+    ensures { map (λ field. field.now) found.new.items ≡ map (λ field. field.now) found.old.items ++ take (FRONT_LEN - length found.old.items) (fields text.now) }
 {
-    let mut found = before;
     let mut rest = text;
     for _ in found.len()..FRONT_LEN {
         let Some((field, after)) = next_field(rest) else {
@@ -165,17 +160,16 @@ fn more_fields<'a>(
         found.push(field);
         rest = after;
     }
-    found
 }
 
-/// The first fields of a line of 64 bytes or more, at most [`FRONT_LEN`].
+/// Puts the first fields of a line of 64 bytes or more, at most [`FRONT_LEN`].
 #[inline(never)]
-fn long_fields<'a>(line: &'a [u8]) -> ArrayVec<&'a [u8], FRONT_LEN>
-    requires { SHORT ≤ length line.now }
-    ensures { map (λ field. field.now) result.items ≡ take FRONT_LEN (fields line.now) }
+fn put_long_fields<'a>(line: &'a [u8], found: &mut ArrayVec<&'a [u8], FRONT_LEN>)
+    requires long { SHORT ≤ length line.now }
+    requires empty { found.old.items ≡ [] }
+    ensures { map (λ field. field.now) found.new.items ≡ take FRONT_LEN (fields line.now) }
 {
     let blanks = front_blanks(line);
-    let mut found = ArrayVec::new();
     let mut from = 0;
     for _ in 0..FRONT_LEN {
         let Some((field, end)) = next_front_field(line, blanks, from) else {
@@ -184,7 +178,7 @@ fn long_fields<'a>(line: &'a [u8]) -> ArrayVec<&'a [u8], FRONT_LEN>
         found.push(field);
         from = end;
     }
-    more_fields(found, &line[from..])
+    put_more_fields(&line[from..], found);
 }
 
 /// The first fields of a line, at most [`FRONT_LEN`]: enough to determine its shape. Fields are separated by spaces and
@@ -192,8 +186,11 @@ fn long_fields<'a>(line: &'a [u8]) -> ArrayVec<&'a [u8], FRONT_LEN>
 pub fn front_fields<'a>(line: &'a [u8]) -> ArrayVec<&'a [u8], FRONT_LEN>
     ensures { map (λ field. field.now) result.items ≡ take FRONT_LEN (fields line.now) }
 {
+    let mut found = ArrayVec::new();
     if line.len() >= SHORT {
-        return long_fields(line);
+        put_long_fields(line, &mut found);
+    } else {
+        put_short_fields(line, &mut found);
     }
-    short_fields(line)
+    found
 }

@@ -1,6 +1,6 @@
 use Rattle.std.proofs.Common.{arith}
 use Rattle.mpslp_mps_fields.proofs.FieldsLemmas.{front-more}
-use Rattle.mpslp_mps_fields.proofs.fields.short_fields.Goals as goal
+use Rattle.mpslp_mps_fields.proofs.fields.put_long_fields.Goals as goal
 
 pub loop-preserved : goal.loop-preserved
 loop-preserved c = record {

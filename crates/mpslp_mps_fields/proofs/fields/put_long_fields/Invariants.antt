@@ -1,12 +1,12 @@
-use Rattle.std.proofs.Common.{drop, length, map, take, ◌++◌, ◌-◌, ◌≡◌, ◌≤◌}
+use Rattle.std.proofs.Common.{drop, map, take, ◌++◌, ◌-◌, ◌<◌, ◌≡◌}
 use Rattle.arrayvec.specs.ArrayVec.{array_vec_len}
 use Rattle.mpslp_mps_fields.specs.Line.{fields}
-use Rattle.mpslp_mps_fields.proofs.fields.short_fields.Given as goal
+use Rattle.mpslp_mps_fields.proofs.fields.put_long_fields.Given as goal
 
 -- the fields so far, and those to come
 abbrev pub invariant-loop : goal.invariant-loop
 invariant-loop l = record {
   fields : map (λ field. field.now) l.found.items ++ take (6 - l.counter) (fields (drop l.from l.line)) ≡ take 6 (fields l.line);
   count : array_vec_len l.found ≡ l.counter;
-  within : l.from ≤ length l.line;
+  within : l.from < 64;
 }
