@@ -1,5 +1,5 @@
 -- A text that comes in pieces: what a reader has read after each, and what it keeps.
-use Rattle.std.proofs.Common.{Bool, List, [], append-nil, append_assoc, arith, cond, false, length, length-take-le, refl, subst, sym, take}
+use Rattle.std.proofs.Common.{Bool, List, [], append-nil, append_assoc, arith, cond, false, length, length-take-le, refl, sym, take}
 use Rattle.std.{proofs.Common.{true, ℕ, ◌++◌, ◌+◌, ◌<◌, ◌∷◌, ◌≡◌}, specs.{Prelude.{IsErrAnd, Ok, Result, nat_le, ◌-◌}, Str.Lines.lines}}
 use Rattle.std.specs.Str.Lines.{strip_carriage_return}
 use Rattle.mpslp_types.specs.declared.faults.{Fault.Fault, ReadFault.ReadFault}
@@ -49,19 +49,10 @@ module _ {L : Type 0} (has_read : L → List (List ℕ) → Type 0) where
 
     -- all up to one that is rejected
     module _ (fault_stays : (text more : List (List ℕ)) (fault : Fault) → lines_fault text fault → lines_fault (text ++ more) fault) where
-      refuses-next : (old now : L) (all left more : List (List ℕ)) (line : List ℕ) (error : ReadFault) → Passed has_read old now all left
+      pub refuses-next : (old now : L) (all left more : List (List ℕ)) (line : List ℕ) (error : ReadFault) → Passed has_read old now all left
           → left ≡ line ∷ more
           → RefusesLines has_read lines_fault now (line ∷ []) error → RefusesLines has_read lines_fault old all error
       refuses-next = grind (arith, append_assoc, one_more)
-
-      pub ends-refused : (old now last : L) (all left more : List (List ℕ)) (line : List ℕ) (error : ReadFault)
-          (answer : Result (Unit {0}) ReadFault)
-          → IsErrAnd answer (λ e. e ≡ error) → Passed has_read old now all left → left ≡ line ∷ more
-          → RefusesLines has_read lines_fault now (line ∷ []) error
-          → ReadsOn has_read lines_fault old all last answer
-      ends-refused old now last all left more line error (Ok x) is p e h = absurd is
-      ends-refused old now last all left more line error _ is p e h =
-          subst (RefusesLines has_read lines_fault old all) (sym is) (refuses-next old now all left more line error p e h)
 
 -- ---- A text that comes in pieces: what a reader has read after each, and what it keeps.
 

@@ -77,6 +77,16 @@ impl From<BuildFault> for LineError {
     }
 }
 
+/// Why a line is rejected, and the number of the line. It is what a reader returns for each line, since it is much smaller than a
+/// [`ReadFault`].
+#[derive(Clone, Copy, Debug, PartialEq, Eq)]
+pub struct NumberedError {
+    /// The number of the line.
+    pub line: u64,
+    /// Why it is rejected.
+    pub error: LineError,
+}
+
 /// The error of a text that has this error on a line. The error of a line has no name.
 pub fn read_fault(line: u64, error: LineError) -> ReadFault
     ensures { IsFaultOn line error result }

@@ -21,7 +21,7 @@ mod piece_reader;
 mod read_lines;
 mod text_reader;
 
-pub use errors::{LineError, read_fault};
+pub use errors::{LineError, NumberedError, read_fault};
 pub use fault_order::lower_ranked_kind;
 pub use legal_line::{MAX_LINE_LEN, are_legal_bytes, has_legal_length};
 pub use literals::{kind_of_number_fault, lower_ranked_number_fault, value_of};

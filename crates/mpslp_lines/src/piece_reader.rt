@@ -8,7 +8,7 @@ ghost use Rattle.mpslp_lines.specs.Pieces.{IsFed, WasFed, Feeds, EndsText};
 
 use crate::line_ends::{split_after_last_feed, split_at_first_feed, without_return};
 use crate::open_line::OpenLine;
-use crate::read_lines::{ReadLines, read_lines};
+use crate::read_lines::{ReadLines, read_lines, read_one};
 use mpslp_model::{HashSeed, Model, ReadFault};
 use std::alloc::Global;
 
@@ -55,7 +55,7 @@ impl<L: ReadLines> PieceReader<L> {
         ensures anew { OnOk result (Keeps self.new.open_line []) }
     {
         match self.open_line.bytes() {
-            Some(bytes) => self.lines.read_line(without_return(bytes))?,
+            Some(bytes) => read_one(&mut self.lines, without_return(bytes))?,
             None => return Err(self.lines.refuse_long()),
         }
         self.open_line.clear();
@@ -116,7 +116,7 @@ impl<L: ReadLines> PieceReader<L> {
             return Ok(());
         }
         match self.open_line.bytes() {
-            Some(bytes) => self.lines.read_line(bytes),
+            Some(bytes) => read_one(&mut self.lines, bytes),
             None => Err(self.lines.refuse_long()),
         }
     }

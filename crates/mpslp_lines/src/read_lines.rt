@@ -6,8 +6,9 @@ ghost use Rattle.mpslp_model_core.specs.Model.{LinearModel};
 ghost use Rattle.mpslp_types.specs.declared.faults.Fault.{Fault};
 ghost use Rattle.mpslp_model.specs.Formats.{IsAnswerTo};
 ghost use Rattle.mpslp_lines.specs.FaultTests.{has_legal_length};
-ghost use Rattle.mpslp_lines.specs.LinesRead.{IsReader, RefusesLines, ReadsOn};
+ghost use Rattle.mpslp_lines.specs.LinesRead.{IsReader, RefusesLines, ReadsNext, ReadsOn};
 
+use crate::errors::{NumberedError, read_fault};
 use crate::line_ends::first_line;
 use mpslp_model::{HashSeed, Model, ReadFault};
 use std::alloc::Global;
@@ -47,11 +48,11 @@ pub trait ReadLines: Drop {
     ///
     /// # Errors
     ///
-    /// `File` with the error of the line; `OutOfMemory` if an allocation fails.
-    fn read_line(&mut self, line: &[u8]) -> Result<(), ReadFault>
+    /// The error of the line with its number; that an allocation failed.
+    fn read_line(&mut self, line: &[u8]) -> Result<(), NumberedError>
         requires reader { IsReader has_read self.old }
         requires unended { at_end self.old ≡ false }
-        ensures { ReadsOn has_read lines_fault self.old (line.now ∷ []) self.new result };
+        ensures { ReadsNext has_read lines_fault self.old line.now self.new result };
 
     /// The model that the text declares, after all its lines were read. It has no lists by rows.
     ///
@@ -75,6 +76,19 @@ pub trait ReadLines: Drop {
     ghost fault_is_first: { (bytes : List ℕ) (fault : Fault) → lines_fault (lines bytes) fault → first_fault bytes fault };
 }
 
+/// Reads the next line of a text.
+#[inline(always)]
+pub(crate) fn read_one<L: ReadLines>(reader: &mut L, line: &[u8]) -> Result<(), ReadFault>
+    requires reader { IsReader L.has_read reader.old }
+    requires unended { L.at_end reader.old ≡ false }
+    ensures { ReadsOn L.has_read L.lines_fault reader.old (line.now ∷ []) reader.new result }
+{
+    match reader.read_line(line) {
+        Ok(()) => Ok(()),
+        Err(numbered) => Err(read_fault(numbered.line, numbered.error)),
+    }
+}
+
 /// Reads the lines of the next part of a text, up to the one that ends the text.
 pub(crate) fn read_lines<L: ReadLines>(reader: &mut L, part: &[u8]) -> Result<(), ReadFault>
     requires reader { IsReader L.has_read reader.old }
@@ -83,7 +97,10 @@ pub(crate) fn read_lines<L: ReadLines>(reader: &mut L, part: &[u8]) -> Result<()
 {
     let mut rest = part;
     while let Some((line, more)) = first_line(rest) {
-        reader.read_line(line)?;
+        match reader.read_line(line) {
+            Ok(()) => {}
+            Err(numbered) => return Err(read_fault(numbered.line, numbered.error)),
+        }
         if reader.is_at_end() {
             return Ok(());
         }

@@ -3,7 +3,7 @@
 ghost use Rattle.std.specs.Prelude.{◌≡◌};
 
 use crate::read_line::read_line;
-use mpslp_lines::{LineError, ReadLines, read_fault};
+use mpslp_lines::{LineError, NumberedError, ReadLines, read_fault};
 use mpslp_lp_grammar::{Context, Place, State};
 use mpslp_model::{Fault, FaultKind, HashSeed, Model, ReadFault};
 use std::alloc::Global;
@@ -58,10 +58,13 @@ impl ReadLines for LineReader {
         read_fault(self.number, LineError::Fault(FaultKind::LineTooLong))
     }
 
-    fn read_line(&mut self, line: &[u8]) -> Result<(), ReadFault> {
+    fn read_line(&mut self, line: &[u8]) -> Result<(), NumberedError> {
         match read_line(&mut self.context, &mut self.state, line) {
             Ok(()) => {}
-            Err(error) => return Err(read_fault(self.number, error)),
+            Err(error) => {
+                let line = self.number;
+                return Err(NumberedError { line, error });
+            }
         }
         self.number = self.number.saturating_add(1);
         Ok(())

@@ -1,5 +1,5 @@
 use Rattle.std.{proofs.Common.{refl, sym, ◌∙◌}, specs.Str.Lines.lines}
-use Rattle.mpslp_lines.proofs.PieceLemmas.{ends-refused, passed-all, passed-end, passed-line, passed-none, passed-reader}
+use Rattle.mpslp_lines.proofs.PieceLemmas.{passed-all, passed-end, passed-line, passed-none, passed-reader, refuses-next}
 use Rattle.mpslp_lines.proofs.read_lines.read_lines.Goals as goal
 
 pub loop-line-init : goal.loop-line-init
@@ -14,14 +14,13 @@ read_line-requires-clause-reader g c =
     passed-reader g.L.ReadLines.has_read c.args.reader.now before.reader (lines c.args.part.now) (lines before.rest.now)
     before.invariant.passed c.requires.reader
 
-pub returns-in_err-read_line : goal.returns-in_err-read_line
-returns-in_err-read_line g c =
+pub returns-in-Err : goal.returns-in-Err
+returns-in-Err g c =
     let r = g.L.ReadLines in
     let before = c.loop-line in
-    ends-refused r.has_read r.lines_fault g.met.L.ReadLines.fault_stays c.args.reader.now before.reader c.read_line.new.self
+    refuses-next r.has_read r.lines_fault g.met.L.ReadLines.fault_stays c.args.reader.now before.reader
     (lines c.args.part.now) (lines before.rest.now) (lines c.in-Some.more.now)
-    c.in-Some.line.now c.in_err-read_line.field-0.0 c.from_residual.result c.from_residual.ensures.1 before.invariant.passed
-    c.in-Some.ensures.line c.in_err-read_line.ensures
+    c.in-Some.line.now c.read_fault.result before.invariant.passed c.in-Some.ensures.line (c.in-Err.ensures c.read_fault.result c.read_fault.ensures)
 
 pub returns-then-is_at_end : goal.returns-then-is_at_end
 returns-then-is_at_end g c =
@@ -30,7 +29,7 @@ returns-then-is_at_end g c =
     let all = lines c.args.part.now in
     let read = passed-line r.has_read r.lines_fault c.args.reader.now before.reader c.read_line.new.self all (lines before.rest.now)
     (lines c.in-Some.more.now) c.in-Some.line.now
-    before.invariant.passed c.in-Some.ensures.line c.in_ok-read_line.ensures in
+    before.invariant.passed c.in-Some.ensures.line c.in-Ok.ensures in
     passed-end r.has_read r.at_end g.met.L.ReadLines.after_end c.args.reader.now c.read_line.new.self all (lines c.in-Some.more.now) read
     (sym c.is_at_end.ensures ∙ c.if-is_at_end.true)
 
@@ -42,7 +41,7 @@ loop-line-preserved g c =
       unended = sym c.is_at_end.ensures ∙ c.if-is_at_end.false;
       passed = passed-line r.has_read r.lines_fault c.args.reader.now before.reader c.read_line.new.self (lines c.args.part.now)
           (lines before.rest.now) (lines c.in-Some.more.now) c.in-Some.line.now
-          before.invariant.passed c.in-Some.ensures.line c.in_ok-read_line.ensures;
+          before.invariant.passed c.in-Some.ensures.line c.in-Ok.ensures;
     }
 
 pub returns : goal.returns

@@ -6,8 +6,7 @@ read_line-requires c = let reader = c.args.self.now in
     led-sides c.requires.reader.text reader.context reader.builder.draft reader.number c.requires.reader.read
 
 pub returns-in-Err : goal.returns-in-Err
-returns-in-Err c = refuses-line c.args.self.now c.args.line.now c.in-Err.error c.read_fault.result c.requires.unended
-    c.in-Err.ensures.answers c.read_fault.ensures
+returns-in-Err c = λ fault is. refuses-line c.args.self.now c.args.line.now c.in-Err.error fault c.requires.unended c.in-Err.ensures.answers is
 
 pub returns : goal.returns
 returns c = λ before led. let reader = c.args.self.now in let answers = c.in-Ok.ensures.answers in led-line before reader.context
