@@ -1,6 +1,7 @@
 pub mod BoolLemmas
 pub mod EachLemmas
 pub mod NameLemmas
+pub mod ByteSetLemmas
 pub mod ReservedLemmas
 mod WorkedNames
 pub mod LimitLemmas

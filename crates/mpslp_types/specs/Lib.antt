@@ -1,6 +1,7 @@
 pub mod Name
 pub mod Lists
 pub mod NameTests
+pub mod ByteSets
 pub mod Limit
 pub mod FaultName
 pub mod FaultOrder

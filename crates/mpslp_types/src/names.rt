@@ -1,5 +1,6 @@
 //! Names of rows, columns and the objective.
 
+mod byte_sets;
 mod hashing;
 mod keys;
 mod lp;
@@ -14,6 +15,7 @@ ghost use Rattle.std.specs.Cmp.Rules.{hashing};
 ghost use Rattle.mpslp_types.specs.Name.{IsMpsName, is_visible, same_bytes, marker, bytes_cmp};
 ghost use Rattle.mpslp_types.specs.NameTests.{name_refusal};
 
+use byte_sets::{ByteSet, has_all};
 pub use hashing::{FIXED_SEED, HashSeed, NameHasher};
 pub use keys::NameBytes;
 pub use lp::{is_lp_byte, may_be_reserved};
@@ -118,10 +120,19 @@ impl Hash for Name {
     }
 }
 
+/// Printable ASCII other than space.
+const VISIBLE: ByteSet = ByteSet {
+    low: [6, 7, 7, 7, 7, 7, 7, 7, 7, 7, 7, 7, 7, 7, 7, 3],
+    high: [0, 0, 1, 2, 2, 2, 2, 4, 0, 0, 0, 0, 0, 0, 0, 0],
+};
+
 /// Whether all bytes are printable ASCII other than space.
 fn has_visible_bytes(bytes: &[u8]) -> bool
     ensures { result ≡ list_all is_visible bytes.now }
 {
+    if has_all(&VISIBLE, bytes) {
+        return true;
+    }
     bytes.iter().all(|byte| 33 <= *byte && *byte <= 126)
 }
 
@@ -129,7 +140,10 @@ fn has_visible_bytes(bytes: &[u8]) -> bool
 fn is_marker(bytes: &[u8]) -> bool
     ensures { result ≡ same_bytes bytes.now marker }
 {
-    bytes == b"'MARKER'".as_slice()
+    match bytes {
+        [] => false,
+        [first, ..] => *first == b'\'' && bytes == b"'MARKER'".as_slice(),
+    }
 }
 
 impl Name {

@@ -8,6 +8,7 @@ ghost use Rattle.mpslp_decimal.specs.Literal.{is_digit};
 
 use crate::laws::each_name_is_legal;
 use crate::names::Name;
+use crate::names::byte_sets::{ByteSet, has_all};
 
 /// Each byte that LP names may have, at the index of its value; `-` at all other indices.
 static LP_BYTES: [u8; 256] = *b"\
@@ -77,10 +78,21 @@ pub fn is_lp_byte(byte: u8) -> bool
     LP_BYTES[byte as usize] != b'-'
 }
 
+/// The bytes that LP names may have, again, to look up many at once.
+const LP_SET: ByteSet = ByteSet {
+    low: [
+        30, 31, 31, 31, 31, 31, 31, 31, 31, 31, 28, 22, 21, 20, 21, 15,
+    ],
+    high: [0, 0, 1, 2, 4, 8, 4, 16, 0, 0, 0, 0, 0, 0, 0, 0],
+};
+
 /// Whether all bytes are allowed in LP names.
 fn has_lp_bytes(bytes: &[u8]) -> bool
     ensures { result ≡ list_all is_lp_byte bytes.now }
 {
+    if has_all(&LP_SET, bytes) {
+        return true;
+    }
     bytes.iter().all(|byte| is_lp_byte(*byte))
 }
 
