@@ -2,9 +2,9 @@
 use Rattle.std.proofs.Common.{◌≡◌, refl, sym, ap, ◌∙◌, ℕ, zero, suc, ◌<◌, List, [], ◌∷◌, ◌++◌, length, Bool, true, false, cond}
 use Rattle.std.proofs.Common.{arith, rules}
 use Rattle.std.specs.Prelude.{Option, None, Some, is_some, slice_get, OnOk, OnErr, Result}
-use Rattle.std.specs.{FinMap.find, List.{AllByRecursion, IsDistinct}, Map.{keys_of, lookup, lookup_key}}
+use Rattle.std.specs.{FinMap.find, List.{AllByRecursion, IsDistinct, position_or_len}, Map.{keys_of, lookup, lookup_key}}
 use Rattle.std.specs.{Cmp.Lexicographic.texts_ties, Option.{option_map, option_map_or}}
-use Rattle.indexmap.specs.IndexMap.{set_value_at}
+use Rattle.indexmap.specs.IndexMap.{insert_entry, set_value_at}
 use Rattle.mpslp_decimal.specs.Decimal.{Number}
 use Rattle.mpslp_types.specs.Name.{bytes_cmp, same_bytes}
 use Rattle.mpslp_model_core.specs.Numbered.{IsOnce, each_part}
@@ -63,6 +63,12 @@ module _ {V X : Type 0} (f : V → X) where
   unfolding IsDistinct
   once-from_distinct [] h = tt
   once-from_distinct (e ∷ es) h = (none_of e.0 es h.0, once-from_distinct es h.1)
+
+-- a name that is there keeps its place when it is inserted, so its value can be put back
+pub value_back : {V : Type 0} (q : List ℕ) (w old : V) (es : List (List ℕ × V)) → Some old ≡ lookup (λ k. same_bytes q k) es
+    → set_value_at (insert_entry (λ x y. same_bytes x y) es q w) (position_or_len (λ k. same_bytes q k) (keys_of es)) old ≡ es
+value_back q w old [] h = cc
+value_back q w old (e ∷ es) h = grind (arith, value_back q w old es)
 
 -- ---- what a look-up shows
 
