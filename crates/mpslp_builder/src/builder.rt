@@ -12,7 +12,6 @@ ghost use Rattle.mpslp_builder.specs.Answer.{AnswersTo, AnswersToAll, IsNotOutOf
 
 use crate::builder::queries::have_infinite_limit;
 use crate::tables::Tables;
-use crate::tables::hints::LookUps;
 use mpslp_decimal::Decimal;
 use mpslp_decimal::laws::each_value_is_a_decimal;
 use mpslp_model_core::{PackedRowDefinition, RowLimits};
@@ -204,10 +203,8 @@ impl Builder {
     pub fn column(&mut self, name: Name) -> Result<(), BuildFault>
         ensures { AnswersTo self.old (declare_column name) result self.new }
     {
-        if self.has_column(name.as_bytes()) {
-            return Ok(());
-        }
-        self.tables.add_column(name, LookUps::InOrder)?;
+        each_name_is_legal(&name);
+        self.tables.start_column(name)?;
         Ok(())
     }
 

@@ -1,15 +1,14 @@
 //! What each declaration changes in the tables, by number.
 
-ghost use Rattle.std.specs.Prelude.{◌≡◌, ◌≢◌, ◌<◌, IsTrue, IfOk, Ok, OnOk, OnErr, Some, None, true, false, not, if◌then◌else◌, suc, is_some};
+ghost use Rattle.std.specs.Prelude.{◌≡◌, ◌<◌, IsTrue, OnOk, OnErr, Some, None, true, false, if◌then◌else◌, suc, is_some};
 ghost use Rattle.std.specs.Ordering.{nat_cmp};
 ghost use Rattle.std.specs.FinMap.{find};
 ghost use Rattle.indexmap.specs.IndexMap.{index_map_len};
 ghost use Rattle.mpslp_types.specs.declared.faults.BuildFault.TheVariants.{DuplicateRow, OutOfMemory};
-ghost use Rattle.mpslp_builder.specs.Declaration.{has_name, has_row};
+ghost use Rattle.mpslp_builder.specs.Declaration.{has_row};
 ghost use Rattle.mpslp_builder.specs.Tables.{draft};
-ghost use Rattle.mpslp_builder.specs.Calls.{row_key_of, row_name, column_name, has_limits, cells_at, new_column, with_cell, with_bounds, IsSameTables, HasObjective, HasRowAdded, AddsRow, HasRowChanged, HasColumnAdded, HasColumnChanged, HasRhsPut};
+ghost use Rattle.mpslp_builder.specs.Calls.{row_key_of, row_name, column_name, has_limits, cells_at, with_cell, with_bounds, IsSameTables, HasObjective, AddsRow, HasRowChanged, HasColumnChanged, HasRhsPut};
 
-use crate::tables::hints::LookUps;
 use crate::tables::{RowRef, Tables};
 use mpslp_builder_parts::{ObjectiveParts, RowParts};
 use mpslp_decimal::{Decimal, PackedDecimal};
@@ -67,18 +66,6 @@ impl Tables {
         let (_key, row) = self.rows.pair_mut(index);
         *row = old;
         Err(BuildFault::DuplicateRow)
-    }
-
-    /// Adds a column without coefficients, which will be looked up in this order. Its name must be new.
-    pub(crate) fn add_column(&mut self, name: Name, order: LookUps) -> Result<(), AllocError>
-        requires { has_name (draft None None self.old).columns name ≡ false }
-        ensures ok { OnOk result (HasColumnAdded self.old name new_column self.new) }
-        ensures err { OnErr result (IsSameTables self.old self.new) }
-    {
-        self.recent = self.columns.len();
-        let seed = *self.rows.hasher();
-        self.hints.note(order, seed, name.as_bytes(), self.recent)?;
-        self.columns.insert(name)
     }
 
     /// Stores a coefficient at a free place.
