@@ -13,7 +13,10 @@ use Prelude.{refusals_in_turn, no_part, name_of_row_key, column_satisfies, entry
 use Prelude.{drop, get_or, not, inl, inr, ◌+◌, ◌≤◌, insert, Err, IfOk, ◌-◌, AllocError, list_any, flat_map, IsErrAnd, lookup, is_gt}
 use Prelude.{is_sorted, slice_get_read, flat_map-append, insert_end, list_any-append, same_bytes, bytes_cmp, OutOfMemory, UnknownRow}
 use Prelude.{DuplicateEntry, put-insert, found_nowhere, place_after, sorted-put, head_of, is_sorted-sorted_of, Answer, term_declared}
-use Prelude.{DeclaresInTurn, HasColumn, AreDeclaredUnless}
+use Prelude.{DeclaresInTurn, HasColumn, AreDeclaredUnless, have_infinite_side, is_legal, IsMade, Answers, those_of, DuplicateRow, InfiniteValue}
+use Rattle.mpslp_builder.specs.{Answer.AnswersTo, Calls.{AddsRow, HasNewRow}, LineTables.Starts}
+use Rattle.mpslp_builder_parts.specs.ColumnTable.{Inserts}
+use Prelude.{find-sorted_of, each_part}
 use Rattle.mpslp_builder.{specs.declared.tables.RowRef.TheVariants.Row, proofs.TableDrafts.{column_draft, column_numbered, kept_numbered}}
 use Rattle.mpslp_builder.proofs.TableDrafts.{mark_draft, integer_draft, binary_draft, semi_draft, sides_draft, cell_draft, cell_numbered}
 use Rattle.mpslp_builder.proofs.TableDrafts.{row_draft, row_numbered, written_numbered, range_draft, rhs_draft, objective_draft}
@@ -45,6 +48,18 @@ same_numbered = grind arith
 pub objective_absent : (o : Option ObjectiveParts) → is_some (name_of_objective o) ≡ false → o ≡ None
 objective_absent = grind arith
 
+-- the results of a call that adds a row
+row_turned : {P Q R S : Type 0} (there infinite : Bool) (answer : Answer) → infinite ≡ false → (P → R) → (Q → S)
+    → Answers (those_of ((there, DuplicateRow) ∷ [])) answer P Q
+    → Answers (those_of ((there, DuplicateRow) ∷ (infinite, InfiniteValue) ∷ [])) answer R S
+row_turned = grind arith
+
+row_either : {P Q R : Type 0} (there : Bool) (answer : Answer) → (P → R) → (Q → R) → Answers (those_of ((there, DuplicateRow) ∷ [])) answer P Q → R
+row_either = grind arith
+
+row_free : (there infinite : Bool) → there ≡ false → infinite ≡ false → those_of ((there, DuplicateRow) ∷ (infinite, InfiniteValue) ∷ []) ≡ []
+row_free = grind arith
+
 module _ (sense : Option Sense) (constant : Option Number) (t u : Tables) where
   -- ---- a row
 
@@ -59,6 +74,26 @@ module _ (sense : Option Sense) (constant : Option Number) (t u : Tables) where
       → has_row (draft sense constant t) k ≡ false → IsNumbered u
   row_added_numbered k definition numbered h few absent = numbered_as _ _ (λ i. (h.objective i, h.rows i, h.columns i)) (row_numbered sense
       constant t.objective t.rows.entries t.columns.entries k definition numbered few absent)
+
+  -- a call that adds a row makes its declaration, or changes nothing
+  module _ (k : List ℕ) (definition given : RowDefinition) (is : definition ≡ given) (finite : have_infinite_side given ≡ false)
+      (numbered : IsNumbered t) (answer : Answer)
+      (h : AddsRow t k (record { definition = definition; rhs = None; range = None }) answer u) where
+    row_declared : HasNewRow t k (record { definition = definition; rhs = None; range = None }) u
+        → draft sense constant u ≡ with_declaration (draft sense constant t) (declare_row k given)
+    row_declared new = row_added k definition numbered new.added new.absent ∙ ap (λ d. with_declaration (draft sense constant t) (declare_row k d)) is
+
+    pub row_answered : (all : Draft) → draft sense constant t ≡ all → AnswersTo all (declare_row k given) answer (draft sense constant u)
+    row_answered all seen = subst (λ before. AnswersTo before (declare_row k given) answer (draft sense constant u)) seen
+        (row_turned _ _ answer finite row_declared (same_tables sense constant t u) h)
+
+    pub row_kept : is_legal (declare_row k given) ≡ true → IsMade (draft sense constant t) → IsMade (draft sense constant u) × IsNumbered u
+    row_kept legal made = row_either _ answer (λ new. (
+      made_after (declare_row k given) (row_declared new) made legal
+          (row_free _ _ new.absent finite) refl,
+      row_added_numbered k definition numbered new.added new.few new.absent,
+    ))
+        (λ same. (subst IsMade (sym (same_tables sense constant t u same)) made, same_numbered t u same numbered)) h
 
   module _ (change : RowParts → RowParts) (i : ℕ) (h : HasRowChanged t i change u) where
     rows_written : draft sense constant u ≡ draft_from sense constant t.objective (set_value_at t.rows.entries i (change h.parts)) t.columns.entries
@@ -368,6 +403,19 @@ module _ (t u : Tables) (numbered : IsNumbered t) where
           semi = ap (λ o. option_map_or (λ e. e.1.semi) o false) here;
         }
 
+-- a column that is inserted
+module _ (t u : Tables) (numbered : IsNumbered t) (name : List ℕ) (legal : is_mps_name name ≡ true) (objective : u.objective ≡ t.objective)
+    (rows : u.rows.entries ≡ t.rows.entries) where
+  pub inserted : (r : Result (ℕ × Bool) AllocError) → Inserts t.columns name r u.columns → Follows t u × Starts t name r u
+  inserted (Ok (n, true)) h =
+      let absent = ap is_some (find-sorted_of bytes_cmp bytes_total name (each_part no_part t.columns.entries) ∙ h.0) in
+      let added : HasColumnAdded t name new_column u = record { objective = objective; rows = rows; columns = h.2 } in (
+        start_follows t u numbered name added absent legal,
+        (absent, subst (λ n. HasStarted t name n u) (sym h.1) (started t u numbered name added absent)),
+      )
+  inserted (Ok (n, false)) h = let same : IsSameTables t u = record { objective = objective; rows = rows; columns = h.2 } in (follows_same t u numbered same, (h.1, same))
+  inserted (Err e) h = let same : IsSameTables t u = record { objective = objective; rows = rows; columns = h } in (follows_same t u numbered same, same)
+
 -- a column that is declared may be declared again
 pub taken_next : (earlier later : Draft) (column : List ℕ) (more : Declarations)
     → with_declaration earlier (declare_column column) ≡ earlier → refusals_in_turn earlier more ≡ []
@@ -427,6 +475,21 @@ any-more = grind (arith, any-both)
 -- a column that is declared may be declared again
 pub there_laid : (t : Tables) (name : List ℕ) (i : ℕ) → column_name t i ≡ Some name → AreDeclared t (declare_column name ∷ []) t
 there_laid = grind (arith, put_again, is_sorted-sorted_of, bytes_total, number_there)
+
+laid_same : (t u v : Tables) (ds : Declarations) → AreDeclared t ds u → IsSameTables u v → AreDeclared t ds v
+laid_same t u v ds laid same = record { free = laid.free; declared = λ sense constant. same_tables sense constant u v same ∙ laid.declared sense constant }
+
+-- a column that is new or there, and what is not declared may change
+pub has_column_of : (t u v : Tables) (name : List ℕ) (of_name : ℕ × Bool) → Starts t name (Ok of_name) u → IsSameTables u v
+    → HasColumn t name of_name.0 v
+has_column_of t u v name (n, true) h same = record {
+  named = ap (λ es. option_map (λ e. e.0) (slice_get es n)) same.columns ∙ h.1.named;
+  declared = laid_same t u v _ h.1.declared same;
+}
+has_column_of t u v name (n, false) h same = record {
+  named = ap (λ es. option_map (λ e. e.0) (slice_get es n)) (same.columns ∙ h.1.columns) ∙ h.0;
+  declared = laid_same t u v _ (laid_same t t u _ (there_laid t name n h.0) h.1) same;
+}
 
 pub unless_then : (t u v : Tables) (ds es : Declarations) (answer : Answer) → AreDeclared t ds u → AreDeclaredUnless u es answer v
     → AreDeclaredUnless t (ds ++ es) answer v

@@ -14,6 +14,8 @@ use Prelude.{name_of_row_key, cells_by_name, draft_from, AreNumbered, ObjectiveP
 use Prelude.{nat_cmp-IsAntisymmetric, Limit, same_key, find-all_cells, with_declarations, declare_column, declare_coefficient}
 use Prelude.{declare_marked, declare_integer, declare_binary, declare_semi, bounds_declared, has_column, has_coefficient, no_part, cells_of}
 use Prelude.{lower_of, upper_of, mark_of, integer_of, binary_of, semi_of, new_column, with_cell, with_bounds}
+use Prelude.{Tables, draft, BuildFault, DuplicateRow, OutOfMemory, if◌then◌else◌, HasRowAdded, IsSameTables, Err, Ok}
+use Rattle.mpslp_builder.specs.Calls.{AddsRow}
 use Rattle.std.specs.FinMap.Entries.{find_tied}
 use Rattle.mpslp_model_core.proofs.CellLemmas.{key_total, first_none, find-put_cell, swapped, clear}
 use Rattle.mpslp_builder.proofs.DraftEntries.{put_all}
@@ -183,6 +185,18 @@ or_right = grind arith
 pub absent_key : {V X : Type 0} (f : V → X) (q : List ℕ) (es : List (List ℕ × V))
     → has_name (sorted_of bytes_cmp (each_part f es)) q ≡ false → lookup (λ k. same_bytes q k) es ≡ None
 absent_key f q es h = none_there _ (has_name-each_part f q es ∙ h)
+
+-- a row that is not added, if the objective has another name
+pub row_refused : (t u : Tables) (name : List ℕ) (parts : RowParts) (b : Bool) (fault : BuildFault)
+    → is_objective (draft None None t) name ≡ false → is_some (lookup (λ k. same_bytes name k) t.rows.entries) ≡ b
+    → fault ≡ (if b then DuplicateRow else OutOfMemory) → IsSameTables t u → AddsRow t name parts (Err fault) u
+row_refused t u name parts b fault other found is same = grind (arith, has_name-each_part definition_of name t.rows.entries)
+
+-- and one that is added
+pub row_new : (t u : Tables) (name : List ℕ) (parts : RowParts) → is_objective (draft None None t) name ≡ false
+    → lookup (λ k. same_bytes name k) t.rows.entries ≡ None → length t.rows.entries < 4294967294 → HasRowAdded t name parts u
+    → AddsRow t name parts (Ok tt) u
+row_new t u name parts other none few added = grind (arith, has_name-each_part definition_of name t.rows.entries)
 
 -- ---- a part that is put, whether it was declared or not
 

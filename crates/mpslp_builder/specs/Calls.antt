@@ -1,5 +1,5 @@
 -- What tables state by number, and what each call changes in them.
-use Rattle.std.specs.Prelude.{◌≡◌, ℕ, zero, suc, Bool, true, false, ◌&&◌, ◌||◌, List, [], ◌∷◌, ◌++◌, Option, None, Some, is_some, slice_get, Result, Ok, Err}
+use Rattle.std.specs.Prelude.{◌≡◌, ◌<◌, ℕ, zero, suc, Bool, true, false, ◌&&◌, ◌||◌, List, [], ◌∷◌, ◌++◌, Option, None, Some, is_some, length, slice_get, Result, Ok, Err}
 use Rattle.std.specs.Option.{option_map, option_map_or}
 use Rattle.indexmap.specs.IndexMap.{set_value_at}
 use Rattle.mpslp_decimal.specs.Decimal.{Number}
@@ -9,9 +9,11 @@ use Rattle.mpslp_model_core.specs.Model.{CoefficientKey}
 use Rattle.mpslp_model_core.specs.Limits.{is_definition_by_limits}
 pub use Rattle.mpslp_builder_parts.specs.Parts.{new_column, with_bounds, with_cell}
 use Rattle.mpslp_builder_parts.specs.Parts.{ColumnParts}
-use Rattle.mpslp_builder.specs.Answer.{Answer}
+use Rattle.mpslp_types.specs.Lists.{those_of}
+use Rattle.mpslp_builder.specs.Answer.{Answer, Answers}
+use Rattle.mpslp_builder.specs.Refusal.{row_tests}
 use Rattle.mpslp_builder.specs.Declaration.{Draft, has_row, has_column, has_coefficient}
-use Rattle.mpslp_builder.specs.Tables.{definition_of, cells_of, name_of_row_key, cells_by_name}
+use Rattle.mpslp_builder.specs.Tables.{definition_of, cells_of, draft, name_of_row_key, cells_by_name}
 use Rattle.mpslp_builder_parts.specs.declared.parts.ObjectiveParts.{ObjectiveParts}
 use Rattle.mpslp_builder_parts.specs.RowParts.{RowParts}
 use Rattle.mpslp_builder.specs.declared.tables.RowRef.{RowRef}
@@ -97,6 +99,16 @@ pub record HasRowAdded (old : Tables) (name : List ℕ) (parts : RowParts) (new 
   pub objective : new.objective ≡ old.objective
   pub rows : new.rows.entries ≡ old.rows.entries ++ (name, parts) ∷ []
   pub columns : new.columns.entries ≡ old.columns.entries
+
+-- one more row, whose name is new, and its number fits
+pub record HasNewRow (old : Tables) (name : List ℕ) (parts : RowParts) (new : Tables) : Type 0 where
+  pub added : HasRowAdded old name parts new
+  pub few : length old.rows.entries < 4294967294
+  pub absent : has_row (draft None None old) name ≡ false
+
+-- the result of a call that adds a row: an error changes nothing
+abbrev pub AddsRow : Tables → List ℕ → RowParts → Answer → Tables → Type 0
+AddsRow old name parts answer new = Answers (those_of (row_tests (draft None None old) name)) answer (HasNewRow old name parts new) (IsSameTables old new)
 
 -- only the row at an index is changed, to these parts
 pub record HasRowWritten (old : Tables) (i : ℕ) (parts : RowParts) (new : Tables) : Type 0 where

@@ -1,15 +1,16 @@
 -- What is known of tables while a line of a column is declared, by number.
-use Rattle.std.specs.Prelude.{◌≡◌, ◌≢◌, ℕ, Bool, true, false, ◌&&◌, List, [], ◌∷◌, Option, Some, None}
+use Rattle.std.specs.Prelude.{◌≡◌, ◌≢◌, ℕ, Bool, true, false, ◌&&◌, List, [], ◌∷◌, Option, Some, None, Result, Ok, Err}
 use Rattle.std.specs.Option.{ForSome}
 use Rattle.std.specs.Ordering.{nat_cmp}
 use Rattle.std.specs.FinMap.{find}
+use Rattle.std.specs.declared.alloc.AllocError.{AllocError}
 use Rattle.mpslp_decimal.specs.Decimal.{Number}
 use Rattle.mpslp_types.specs.declared.kinds.Sense.{Sense}
 use Rattle.mpslp_builder.specs.Declaration.{declare_column, Declarations, with_declarations, has_row, has_column}
 use Rattle.mpslp_builder.specs.Refusal.{refusals_in_turn}
 use Rattle.mpslp_builder.specs.Made.{IsMade}
 use Rattle.mpslp_builder.specs.Tables.{draft, IsNumbered}
-use Rattle.mpslp_builder.specs.Calls.{row_name, column_name, column_satisfies, cells_at}
+use Rattle.mpslp_builder.specs.Calls.{row_name, column_name, column_satisfies, cells_at, IsSameTables}
 use Rattle.mpslp_builder.specs.ColumnLine.{column_line, entry_declared, listed}
 use Rattle.mpslp_builder.specs.declared.entries.Entries.{Entries}
 use Rattle.mpslp_builder.specs.declared.tables.lines.RowNumbers.{RowNumbers}
@@ -73,3 +74,9 @@ pub record HasStarted (t : Tables) (name : List ℕ) (column : ℕ) (u : Tables)
   pub declared : AreDeclared t (declare_column name ∷ []) u
   pub cells : cells_at u column ≡ []
   pub semi : column_satisfies u column (λ parts. parts.semi) ≡ false
+
+-- a column of this name is new, or it is there and nothing changes; it has this number
+abbrev pub Starts : Tables → List ℕ → Result (ℕ × Bool) AllocError → Tables → Type 0
+Starts t name (Ok (column, true)) u = (has_column (draft None None t) name ≡ false) × HasStarted t name column u
+Starts t name (Ok (column, false)) u = (column_name t column ≡ Some name) × IsSameTables t u
+Starts t name (Err _) u = IsSameTables t u

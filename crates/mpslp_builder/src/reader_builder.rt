@@ -11,7 +11,6 @@ ghost use Rattle.mpslp_builder.specs.RowTerms.{term_declared, DeclaresInTurn};
 use crate::builder::Builder;
 use crate::entries::Entries;
 use crate::row_terms::RowTerms;
-use crate::tables::hints::LookUps;
 use mpslp_decimal::Decimal;
 use mpslp_types::{BuildFault, Name};
 
@@ -82,10 +81,10 @@ impl ReaderBuilder {
         let Some(rows) = draft.tables.row_numbers(entries) else {
             return Ok(false);
         };
-        if draft.has_column(name.as_bytes()) {
+        let (column, is_new) = draft.tables.start_column(name)?;
+        if !is_new {
             return Ok(false);
         }
-        let column = draft.tables.start_column(name, LookUps::InOrder)?;
         draft.tables.put_line(column, is_marked, rows, entries)?;
         Ok(true)
     }

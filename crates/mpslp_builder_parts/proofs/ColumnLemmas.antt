@@ -1,15 +1,15 @@
 -- Entries of which contracts see a part each, for any function that gives this part.
 use Rattle.std.proofs.Common.{◌≡◌, refl, sym, ap, ◌∙◌, ℕ, zero, suc, ◌<◌, List, [], ◌∷◌, ◌++◌, length, Bool, true, false, cond}
 use Rattle.std.proofs.Common.{arith, rules}
-use Rattle.std.specs.Prelude.{Option, None, Some, is_some, slice_get, OnOk, OnErr, Result}
-use Rattle.std.specs.{FinMap.find, List.{AllByRecursion, IsDistinct}, Map.{keys_of, lookup, lookup_key}}
+use Rattle.std.specs.Prelude.{Option, None, Some, is_some, slice_get, OnOk, OnErr, Ok, Result}
+use Rattle.std.specs.{FinMap.find, List.{AllByRecursion, IsDistinct, position_or_len}, Map.{keys_of, lookup, lookup_key}}
 use Rattle.std.specs.{Cmp.Lexicographic.texts_ties, Option.{option_map, option_map_or}}
-use Rattle.indexmap.specs.IndexMap.{set_value_at}
+use Rattle.indexmap.specs.IndexMap.{insert_entry, set_value_at}
 use Rattle.mpslp_decimal.specs.Decimal.{Number}
 use Rattle.mpslp_types.specs.Name.{bytes_cmp, same_bytes}
 use Rattle.mpslp_model_core.specs.Numbered.{IsOnce, each_part}
-use Rattle.mpslp_builder_parts.specs.ColumnTable.{ColumnEntries, IsChanged, cells_in_column, name_in}
-use Rattle.mpslp_builder_parts.specs.Parts.{ColumnParts, cells_of, no_part}
+use Rattle.mpslp_builder_parts.specs.ColumnTable.{ColumnEntries, Inserts, IsChanged, cells_in_column, name_in}
+use Rattle.mpslp_builder_parts.specs.Parts.{ColumnParts, cells_of, new_column, no_part}
 use Rattle.mpslp_builder_parts.proofs.{PassLemmas.each_part-append, TakenLemmas.part_at}
 
 -- ---- one entry
@@ -64,11 +64,23 @@ module _ {V X : Type 0} (f : V → X) where
   once-from_distinct [] h = tt
   once-from_distinct (e ∷ es) h = (none_of e.0 es h.0, once-from_distinct es h.1)
 
+-- a name that is there keeps its place when it is inserted, so its value can be put back
+pub value_back : {V : Type 0} (q : List ℕ) (w old : V) (es : List (List ℕ × V)) → Some old ≡ lookup (λ k. same_bytes q k) es
+    → set_value_at (insert_entry (λ x y. same_bytes x y) es q w) (position_or_len (λ k. same_bytes q k) (keys_of es)) old ≡ es
+value_back q w old [] h = cc
+value_back q w old (e ∷ es) h = grind (arith, value_back q w old es)
+
 -- ---- what a look-up shows
 
 key_found : {K X : Type 0} (t : K → Bool) (es : List (K × X)) (k : K) → Some k ≡ lookup_key t es → t k ≡ true
 key_found t [] k h = cc
 key_found {K} t (e ∷ es) k h = grind (arith, key_found t es k)
+
+-- so has the one at whose index a name is inserted that is there
+pub name_back : {V : Type 0} (q : List ℕ) (old : V) (es : List (List ℕ × V)) → Some old ≡ lookup (λ k. same_bytes q k) es
+    → option_map (λ e. e.0) (slice_get es (position_or_len (λ k. same_bytes q k) (keys_of es))) ≡ Some q
+name_back q old [] h = cc
+name_back q old (e ∷ es) h = search (rules, h, name_back q old es)
 
 -- the entry that is found has the name that was looked for
 pub found_name : {X : Type 0} (q : List ℕ) (es : List (List ℕ × X)) (i : ℕ) (k : List ℕ) (x : X) → slice_get es i ≡ Some (k, x)
@@ -92,6 +104,11 @@ mapped_twice = grind arith
 
 mapped_or : {X Y : Type 0} (f : X → List Y) (o : Option X) → option_map_or (λ part. part) (option_map f o) [] ≡ option_map_or f o []
 mapped_or = grind arith
+
+-- a column that is inserted is new if its name is
+pub inserted : (old new : ColumnEntries) (name : List ℕ) (of_name : ℕ × Bool) → find bytes_cmp name (each_part no_part old.entries) ≡ None
+    → Inserts old name (Ok of_name) new → new.entries ≡ old.entries ++ (name, new_column) ∷ []
+inserted = grind arith
 
 -- ---- the columns of a table
 

@@ -1,9 +1,13 @@
 -- The columns by number, in the order of their declarations.
-use Rattle.std.specs.Prelude.{◌≡◌, ℕ, List, [], Option, Some, slice_get}
+use Rattle.std.specs.Prelude.{◌≡◌, ℕ, Bool, true, false, List, [], ◌∷◌, ◌++◌, Option, Some, None, Result, Ok, Err, is_some, length, slice_get}
 use Rattle.std.specs.Option.{option_map, option_map_or}
+use Rattle.std.specs.FinMap.{find}
+use Rattle.std.specs.declared.alloc.AllocError.{AllocError}
 use Rattle.indexmap.specs.IndexMap.{set_value_at}
 use Rattle.mpslp_decimal.specs.Decimal.{Number}
-use Rattle.mpslp_builder_parts.specs.Parts.{ColumnParts, cells_of}
+use Rattle.mpslp_types.specs.Name.{bytes_cmp}
+use Rattle.mpslp_model_core.specs.Numbered.{each_part}
+use Rattle.mpslp_builder_parts.specs.Parts.{ColumnParts, cells_of, new_column, no_part}
 
 pub record ColumnEntries : Type 0 where
   pub entries : List (List ℕ × ColumnParts)
@@ -15,6 +19,14 @@ name_in columns i = option_map (λ e. e.0) (slice_get columns.entries i)
 -- its coefficients
 abbrev pub cells_in_column : ColumnEntries → ℕ → List (ℕ × Number)
 cells_in_column columns i = option_map_or (λ e. cells_of e.1) (slice_get columns.entries i) []
+
+-- a new column is added, and has this number, or the column of this name has it and nothing changes
+abbrev pub Inserts : ColumnEntries → List ℕ → Result (ℕ × Bool) AllocError → ColumnEntries → Type 0
+Inserts old name (Ok (number, true)) new =
+    (find bytes_cmp name (each_part no_part old.entries) ≡ None) × (number ≡ length old.entries) × (new.entries ≡ old.entries ++ (name, new_column) ∷ [])
+Inserts old name (Ok (number, false)) new =
+    (is_some (find bytes_cmp name (each_part no_part old.entries)) ≡ true) × (name_in old number ≡ Some name) × (new.entries ≡ old.entries)
+Inserts old name (Err _) new = new.entries ≡ old.entries
 
 -- only the column of a number is changed, in this way
 pub record IsChanged (i : ℕ) (change : ColumnParts → ColumnParts) (old new : ColumnEntries) : Type 0 where

@@ -10,7 +10,7 @@ ghost use Rattle.mpslp_model_core.specs.ModelColumns.{IsWithin, span_bounds, spa
 ghost use Rattle.mpslp_model_core.specs.Numbered.{IsOnce, each_part};
 ghost use Rattle.mpslp_builder_parts.specs.Parts.{cells_of, no_part, parts_with, new_column, with_cell, with_bounds, definition_in, bounds_of, moved_in};
 ghost use Rattle.mpslp_builder_parts.specs.CoefficientLog.{IsLog};
-ghost use Rattle.mpslp_builder_parts.specs.ColumnTable.{name_in, cells_in_column, IsChanged};
+ghost use Rattle.mpslp_builder_parts.specs.ColumnTable.{name_in, cells_in_column, Inserts, IsChanged};
 ghost use Rattle.mpslp_builder_parts.specs.StoredColumns.{parts_of, definition_of_stored, run_end, AreRuns, IsWhole};
 
 use crate::coefficient_log::CoefficientLog;
@@ -232,13 +232,32 @@ impl ColumnTable {
         ensures ok { OnOk result (self.new.entries ≡ self.old.entries ++ (name, new_column) ∷ []) }
         ensures err { OnErr result (self.new.entries ≡ self.old.entries) }
     {
+        self.insert_new(name)?;
+        Ok(())
+    }
+
+    /// Adds a column of which only the name is declared, if no column has this name. Returns the number of the column of this name, and
+    /// whether it is new. The name is looked up only once.
+    ///
+    /// # Errors
+    ///
+    /// [`AllocError`] if the allocation fails. Then nothing changes, and the name is dropped.
+    pub fn insert_new(&mut self, name: Name) -> Result<(usize, bool), AllocError>
+        ensures { Inserts self.old name result self.new }
+    {
+        let count = self.len();
         let stored = StoredColumn {
             last: 0,
             last_row: 0,
             definition: ColumnDefinition::new(),
         };
-        self.columns.insert(name, stored)?;
-        Ok(())
+        let (number, old) = self.columns.insert_full(name, stored)?;
+        let Some(old) = old else {
+            return Ok((count, true));
+        };
+        let (_name, stored) = self.columns.pair_mut(number);
+        *stored = old;
+        Ok((number, false))
     }
 
     /// Puts a coefficient of the column of a number. Its row must not have one yet.

@@ -22,7 +22,7 @@ fn refuse(tests: &[(bool, BuildFault)]) -> Result<(), BuildFault>
 }
 
 /// Whether no value meets the limits: the lower one is plus infinity, or the upper one is minus infinity.
-fn have_infinite_limit(lower: &Limit, upper: &Limit) -> bool
+pub(crate) fn have_infinite_limit(lower: &Limit, upper: &Limit) -> bool
     ensures { result ≡ have_infinite_side (by_limits lower.now upper.now) }
 {
     match (lower, upper) {

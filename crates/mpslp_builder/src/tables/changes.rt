@@ -1,19 +1,19 @@
 //! What each declaration changes in the tables, by number.
 
-ghost use Rattle.std.specs.Prelude.{◌≡◌, ◌<◌, IsTrue, OnOk, OnErr, Some, None, true, false, suc, is_some};
+ghost use Rattle.std.specs.Prelude.{◌≡◌, ◌<◌, IsTrue, OnOk, OnErr, Some, None, true, false, if◌then◌else◌, suc, is_some};
 ghost use Rattle.std.specs.Ordering.{nat_cmp};
 ghost use Rattle.std.specs.FinMap.{find};
 ghost use Rattle.indexmap.specs.IndexMap.{index_map_len};
-ghost use Rattle.mpslp_builder.specs.Declaration.{has_name};
+ghost use Rattle.mpslp_types.specs.declared.faults.BuildFault.TheVariants.{DuplicateRow, OutOfMemory};
+ghost use Rattle.mpslp_builder.specs.Declaration.{has_row};
 ghost use Rattle.mpslp_builder.specs.Tables.{draft};
-ghost use Rattle.mpslp_builder.specs.Calls.{row_key_of, row_name, column_name, has_limits, cells_at, new_column, with_cell, with_bounds, IsSameTables, HasObjective, HasRowAdded, HasRowChanged, HasColumnAdded, HasColumnChanged, HasRhsPut};
+ghost use Rattle.mpslp_builder.specs.Calls.{row_key_of, row_name, column_name, has_limits, cells_at, with_cell, with_bounds, IsSameTables, HasObjective, AddsRow, HasRowChanged, HasColumnChanged, HasRhsPut};
 
-use crate::tables::hints::LookUps;
 use crate::tables::{RowRef, Tables};
 use mpslp_builder_parts::{ObjectiveParts, RowParts};
 use mpslp_decimal::{Decimal, PackedDecimal};
 use mpslp_model_core::PackedRowDefinition;
-use mpslp_types::{Limit, Name};
+use mpslp_types::{BuildFault, Limit, Name};
 use std::alloc::{AllocError, Global};
 
 /// The maximum number of rows: they and the objective have numbers of 32 bits.
@@ -28,38 +28,44 @@ impl Tables {
     }
 
     /// Whether one more row can be numbered.
-    pub(crate) fn has_room(&self) -> bool
+    fn has_room(&self) -> bool
         ensures { IsTrue result → index_map_len self.now.rows < MOST_ROWS }
     {
         self.rows.len() < MOST_ROWS
     }
 
-    /// Adds a row without right-hand side and range. Its name must be new.
+    /// The error of a row that cannot be added.
+    fn fault_of_row(&self, name: &[u8]) -> BuildFault
+        ensures { result ≡ (if has_row (draft None None self.now) name.now then DuplicateRow else OutOfMemory) }
+    {
+        if self.has_row(name) {
+            BuildFault::DuplicateRow
+        } else {
+            BuildFault::OutOfMemory
+        }
+    }
+
+    /// Adds a row without right-hand side and range. Most names are new, so the row is looked up and added at once.
     pub(crate) fn add_row(
         &mut self,
         name: Name,
         definition: PackedRowDefinition,
-    ) -> Result<(), AllocError>
-        requires { has_name (draft None None self.old).rows name ≡ false }
-        ensures ok { OnOk result (HasRowAdded self.old name (record { definition = definition; rhs = None; range = None }) self.new) }
-        ensures err { OnErr result (IsSameTables self.old self.new) }
+    ) -> Result<(), BuildFault>
+        ensures { AddsRow self.old name (record { definition = definition; rhs = None; range = None }) result self.new }
     {
-        self.recent_row = self.rows.len();
-        let parts = RowParts::new(&definition);
-        self.rows.insert(name, parts)?;
-        Ok(())
-    }
-
-    /// Adds a column without coefficients, which will be looked up in this order. Its name must be new.
-    pub(crate) fn add_column(&mut self, name: Name, order: LookUps) -> Result<(), AllocError>
-        requires { has_name (draft None None self.old).columns name ≡ false }
-        ensures ok { OnOk result (HasColumnAdded self.old name new_column self.new) }
-        ensures err { OnErr result (IsSameTables self.old self.new) }
-    {
-        self.recent = self.columns.len();
-        let seed = *self.rows.hasher();
-        self.hints.note(order, seed, name.as_bytes(), self.recent)?;
-        self.columns.insert(name)
+        if self.is_objective(name.as_bytes()) || !self.has_room() {
+            return Err(self.fault_of_row(name.as_bytes()));
+        }
+        let Ok((index, old)) = self.rows.insert_full(name, RowParts::new(&definition)) else {
+            return Err(BuildFault::OutOfMemory);
+        };
+        self.recent_row = index;
+        let Some(old) = old else {
+            return Ok(());
+        };
+        let (_key, row) = self.rows.pair_mut(index);
+        *row = old;
+        Err(BuildFault::DuplicateRow)
     }
 
     /// Stores a coefficient at a free place.

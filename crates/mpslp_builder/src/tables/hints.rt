@@ -23,15 +23,6 @@ pub(crate) struct Hints {
     pairs: Vec<(u32, u32)>,
 }
 
-/// In which order names are looked up.
-#[derive(Clone, Copy)]
-pub(crate) enum LookUps {
-    /// Mostly in the order of their declarations, so that a hint would save nothing.
-    InOrder,
-    /// In any order.
-    InAnyOrder,
-}
-
 /// The hash of a name.
 fn hash_of(seed: HashSeed, name: &[u8]) -> u64 {
     let mut hasher = seed.build_hasher();
@@ -109,34 +100,25 @@ impl Hints {
         Ok(())
     }
 
-    /// Stores the number of a name, by its hash.
-    fn put(&mut self, hash: u64, number: usize) -> Result<(), AllocError> {
-        if number >= self.pairs.len() {
-            self.grow()?;
-        }
-        let (index, rest) = self.split(hash);
-        if let Some(pair) = self.pairs.get_mut(index) {
-            *pair = with_hint(*pair, rest | (number as u64 & LOW) as u32);
-        }
-        Ok(())
-    }
-
-    /// Stores the number of a name, if the name will be looked up in any order.
+    /// Stores the number of a name. That saves something if names are looked up in another order than that of their declarations.
     ///
     /// # Errors
     ///
     /// [`AllocError`] if the allocation fails.
     pub(crate) fn note(
         &mut self,
-        order: LookUps,
         seed: HashSeed,
         name: &[u8],
         number: usize,
     ) -> Result<(), AllocError> {
-        match order {
-            LookUps::InOrder => Ok(()),
-            LookUps::InAnyOrder => self.put(hash_of(seed, name), number),
+        if number >= self.pairs.len() {
+            self.grow()?;
         }
+        let (index, rest) = self.split(hash_of(seed, name));
+        if let Some(pair) = self.pairs.get_mut(index) {
+            *pair = with_hint(*pair, rest | (number as u64 & LOW) as u32);
+        }
+        Ok(())
     }
 }
 

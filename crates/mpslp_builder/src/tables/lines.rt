@@ -1,20 +1,19 @@
 //! A line of a column by number: its column, that it is marked, and its coefficients.
 
-ghost use Rattle.std.specs.Prelude.{◌≡◌, ◌≢◌, ◌&&◌, ◌++◌, ℕ, List, IfOk, IfSome, OnOk, None, Some, false, true, is_some};
+ghost use Rattle.std.specs.Prelude.{◌≡◌, ◌≢◌, ◌&&◌, ◌++◌, ℕ, List, IfSome, OnOk, None, Some, false, true, is_some};
 ghost use Rattle.std.specs.List.{flat_map};
 ghost use Rattle.std.specs.Ordering.{nat_cmp};
 ghost use Rattle.std.specs.FinMap.{find};
 ghost use Rattle.mpslp_types.specs.Name.{is_mps_name};
 ghost use Rattle.mpslp_types.specs.Lists.{when};
-ghost use Rattle.mpslp_builder.specs.Declaration.{has_name, declare_marked};
+ghost use Rattle.mpslp_builder.specs.Declaration.{declare_marked};
 ghost use Rattle.mpslp_builder.specs.ColumnLine.{mark_declared, entries_declared, parts_declared};
-ghost use Rattle.mpslp_builder.specs.Tables.{draft, IsNumbered};
+ghost use Rattle.mpslp_builder.specs.Tables.{IsNumbered};
 ghost use Rattle.mpslp_builder.specs.Calls.{row_name, column_name, column_satisfies, cells_at};
-ghost use Rattle.mpslp_builder.specs.LineTables.{AreRows, AreKnownRows, AreFree, IsLinePlace, IsFreeLine, AreDeclaredOfColumn, IsEntryDeclared, Follows, HasStarted};
+ghost use Rattle.mpslp_builder.specs.LineTables.{AreRows, AreKnownRows, AreFree, IsLinePlace, IsFreeLine, AreDeclaredOfColumn, IsEntryDeclared, Follows, Starts};
 
 use crate::entries::Entries;
 use crate::tables::Tables;
-use crate::tables::hints::LookUps;
 use mpslp_decimal::Decimal;
 use mpslp_decimal::laws::each_value_is_a_decimal;
 use mpslp_types::Name;
@@ -98,18 +97,18 @@ impl Tables {
         Some(LinePlace { column, rows })
     }
 
-    /// Adds a column without coefficients, which will be looked up in this order. Its name must be new. Returns its number.
-    pub(crate) fn start_column(&mut self, name: Name, order: LookUps) -> Result<usize, AllocError>
+    /// Adds a column without coefficients, if no column has this name. Returns the number of the column of this name, and whether it
+    /// is new. Most names are new, so the column is looked up and added at once.
+    pub(crate) fn start_column(&mut self, name: Name) -> Result<(usize, bool), AllocError>
         requires numbered { IsNumbered self.old }
-        requires absent { has_name (draft None None self.old).columns name ≡ false }
         requires legal { is_mps_name name ≡ true }
         ensures kept { Follows self.old self.new }
         ensures rows { self.new.rows.entries ≡ self.old.rows.entries }
-        ensures ok { IfOk result (λ column. HasStarted self.old name column self.new) }
+        ensures started { Starts self.old name result self.new }
     {
-        let column = self.columns.len();
-        self.add_column(name, order)?;
-        Ok(column)
+        let (column, is_new) = self.columns.insert_new(name)?;
+        self.recent = column;
+        Ok((column, is_new))
     }
 
     /// Marks a column, if its line is in an integer block.

@@ -27,7 +27,7 @@ impl Tables {
     }
 
     /// Whether the objective has this name.
-    fn is_objective(&self, name: &[u8]) -> bool
+    pub(crate) fn is_objective(&self, name: &[u8]) -> bool
         ensures { result ≡ is_objective (draft None None self.now) name.now }
     {
         match &self.objective {

@@ -3,16 +3,14 @@
 ghost use Rattle.std.specs.Prelude.{◌≡◌, ℕ, List, IfOk, IfSome, None, Some, true, is_some};
 ghost use Rattle.std.specs.List.{flat_map};
 ghost use Rattle.mpslp_types.specs.Name.{IsMpsName};
-ghost use Rattle.mpslp_builder.specs.Declaration.{has_column};
 ghost use Rattle.mpslp_builder.specs.RowTerms.{term_declared};
-ghost use Rattle.mpslp_builder.specs.Tables.{draft, IsNumbered};
+ghost use Rattle.mpslp_builder.specs.Tables.{IsNumbered};
 ghost use Rattle.mpslp_builder.specs.Calls.{row_name, column_name};
 ghost use Rattle.mpslp_builder.specs.LineTables.{Follows};
 ghost use Rattle.mpslp_builder.specs.TermTables.{HasColumn, TermIsDeclaredUnless, TermsAreDeclaredUnless};
 
 use crate::row_terms::RowTerms;
 use crate::tables::Tables;
-use crate::tables::hints::LookUps;
 use indexmap::IndexMap;
 use mpslp_decimal::Decimal;
 use mpslp_types::laws::each_name_is_legal;
@@ -78,14 +76,17 @@ impl Tables {
         guesses
     }
 
-    /// The number of the column of this name. The column of the guessed number is compared first.
+    /// The number of the column of this name, unless it is probably new: no column has the guessed number. The column of that number is
+    /// compared first.
     #[inline(always)]
     fn column_from(&self, name: &[u8], guess: usize) -> Option<usize>
-        ensures number { IfSome result (λ i. column_name self.now i ≡ Some name.now) }
-        ensures found { is_some result ≡ has_column (draft None None self.now) name.now }
+        ensures { IfSome result (λ i. column_name self.now i ≡ Some name.now) }
     {
         if self.is_column(guess, name) {
             return Some(guess);
+        }
+        if guess >= self.columns.len() {
+            return None;
         }
         self.column_by_hash(name)
     }
@@ -98,11 +99,13 @@ impl Tables {
         ensures rows { self.new.rows.entries ≡ self.old.rows.entries }
         ensures ok { IfOk result (λ column. HasColumn self.old name.now column self.new) }
     {
-        self.each_name_occurs_once();
-        match self.column_from(name, guess) {
-            Some(column) => Ok(column),
-            None => self.start_column(Name::from_legal(alloc, name)?, LookUps::InAnyOrder),
+        if let Some(column) = self.column_from(name, guess) {
+            return Ok(column);
         }
+        let (column, _is_new) = self.start_column(Name::from_legal(alloc, name)?)?;
+        let seed = *self.rows.hasher();
+        self.hints.note(seed, name, column)?;
+        Ok(column)
     }
 
     /// Declares a term of a row, and its column if that is new.

@@ -1,16 +1,31 @@
-use Rattle.std.proofs.Common.{refl, ap, ◌∙◌, [], ◌∷◌, ◌++◌}
+use Rattle.std.{proofs.Common.{refl, sym, ap, ◌∙◌, [], ◌∷◌, ◌++◌, None}, specs.Prelude.{true, false, is_some}}
 use Rattle.mpslp_types.specs.Name.{same_bytes}
-use Rattle.mpslp_builder_parts.specs.RowParts.{RowParts}
-use Rattle.mpslp_builder.{specs.Tables.definition_of, proofs.TableDrafts.absent_key}
-use Rattle.indexmap.proofs.CallerLemmas.{insert_entry-new}
+use Rattle.mpslp_builder_parts.{specs.RowParts.RowParts, proofs.ColumnLemmas.value_back}
+use Rattle.mpslp_builder.{specs.Declaration.is_objective, specs.Tables.draft, proofs.TableDrafts.{row_refused, row_new}}
+use Rattle.indexmap.{specs.IndexMap.set_value_at, proofs.CallerLemmas.insert_entry-new}
 use Rattle.mpslp_builder.proofs.tables.Tables.add_row.Goals as goal
 
-pub returns-clause-ok : goal.returns-clause-ok
-returns-clause-ok c = record {
-  objective = refl;
-  rows = c.in_ok-insert.ensures.entries
-      ∙ insert_entry-new (λ x y. same_bytes x y) c.args.self.now.rows c.args.name c.new-parts.result
-      (absent_key definition_of c.args.name c.args.self.now.rows.entries c.requires)
-      ∙ ap (λ (parts : RowParts). c.args.self.now.rows.entries ++ (c.args.name, parts) ∷ []) c.new-parts.ensures;
-  columns = refl;
-}
+pub returns-in_default : goal.returns-in_default
+returns-in_default c = row_refused c.args.self.now _ c.args.name _ false _
+    (ap (is_objective (draft None None c.args.self.now)) (sym c.as_bytes.ensures) ∙ sym c.is_objective.ensures ∙ c.if-is_objective.false)
+    (ap is_some c.in_default.ensures.absent) refl (record { objective = refl; rows = c.in_default.ensures.err; columns = refl })
+
+pub returns-in_default-old : goal.returns-in_default-old
+returns-in_default-old c = let t = c.args.self.now in let absent = sym c.in-Ok.ensures.old ∙ c.in_default-old.is in row_new t _ c.args.name _
+    (ap (is_objective (draft None None t)) (sym c.as_bytes.ensures) ∙ sym c.is_objective.ensures ∙ c.if-is_objective.false) absent
+    (c.has_room.ensures c.if-not-has_room.false) (record {
+      objective = refl;
+      rows = c.in-Ok.ensures.entries ∙ insert_entry-new (λ x y. same_bytes x y) t.rows c.args.name c.new.result absent
+          ∙ ap (λ (parts : RowParts). t.rows.entries ++ (c.args.name, parts) ∷ []) c.new.ensures;
+      columns = refl;
+    })
+
+pub returns : goal.returns
+returns c = let t = c.args.self.now in let there = sym c.in-Some.is ∙ c.in-Ok.ensures.old in row_refused t _ c.args.name _ true _
+    (ap (is_objective (draft None None t)) (sym c.as_bytes.ensures) ∙ sym c.is_objective.ensures ∙ c.if-is_objective.false)
+    (ap is_some (sym there)) refl (record {
+      objective = refl;
+      rows = (λ i. set_value_at (c.in-Ok.ensures.entries i) (c.in-Ok.ensures.index i) c.in-Some.old)
+          ∙ value_back c.args.name c.new.result c.in-Some.old t.rows.entries there;
+      columns = refl;
+    })

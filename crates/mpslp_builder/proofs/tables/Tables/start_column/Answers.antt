@@ -1,11 +1,11 @@
-use Rattle.std.proofs.Common.{sym, subst, ℕ}
-use Rattle.mpslp_builder.{specs.LineTables.HasStarted, proofs.LineLemmas.{start_follows, started}}
+use Rattle.std.proofs.Common.{refl, Ok}
+use Rattle.mpslp_builder.proofs.LineLemmas.{inserted}
 use Rattle.mpslp_builder.proofs.tables.Tables.start_column.Goals as goal
 
 pub returns-clause-kept : goal.returns-clause-kept
-returns-clause-kept c = start_follows c.args.self.now c.add_column.new.self c.requires.numbered c.args.name c.in_ok-add_column.ensures.ok
-    c.requires.absent c.requires.legal
+returns-clause-kept c = (inserted c.args.self.now _ c.requires.numbered c.args.name c.requires.legal refl refl c.insert_new.result c.insert_new.ensures).0
 
-pub returns-clause-ok : goal.returns-clause-ok
-returns-clause-ok c = subst (λ (n : ℕ). HasStarted c.args.self.now c.args.name n c.add_column.new.self) (sym c.len-column.ensures.len)
-    (started c.args.self.now c.add_column.new.self c.requires.numbered c.args.name c.in_ok-add_column.ensures.ok c.requires.absent)
+pub returns-clause-started : goal.returns-clause-started
+returns-clause-started c =
+    (inserted c.args.self.now (record c.args.self.now { columns = c.insert_new.new.self; recent = c.in_ok-column.column }) c.requires.numbered
+    c.args.name c.requires.legal refl refl (Ok (c.in_ok-column.column, c.in_ok-column.is_new)) c.in_ok-column.ensures).1
