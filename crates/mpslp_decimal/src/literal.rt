@@ -535,8 +535,7 @@ fn short_parts(text: &[u8]) -> Option<(bool, u64, i32)>
     Some((is_negative, size, exponent))
 }
 
-/// The decimal with the value of a literal of any kind, or the first error. Most literals have few digits. What is returned for a
-/// long one is taken apart, since otherwise every decimal is put together in memory and then copied.
+/// The decimal with the value of a literal of any kind, or the first error. Most literals have few digits.
 #[inline(never)]
 fn parse_any(text: &[u8]) -> Result<Decimal, NumberFault>
     ensures { result ≡ number_of text.now }
@@ -546,10 +545,19 @@ fn parse_any(text: &[u8]) -> Result<Decimal, NumberFault>
             let mantissa = signed(is_negative, size);
             Ok(Decimal::from_parts(mantissa, exponent))
         }
-        None => match parse_long(text) {
-            Ok(value) => Ok(value),
-            Err(fault) => Err(fault),
-        },
+        None => parse_rare(text),
+    }
+}
+
+/// The decimal with the value of a literal that is not read as a short one, or the first error. The result is taken apart, since
+/// otherwise its caller puts together every decimal in memory and copies it.
+#[inline(always)]
+fn parse_rare(text: &[u8]) -> Result<Decimal, NumberFault>
+    ensures { result ≡ number_of text.now }
+{
+    match parse_long(text) {
+        Ok(value) => Ok(value),
+        Err(fault) => Err(fault),
     }
 }
 
