@@ -1,14 +1,14 @@
 -- A literal is its mantissa, read from the start, and an exponent part.
 use Rattle.std.proofs.Common.{Bool, List, [], ap, append_assoc, arith, cond, drop, false, get_or, length, length-append, length-drop}
 use Rattle.std.proofs.Common.{length-take, lit<, refl, rules, subst, suc, sym, take, true, ℕ, ◌*◌, ◌++◌, ◌+◌, ◌-◌, ◌<◌, ◌^◌, ◌∙◌, ◌∷◌, ◌≡◌}
-use Rattle.std.proofs.{Common.◌≤◌, Math.Nat.pow-le-pow_right, lemmas.{Bool.{ltb-false, ltb-true}, List.{append-nil, take_more}}}
+use Rattle.std.proofs.{Common.{◌≤◌}, lemmas.List.{append-nil, take_more}}
 use Rattle.std.{proofs.lemmas.List.{Folds.list_all_more, Sums.{prefix_len-drop_yes, prefix_len-le-length}}, specs.List.after_first}
-use Rattle.std.specs.{List.{before_first, list_all, list_any, position_or_len, prefix_len}, Prelude.{None, Option, Some, min, nat_lt, not}}
+use Rattle.std.specs.{List.{before_first, list_all, list_any, position_or_len, prefix_len}, Prelude.{None, Option, Some, min, not}}
 use Rattle.std.specs.Prelude.{pos, ℤ, ◌&&◌, ◌||◌}
-use Rattle.mpslp_decimal.proofs.{CutLemmas.{AreDigits, Each, Each-append, digits_sum-append, one_more}, NormalLemmas.pow_positive}
-use Rattle.mpslp_decimal.proofs.{NumberTextLemmas.{are-digits, no_mark-digits, no_point-digits}, SpellsLemmas.{digits_sum-small, pow-next}}
+use Rattle.mpslp_decimal.proofs.{CutLemmas.{AreDigits, Each, Each-append, digits_sum-append, one_more}}
+use Rattle.mpslp_decimal.proofs.{NumberTextLemmas.{are-digits, no_mark-digits, no_point-digits}, SpellsLemmas.{digits_sum-small, few-zeros, pow-next}}
 use Rattle.mpslp_decimal.specs.Literal.{are_digits, digits_sum, exponent_part, is_digit, is_exponent_mark, is_literal, is_minus, is_point}
-use Rattle.mpslp_decimal.specs.{Literal.{unsigned_part, without_sign}, Scan.{IsScanOf, IsSignificandOf, after_digits, after_fraction}}
+use Rattle.mpslp_decimal.specs.{Literal.{unsigned_part, without_sign}, Scan.{IsScanOf, IsSignificandOf, IsStripped, after_digits, after_fraction}}
 use Rattle.mpslp_decimal.specs.Scan.{after_mantissa, after_point, capped_exponent, digits_front, exponent_after, exponent_of}
 use Rattle.mpslp_decimal.specs.{Scan.{fraction_front, mantissa_front, zeros_of}, declared.literal.{Scan.Scan, Significand.Significand}}
 use Rattle.mpslp_decimal.specs.declared.literal.Significand.TheVariants.{Short}
@@ -429,19 +429,9 @@ within text =
           (after_point (after_digits text)),
     )
 
-few : (zeros n len : ℕ) → 10 ^ zeros ≤ n + 1 → n < 10 ^ len → zeros ≤ len
-few zeros n len h small = by _ refl
-  where
-    by : (b : Bool) → nat_lt len zeros ≡ b → zeros ≤ len
-    by false e = ltb-false len zeros e
-    by true e =
-        let more : len + 1 ≤ zeros = (let l = ltb-true len zeros e in omega (arith, l)) in
-        let p : 10 ^ (len + 1) ≤ 10 ^ zeros = pow-le-pow_right (lit< tt) more in
-        let q = pow-next len in
-        let some = pow_positive len in
-        absurd (omega (arith, h, small, p, q, some))
-
 -- no more zeros than bytes
-pub short-zeros : (text : List ℕ) (significand : Significand) (number : ℕ) → number ≡ digits_sum (mantissa_front text)
-    → 10 ^ zeros_of significand ≤ number + 1 → zeros_of significand ≤ length text
-short-zeros = grind (arith, digits_sum-small, front_digits, few, within)
+pub short-zeros : (text : List ℕ) (n m z : ℕ) → n ≡ digits_sum (mantissa_front text) → IsStripped n m z → 0 < n → z ≤ length text
+short-zeros text n m z value s some =
+    let small : n < 10 ^ length (mantissa_front text) =
+    subst (λ k. k < 10 ^ length (mantissa_front text)) (sym value) (digits_sum-small _ (front_digits text)) in
+    omega (arith, few-zeros n m z _ s (omega (arith, s.ends some)) small, within text)

@@ -1,4 +1,5 @@
 pub mod CutLemmas
+pub mod LaneLemmas
 pub mod NormalLemmas
 pub mod NumberTextLemmas
 pub mod ScaleLemmas

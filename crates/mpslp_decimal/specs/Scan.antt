@@ -1,5 +1,5 @@
 -- What a single pass finds in a literal.
-use Rattle.std.specs.Prelude.{◌≡◌, ℕ, ◌*◌, ◌^◌, ◌%◌, ◌<◌, ◌≤◌, ℤ, pos, Option, Some, None, Result, Ok, Err, min, IsTrue, if◌then◌else◌, List, [], ◌∷◌, ◌++◌, length, take, drop}
+use Rattle.std.specs.Prelude.{◌≡◌, ℕ, ◌+◌, ◌*◌, ◌^◌, ◌%◌, ◌<◌, ◌≤◌, ℤ, pos, Option, Some, None, Result, Ok, Err, min, IsTrue, if◌then◌else◌, List, [], ◌∷◌, ◌++◌, length, take, drop}
 use Rattle.std.specs.List.{prefix_len}
 use Rattle.mpslp_decimal.specs.Literal.{is_digit, is_point, is_exponent_mark, are_digits, is_minus, without_sign, to_signed, digits_sum, mantissa_digits, fraction_digits, exponent_part, is_literal}
 use Rattle.mpslp_decimal.specs.declared.number.TheConstants.{MAX_DIGITS}
@@ -43,6 +43,15 @@ digits_front text = take (prefix_len is_digit text) text
 
 abbrev pub after_digits : List ℕ → List ℕ
 after_digits text = drop (prefix_len is_digit text) text
+
+-- a number with the digits appended with which a text begins
+abbrev pub appended : ℕ → List ℕ → ℕ
+appended n text = n * 10 ^ length (digits_front text) + digits_sum (digits_front text)
+
+-- A number and a text that stand for another number and text: the digits of both are the same, appended to the numbers.
+pub record IsLeft (n : ℕ) (text : List ℕ) (m : ℕ) (rest : List ℕ) : Type 0 where
+  pub same_rest : after_digits rest ≡ after_digits text
+  pub same_value : appended m rest ≡ appended n text
 
 -- what follows a point at the start of a text
 abbrev pub after_point : List ℕ → List ℕ

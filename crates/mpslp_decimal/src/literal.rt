@@ -1,11 +1,13 @@
 //! Number literals, read in one pass.
 
-ghost use Rattle.std.specs.Prelude.{ℤ, pos, ◌+ℤ◌, ◌-ℤ◌, ◌%◌, unsigned_abs, ◌≡◌, ℕ, ◌+◌, ◌*◌, ◌^◌, ◌<◌, ◌≤◌, ◌↔◌, IsTrue, IsSome, IfSome, MatchOption, length, take, drop, not, false};
-ghost use Rattle.std.specs.List.{prefix_len};
+ghost use Rattle.std.specs.Prelude.{ℤ, pos, Ok, true, nat_lt, ◌-◌, ◌+ℤ◌, ◌-ℤ◌, ◌%◌, unsigned_abs, ◌≡◌, ℕ, ◌+◌, ◌*◌, ◌^◌, ◌<◌, ◌≤◌, ◌↔◌, IsTrue, IsSome, IfSome, MatchOption, length, take, drop, not, false};
+ghost use Rattle.std.specs.List.{prefix_len, list_all};
+ghost use Rattle.mpslp_decimal.specs.Decimal.{IsDecimal};
 ghost use Rattle.mpslp_decimal.specs.Literal.{to_signed, is_digit, is_minus, without_sign, digits_sum, are_digits, is_literal, number_of};
-ghost use Rattle.mpslp_decimal.specs.Scan.{in_range, IsSignificandOf, parts_of, zeros_of, exponent_of, exponent_after, digits_front, after_digits, mantissa_front, fraction_front, after_mantissa, IsScanOf};
+ghost use Rattle.mpslp_decimal.specs.Scan.{in_range, IsSignificandOf, parts_of, zeros_of, exponent_of, exponent_after, digits_front, after_digits, appended, mantissa_front, fraction_front, after_mantissa, IsScanOf};
 
 use crate::number::{Decimal, MAX_DIGITS, MAX_EXPONENT, MIN_EXPONENT};
+use std::simd::prelude::*;
 
 /// The most bytes of a literal.
 pub const MAX_LITERAL_LEN: usize = 255;
@@ -15,6 +17,12 @@ const EXPONENT_CAP: u32 = 100_000;
 
 /// A mantissa from this value on may not fit in 64 bits with one more digit.
 const SHORT_ROOM: u64 = 100_000_000_000_000_000;
+
+/// A mantissa from this value on may not fit in 64 bits with four more digits.
+const FOUR_ROOM: u64 = 100_000_000_000_000;
+
+/// A mantissa from this value on may not fit in 64 bits with eight more digits.
+const EIGHT_ROOM: u64 = 10_000_000_000;
 
 /// Ten to the `MAX_DIGITS - 1`: a mantissa from this value on cannot take another digit. The proofs compare the two.
 const LONG_ROOM: u128 = 100_000_000_000_000_000_000_000_000_000_000_000;
@@ -179,93 +187,181 @@ struct Mantissa {
     places: usize,
 }
 
-/// Appends the digits at the start of a text to a number, and returns the rest of the text; `None` if the number may not fit
-/// in 64 bits.
+/// The value of a digit; 10 or more for any other byte.
+#[inline(always)]
+fn digit_value(byte: u8) -> u64
+    ensures digit { is_digit byte ≡ nat_lt result 10 }
+    ensures value { IsTrue (is_digit byte) → result ≡ byte - 48 }
+{
+    u64::from(byte).wrapping_sub(48)
+}
+
+/// Appends the digits at the start of a text to a number, one after another, and returns the rest of the text; `None` if the number
+/// may not fit in 64 bits.
 #[inline(always)]
 fn append_digits(text: &[u8], before: u64) -> Option<(u64, &[u8])>
     ensures rest { IfSome result (λ found. found.1.now ≡ after_digits text.now) }
-    ensures number { let digits = digits_front text.now in IfSome result (λ found. found.0 ≡ before * 10 ^ length digits + digits_sum digits) }
+    ensures number { IfSome result (λ found. found.0 ≡ appended before text.now) }
 {
     let mut number = before;
     for (at, byte) in text.iter().enumerate() {
-        if !byte.is_ascii_digit() {
+        let digit = digit_value(*byte);
+        if digit >= 10 {
             return Some((number, &text[at..]));
         }
         if number >= SHORT_ROOM {
             return None;
         }
-        number = number * 10 + u64::from(byte - b'0');
+        number = number * 10 + digit;
     }
     Some((number, &[]))
 }
 
-/// The significand of a number.
+/// Whether four bytes are digits.
 #[inline(always)]
-fn significand_of(number: u64) -> Significand
-    ensures value { IsSignificandOf result number }
-    ensures zeros { 10 ^ zeros_of result ≤ number + 1 }
+fn are_four_digits(bytes: [u8; 4]) -> bool
+    ensures { IsTrue result → list_all is_digit bytes ≡ true }
 {
-    if number == 0 {
-        return Significand::Short(0, 0);
+    let values = u8x4::from_array(bytes) - u8x4::splat(48);
+    values.simd_lt(u8x4::splat(10)).to_bitmask() == 15
+}
+
+/// Whether eight bytes are digits.
+#[inline(always)]
+fn are_eight_digits(bytes: [u8; 8]) -> bool
+    ensures { IsTrue result → list_all is_digit bytes ≡ true }
+{
+    let values = u8x8::from_array(bytes) - u8x8::splat(48);
+    values.simd_lt(u8x8::splat(10)).to_bitmask() == 255
+}
+
+/// The number that four bytes represent; `None` if one of them is not a digit. Digits are added in pairs: ten times the bytes and
+/// the bytes after them have the value of a pair in every other byte.
+#[inline(always)]
+fn four_digits(bytes: [u8; 4]) -> Option<u64>
+    ensures { IfSome result (λ n. (list_all is_digit bytes ≡ true) × (n ≡ digits_sum bytes)) }
+{
+    if !are_four_digits(bytes) {
+        return None;
     }
+    let digits = u32::from_le_bytes(bytes) - 0x3030_3030;
+    let pairs = digits * 10 + digits / 256;
+    Some(u64::from(pairs % 256 * 100 + pairs / 65536 % 256))
+}
+
+/// The number that eight bytes represent; `None` if one of them is not a digit. The digits are added as those of four bytes.
+#[inline(always)]
+fn eight_digits(bytes: [u8; 8]) -> Option<u64>
+    ensures { IfSome result (λ n. (list_all is_digit bytes ≡ true) × (n ≡ digits_sum bytes)) }
+{
+    if !are_eight_digits(bytes) {
+        return None;
+    }
+    let digits = u64::from_le_bytes(bytes) - 0x3030_3030_3030_3030;
+    let pairs = digits * 10 + digits / 256;
+    let first = pairs % 256 * 100 + pairs / 0x1_0000 % 256;
+    let second = pairs / 0x1_0000_0000 % 256 * 100 + pairs / 0x1_0000_0000_0000 % 256;
+    Some(first * 10_000 + second)
+}
+
+/// Appends the digits at the start of a text to a number, as `append_digits` does, but eight or four at once, since most fractions
+/// are long.
+#[inline(always)]
+fn append_many_digits(text: &[u8], before: u64) -> Option<(u64, &[u8])>
+    ensures rest { IfSome result (λ found. found.1.now ≡ after_digits text.now) }
+    ensures number { IfSome result (λ found. found.0 ≡ appended before text.now) }
+{
+    let mut number = before;
+    let mut rest = text;
+    while let Some((bytes, more)) = rest.split_first_chunk::<8>() {
+        let Some(eight) = eight_digits(*bytes) else {
+            break;
+        };
+        if number >= EIGHT_ROOM {
+            return None;
+        }
+        number = number * 100_000_000 + eight;
+        rest = more;
+    }
+    append_fewer_digits(rest, number)
+}
+
+/// The same for few digits.
+#[inline(always)]
+fn append_fewer_digits(text: &[u8], before: u64) -> Option<(u64, &[u8])>
+    ensures rest { IfSome result (λ found. found.1.now ≡ after_digits text.now) }
+    ensures number { IfSome result (λ found. found.0 ≡ appended before text.now) }
+{
+    let Some((bytes, more)) = text.split_first_chunk::<4>() else {
+        return append_digits(text, before);
+    };
+    match four_digits(*bytes) {
+        Some(four) => {
+            if before >= FOUR_ROOM {
+                return None;
+            }
+            append_digits(more, before * 10_000 + four)
+        }
+        None => append_digits(text, before),
+    }
+}
+
+/// A number without its trailing zeros, and their number.
+#[inline(always)]
+fn stripped(number: u64) -> (u64, usize)
+    requires some { 0 < number }
+    ensures value { result.0 * 10 ^ result.1 ≡ number }
+    ensures ends { 0 < result.0 % 10 }
+{
     let mut mantissa = number;
     let mut zeros = 0;
     while mantissa % 10 == 0 {
         mantissa /= 10;
         zeros += 1;
     }
-    Significand::Short(mantissa, zeros)
+    (mantissa, zeros)
 }
 
-/// Reads a mantissa of few digits, and returns the rest of the text; `None` if the number may not fit in 64 bits. Most do, and
-/// such a number needs no care for trailing zeros until all its digits are read.
+/// A mantissa that fits in 64 bits.
+#[derive(Clone, Copy)]
+struct ShortMantissa {
+    /// The number of its digits, before and after the point.
+    number: u64,
+    /// The number of digits.
+    digits: usize,
+    /// The number of digits after the point.
+    places: usize,
+}
+
+/// Reads a mantissa of few digits, and returns the rest of the text; `None` if the number may not fit in 64 bits.
 #[inline(always)]
-fn scan_short_mantissa(text: &[u8]) -> Option<(Mantissa, &[u8])>
+fn scan_short_mantissa(text: &[u8]) -> Option<(ShortMantissa, &[u8])>
     ensures rest { IfSome result (λ found. found.1.now ≡ after_mantissa text.now) }
-    ensures significand { IfSome result (λ found. IsSignificandOf found.0.significand (digits_sum (mantissa_front text.now))) }
+    ensures number { IfSome result (λ found. found.0.number ≡ digits_sum (mantissa_front text.now)) }
     ensures digits { IfSome result (λ found. found.0.digits ≡ length (mantissa_front text.now)) }
     ensures places { IfSome result (λ found. found.0.places ≡ length (fraction_front text.now)) }
-    ensures zeros_within { IfSome result (λ found. zeros_of found.0.significand ≤ length text.now) }
-    ensures digits_within { IfSome result (λ found. found.0.digits ≤ length text.now) }
-    ensures places_within { IfSome result (λ found. found.0.places ≤ length text.now) }
 {
     let (whole, after_whole) = append_digits(text, 0)?;
     let digits = text.len() - after_whole.len();
     match after_whole {
         [b'.', fraction @ ..] => {
-            let (number, rest) = append_digits(fraction, whole)?;
+            let (number, rest) = append_many_digits(fraction, whole)?;
             let places = fraction.len() - rest.len();
-            let mantissa = Mantissa {
-                significand: significand_of(number),
+            let mantissa = ShortMantissa {
+                number,
                 digits: digits + places,
                 places,
             };
             Some((mantissa, rest))
         }
         _ => {
-            let mantissa = Mantissa {
-                significand: significand_of(whole),
+            let mantissa = ShortMantissa {
+                number: whole,
                 digits,
                 places: 0,
             };
             Some((mantissa, after_whole))
         }
-    }
-}
-
-/// Reads the digits and the point at the start of a text without a sign, and returns the rest.
-fn scan_mantissa(text: &[u8]) -> (Mantissa, &[u8])
-    ensures rest { result.1.now ≡ after_mantissa text.now }
-    ensures significand { IsSignificandOf result.0.significand (digits_sum (mantissa_front text.now)) }
-    ensures digits { result.0.digits ≡ length (mantissa_front text.now) }
-    ensures places { result.0.places ≡ length (fraction_front text.now) }
-    ensures zeros_within { zeros_of result.0.significand ≤ length text.now }
-    ensures digits_within { result.0.digits ≤ length text.now }
-    ensures places_within { result.0.places ≤ length text.now }
-{
-    match scan_short_mantissa(text) {
-        Some(found) => found,
-        None => scan_long_mantissa(text),
     }
 }
 
@@ -320,7 +416,7 @@ impl Scan {
         ensures { MatchOption result (is_literal text.now ≡ false) (λ scan. IsScanOf scan text.now) }
     {
         let (is_negative, unsigned) = split_sign(text);
-        let (mantissa, rest) = scan_mantissa(unsigned);
+        let (mantissa, rest) = scan_long_mantissa(unsigned);
         if mantissa.digits == 0 {
             return None;
         }
@@ -386,6 +482,15 @@ fn plain_integer(text: &[u8]) -> Option<(bool, u64)>
     Some((is_negative, size))
 }
 
+/// A number of at most 64 bits with its sign.
+#[inline(always)]
+fn signed(is_negative: bool, size: u64) -> i128
+    ensures { result ≡ to_signed is_negative size }
+{
+    let size = i128::from(size);
+    if is_negative { -size } else { size }
+}
+
 /// The decimal with the value of a literal, or the first error.
 #[inline(always)]
 pub(crate) fn parse(text: &[u8]) -> Result<Decimal, NumberFault>
@@ -396,17 +501,69 @@ pub(crate) fn parse(text: &[u8]) -> Result<Decimal, NumberFault>
     }
     match plain_integer(text) {
         Some((is_negative, size)) => {
-            let size = i128::from(size);
-            let mantissa = if is_negative { -size } else { size };
+            let mantissa = signed(is_negative, size);
             Ok(Decimal::from_parts(mantissa, 0))
         }
         None => parse_any(text),
     }
 }
 
-/// The decimal with the value of a literal of any kind, or the first error.
+/// The sign, the mantissa and the exponent of the decimal with the value of a literal whose digits fit in 64 bits; `None` for any
+/// other text, and if the value is not a decimal.
+#[inline(always)]
+fn short_parts(text: &[u8]) -> Option<(bool, u64, i32)>
+    ensures decimal { IfSome result (λ found. IsDecimal (record { mantissa = to_signed found.0 found.1; exponent = found.2 })) }
+    ensures value { IfSome result (λ found. number_of text.now ≡ Ok (record { mantissa = to_signed found.0 found.1; exponent = found.2 })) }
+{
+    if text.len() >= MAX_LITERAL_LEN {
+        return None;
+    }
+    let (is_negative, unsigned) = split_sign(text);
+    let (mantissa, rest) = scan_short_mantissa(unsigned)?;
+    let exponent = scan_exponent_part(rest)?;
+    if mantissa.number == 0 {
+        if mantissa.digits == 0 {
+            return None;
+        }
+        return Some((false, 0, 0));
+    }
+    let (size, zeros) = stripped(mantissa.number);
+    let exponent = normal_exponent(exponent, zeros, mantissa.places);
+    if exponent < MIN_EXPONENT || exponent > MAX_EXPONENT {
+        return None;
+    }
+    Some((is_negative, size, exponent))
+}
+
+/// The decimal with the value of a literal of any kind, or the first error. Most literals have few digits.
 #[inline(never)]
 fn parse_any(text: &[u8]) -> Result<Decimal, NumberFault>
+    ensures { result ≡ number_of text.now }
+{
+    match short_parts(text) {
+        Some((is_negative, size, exponent)) => {
+            let mantissa = signed(is_negative, size);
+            Ok(Decimal::from_parts(mantissa, exponent))
+        }
+        None => parse_rare(text),
+    }
+}
+
+/// The decimal with the value of a literal that is not read as a short one, or the first error. The result is taken apart, since
+/// otherwise its caller puts together every decimal in memory and copies it.
+#[inline(always)]
+fn parse_rare(text: &[u8]) -> Result<Decimal, NumberFault>
+    ensures { result ≡ number_of text.now }
+{
+    match parse_long(text) {
+        Ok(value) => Ok(value),
+        Err(fault) => Err(fault),
+    }
+}
+
+/// The decimal with the value of a literal of any number of digits, or the first error.
+#[inline(never)]
+fn parse_long(text: &[u8]) -> Result<Decimal, NumberFault>
     ensures { result ≡ number_of text.now }
 {
     let Some(scan) = Scan::of(text) else {

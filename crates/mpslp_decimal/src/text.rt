@@ -109,6 +109,7 @@ impl DecimalText {
     ///
     /// Zero is `0`. Exponents from 0 to 5 are printed as zeros, those from -18 to -1 with a point and a digit before it, and
     /// any other exponent after an `e`, as in `15e-20`.
+    #[inline(always)]
     pub fn put(&mut self, value: Decimal) -> &[u8]
         ensures { result.now ≡ number_text value }
     {

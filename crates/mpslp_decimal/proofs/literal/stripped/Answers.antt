@@ -1,6 +1,6 @@
 use Rattle.std.proofs.Common.{arith, ◌<◌, ◌^◌}
 use Rattle.mpslp_decimal.proofs.SumLemmas.{one-zero-less, zeros-below}
-use Rattle.mpslp_decimal.proofs.literal.significand_of.Goals as goal
+use Rattle.mpslp_decimal.proofs.literal.stripped.Goals as goal
 
 pub overflow_add-zeros : goal.overflow_add-zeros
 overflow_add-zeros c =

@@ -1,5 +1,5 @@
 use Rattle.std.proofs.Common.{◌*◌, ◌<◌, ◌^◌, ◌≡◌}
-use Rattle.mpslp_decimal.proofs.literal.significand_of.Given as goal
+use Rattle.mpslp_decimal.proofs.literal.stripped.Given as goal
 
 -- the number without this number of trailing zeros
 abbrev pub invariant-loop-mantissa : goal.invariant-loop-mantissa

@@ -1,6 +1,6 @@
 use Rattle.std.{proofs.Common.{ap, of_z, rules, sym, to_z, w32, ◌∙◌, ◌≡◌}, specs.Prelude.{Ok, pos, ℤ, ◌+ℤ◌, ◌-ℤ◌}}
 use Rattle.mpslp_decimal.proofs.SpellsLemmas.{number-few, number-many, number-zero, parts-none, scan-ends, scan-few, scan-zeros}
-use Rattle.mpslp_decimal.proofs.literal.parse_any.Goals as goal
+use Rattle.mpslp_decimal.proofs.literal.parse_long.Goals as goal
 
 pub returns-in_default-parts : goal.returns-in_default-parts
 returns-in_default-parts c =

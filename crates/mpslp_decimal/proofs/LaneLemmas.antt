@@ -1,0 +1,176 @@
+-- Digits that are tested and read several at once.
+use Rattle.std.proofs.Common.{Bool, List, [], ap, arith, w32, w64, ◌∙◌, ◌/◌, ◌≤◌, cond, false, get_or, length, ltb, map, refl, suc, true, zero, ℕ, ◌%◌, ◌*◌, ◌+◌, ◌-◌, ◌<◌, ◌^◌, ◌∷◌, ◌≡◌}
+use Rattle.std.specs.{Int.from_le_bytes, List.{list_all, prefix_len}, Prelude.{replicate, ◌&&◌}, Simd.Lanes.{mask_l, zip2}}
+use Rattle.std.proofs.{Common.{drop, length-append, sym, take, ◌++◌}, lemmas.{List.take-append-drop, Nat.pow-add}}
+use Rattle.mpslp_decimal.proofs.CutLemmas.{digits_sum-append, one_more}
+use Rattle.mpslp_decimal.specs.{Literal.{digits_sum, is_digit}, Scan.{IsLeft, after_digits, appended, digits_front}}
+
+-- a byte less another, in 8 bits
+abbrev pub less : ℕ → ℕ → ℕ
+less a b = (a + (256 - b)) % 256
+
+-- the lanes of bytes that are digits: 48 less, they are below 10
+abbrev pub digit_lanes : List ℕ → ℕ → ℕ
+digit_lanes bs n = mask_l (map (λ x. ltb x 10) (zip2 less bs (replicate n 48)))
+
+lane-digit : (b : ℕ) → b < 256 → ltb (less b 48) 10 ≡ true → is_digit b ≡ true
+lane-digit = grind arith
+
+positive : (n : ℕ) → 0 < 2 ^ n
+positive zero = omega arith
+positive (suc n) = omega (arith, positive n)
+
+ones-head : (m n : ℕ) → 1 + 2 * m ≡ 2 ^ suc n - 1 → m ≡ 2 ^ n - 1
+ones-head m n h = omega (arith, positive n, h)
+
+zero-head : (m n : ℕ) → 0 + 2 * m ≡ 2 ^ suc n - 1 → ⊥
+zero-head m n h = omega (arith, positive n, h)
+
+one-more : (b : ℕ) (bs : List ℕ) (n m : ℕ) (t : Bool) → ltb (less b 48) 10 ≡ t → b < 256 → (m ≡ 2 ^ n - 1 → list_all is_digit bs ≡ true)
+    → cond t 1 0 + 2 * m ≡ 2 ^ suc n - 1 → list_all is_digit (b ∷ bs) ≡ true
+one-more b bs n m true is small more h = λ i. lane-digit b small is i && more (ones-head m n h) i
+one-more b bs n m false is small more h = absurd (zero-head m n h)
+
+pub lanes-digits : (bs : List ℕ) (n : ℕ) → length bs ≡ n → ((i : ℕ) → get_or bs i 0 < 256) → digit_lanes bs n ≡ 2 ^ n - 1
+    → list_all is_digit bs ≡ true
+lanes-digits [] n e small h = refl
+lanes-digits (b ∷ bs) zero e small h = absurd (omega (arith, e))
+lanes-digits (b ∷ bs) (suc n) e small h =
+    one-more b bs n (digit_lanes bs n) _ refl (small 0) (lanes-digits bs n (omega (arith, e)) (λ i. small (suc i))) h
+
+-- ---- What several digits represent.
+
+has-digit : (b : ℕ) (bs : List ℕ) → list_all is_digit (b ∷ bs) ≡ true → (48 ≤ b) × (b ≤ 57) × (list_all is_digit bs ≡ true)
+has-digit = grind arith
+
+-- ten times each digit and the next one, where the first byte is the lowest
+abbrev pub pairs_of : ℕ → ℕ
+pairs_of digits = digits * 10 + digits / 256
+
+abbrev pub four_value : ℕ → ℕ
+four_value digits = pairs_of digits % 256 * 100 + pairs_of digits / 65536 % 256
+
+abbrev pub eight_value : ℕ → ℕ
+eight_value digits = (pairs_of digits % 256 * 100 + pairs_of digits / 65536 % 256) * 10000
+    + (pairs_of digits / 4294967296 % 256 * 100 + pairs_of digits / 281474976710656 % 256)
+
+four : (a b c d : ℕ) → a ≤ 9 → b ≤ 9 → c ≤ 9 → d ≤ 9
+    → four_value (a + b * 256 + c * 65536 + d * 16777216) ≡ a * 1000 + b * 100 + c * 10 + d
+four a b c d ha hb hc hd = omega (arith, ha, hb, hc, hd)
+
+eight : (a b c d e f g h : ℕ) → a ≤ 9 → b ≤ 9 → c ≤ 9 → d ≤ 9 → e ≤ 9 → f ≤ 9 → g ≤ 9 → h ≤ 9
+    → eight_value (a + b * 256 + c * 65536 + d * 16777216 + e * 4294967296 + f * 1099511627776 + g * 281474976710656 + h * 72057594037927936)
+    ≡ a * 10000000 + b * 1000000 + c * 100000 + d * 10000 + e * 1000 + f * 100 + g * 10 + h
+eight a b c d e f g h ha hb hc hd he hf hg hh = omega (arith, ha, hb, hc, hd, he, hf, hg, hh)
+
+-- the number of bytes that are digits, and the value of the digits
+pub record IsFour (bs : List ℕ) (n : ℕ) : Type 0 where
+  pub least : 808464432 ≤ n
+  pub most : n ≤ 960051513
+  pub value : four_value (n - 808464432) ≡ digits_sum bs
+
+pub four-number : (bs : List ℕ) (n : ℕ) → length bs ≡ 4 → list_all is_digit bs ≡ true → n ≡ from_le_bytes w32 bs → IsFour bs n
+four-number [] n e all is = absurd (omega (arith, e))
+four-number (a ∷ []) n e all is = absurd (omega (arith, e))
+four-number (a ∷ b ∷ []) n e all is = absurd (omega (arith, e))
+four-number (a ∷ b ∷ c ∷ []) n e all is = absurd (omega (arith, e))
+four-number (a ∷ b ∷ c ∷ d ∷ x ∷ xs) n e all is = absurd (omega (arith, e))
+four-number (a ∷ b ∷ c ∷ d ∷ []) n e all is =
+    let ha = has-digit a (b ∷ c ∷ d ∷ []) all in
+    let hb = has-digit b (c ∷ d ∷ []) ha.2 in
+    let hc = has-digit c (d ∷ []) hb.2 in
+    let hd = has-digit d [] hc.2 in
+    let minus : n - 808464432 ≡ (a - 48) + (b - 48) * 256 + (c - 48) * 65536 + (d - 48) * 16777216 =
+    omega (arith, is, ha.0, hb.0, hc.0, hd.0) in
+    record {
+      least = omega (arith, is, ha.0, hb.0, hc.0, hd.0);
+      most = omega (arith, is, ha.1, hb.1, hc.1, hd.1);
+      value = ap four_value minus
+          ∙ four (a - 48) (b - 48) (c - 48) (d - 48) (omega (arith, ha.1)) (omega (arith, hb.1)) (omega (arith, hc.1)) (omega (arith, hd.1))
+          ∙ omega arith;
+    }
+
+-- the same for eight
+whole : (b : ℕ) → 48 ≤ b → b ≡ (b - 48) + 48
+whole b h = omega (arith, h)
+
+less-eight : (a b c d e f g h n : ℕ)
+    → n ≡ (a + 48) + (b + 48) * 256 + (c + 48) * 65536 + (d + 48) * 16777216 + (e + 48) * 4294967296 + (f + 48) * 1099511627776
+    + (g + 48) * 281474976710656 + (h + 48) * 72057594037927936
+    → n - 3472328296227680304 ≡ a + b * 256 + c * 65536 + d * 16777216 + e * 4294967296 + f * 1099511627776 + g * 281474976710656 + h * 72057594037927936
+less-eight a b c d e f g h n is = omega (arith, is)
+
+pub record IsEight (bs : List ℕ) (n : ℕ) : Type 0 where
+  pub least : 3472328296227680304 ≤ n
+  pub most : n ≤ 4123389851770370361
+  pub value : eight_value (n - 3472328296227680304) ≡ digits_sum bs
+
+pub eight-number : (bs : List ℕ) (n : ℕ) → length bs ≡ 8 → list_all is_digit bs ≡ true → n ≡ from_le_bytes w64 bs → IsEight bs n
+eight-number [] n e all is = absurd (omega (arith, e))
+eight-number (a ∷ []) n e all is = absurd (omega (arith, e))
+eight-number (a ∷ b ∷ []) n e all is = absurd (omega (arith, e))
+eight-number (a ∷ b ∷ c ∷ []) n e all is = absurd (omega (arith, e))
+eight-number (a ∷ b ∷ c ∷ d ∷ []) n e all is = absurd (omega (arith, e))
+eight-number (a ∷ b ∷ c ∷ d ∷ f ∷ []) n e all is = absurd (omega (arith, e))
+eight-number (a ∷ b ∷ c ∷ d ∷ f ∷ g ∷ []) n e all is = absurd (omega (arith, e))
+eight-number (a ∷ b ∷ c ∷ d ∷ f ∷ g ∷ h ∷ []) n e all is = absurd (omega (arith, e))
+eight-number (a ∷ b ∷ c ∷ d ∷ f ∷ g ∷ h ∷ i ∷ x ∷ xs) n e all is = absurd (omega (arith, e))
+eight-number (a ∷ b ∷ c ∷ d ∷ f ∷ g ∷ h ∷ i ∷ []) n e all is =
+    let ha = has-digit a (b ∷ c ∷ d ∷ f ∷ g ∷ h ∷ i ∷ []) all in
+    let hb = has-digit b (c ∷ d ∷ f ∷ g ∷ h ∷ i ∷ []) ha.2 in
+    let hc = has-digit c (d ∷ f ∷ g ∷ h ∷ i ∷ []) hb.2 in
+    let hd = has-digit d (f ∷ g ∷ h ∷ i ∷ []) hc.2 in
+    let hf = has-digit f (g ∷ h ∷ i ∷ []) hd.2 in
+    let hg = has-digit g (h ∷ i ∷ []) hf.2 in
+    let hh = has-digit h (i ∷ []) hg.2 in
+    let hi = has-digit i [] hh.2 in
+    let minus = less-eight (a - 48) (b - 48) (c - 48) (d - 48) (f - 48) (g - 48) (h - 48) (i - 48) n (is ∙ (λ j. whole a ha.0 j + whole b hb.0 j * 256
+    + whole c hc.0 j * 65536 + whole d hd.0 j * 16777216 + whole f hf.0 j * 4294967296 + whole g hg.0 j * 1099511627776
+    + whole h hh.0 j * 281474976710656 + whole i hi.0 j * 72057594037927936)) in
+    record {
+      least = omega (arith, is, ha.0, hb.0, hc.0, hd.0, hf.0, hg.0, hh.0, hi.0);
+      most = omega (arith, is, ha.1, hb.1, hc.1, hd.1, hf.1, hg.1, hh.1, hi.1);
+      value = ap eight_value minus
+          ∙ eight (a - 48) (b - 48) (c - 48) (d - 48) (f - 48) (g - 48) (h - 48) (i - 48) (omega (arith, ha.1)) (omega (arith, hb.1))
+          (omega (arith, hc.1)) (omega (arith, hd.1)) (omega (arith, hf.1)) (omega (arith, hg.1)) (omega (arith, hh.1)) (omega (arith, hi.1))
+          ∙ omega arith;
+    }
+
+-- ---- Digits that are appended several at once.
+
+first-digit : (x : ℕ) (xs : List ℕ) → list_all is_digit (x ∷ xs) ≡ true → is_digit x ≡ true
+first-digit = grind arith
+
+front-after : (xs more : List ℕ) → list_all is_digit xs ≡ true → digits_front (xs ++ more) ≡ xs ++ digits_front more
+front-after [] more h = refl
+front-after (x ∷ xs) more h =
+    (λ i. take (cond (first-digit x xs h i) (1 + prefix_len is_digit (xs ++ more)) 0) (x ∷ xs ++ more))
+    ∙ ap (λ k. take k (x ∷ xs ++ more)) (one_more _) ∙ ap (λ front. x ∷ front) (front-after xs more (has-digit x xs h).2)
+
+rest-after : (xs more : List ℕ) → list_all is_digit xs ≡ true → after_digits (xs ++ more) ≡ after_digits more
+rest-after [] more h = refl
+rest-after (x ∷ xs) more h =
+    (λ i. drop (cond (first-digit x xs h i) (1 + prefix_len is_digit (xs ++ more)) 0) (x ∷ xs ++ more))
+    ∙ ap (λ k. drop k (x ∷ xs ++ more)) (one_more _) ∙ rest-after xs more (has-digit x xs h).2
+
+regroup : (n p q s f : ℕ) → (n * p + s) * q + f ≡ n * (p * q) + (s * q + f)
+regroup = grind arith
+
+value-after : (n : ℕ) (xs more : List ℕ) → list_all is_digit xs ≡ true → appended (n * 10 ^ length xs + digits_sum xs) more ≡ appended n (xs ++ more)
+value-after n xs more h =
+    regroup n (10 ^ length xs) (10 ^ length (digits_front more)) (digits_sum xs) (digits_sum (digits_front more))
+    ∙ (λ i. n * sym (pow-add 10 (length xs) (length (digits_front more))) i + sym (digits_sum-append xs (digits_front more)) i)
+    ∙ (λ i. n * 10 ^ sym (length-append xs (digits_front more)) i + digits_sum (xs ++ digits_front more))
+    ∙ sym (ap (λ front. n * 10 ^ length front + digits_sum front) (front-after xs more h))
+
+pub several-appended : (n k : ℕ) (text xs more : List ℕ) → xs ≡ take k text → more ≡ drop k text → length xs ≡ k → list_all is_digit xs ≡ true
+    → IsLeft n text (n * 10 ^ k + digits_sum xs) more
+several-appended n k text xs more front rest long all =
+    let parts : xs ++ more ≡ text = (λ i. front i ++ rest i) ∙ take-append-drop k text in
+    record {
+      same_rest = sym (rest-after xs more all) ∙ ap after_digits parts;
+      same_value = ap (λ m. appended (n * 10 ^ m + digits_sum xs) more) (sym long) ∙ value-after n xs more all ∙ ap (appended n) parts;
+    }
+
+pub then-left : (n m l : ℕ) (text more most : List ℕ) → IsLeft n text m more → IsLeft m more l most → IsLeft n text l most
+then-left n m l text more most one two = record { same_rest = two.same_rest ∙ one.same_rest; same_value = two.same_value ∙ one.same_value }
