@@ -181,11 +181,6 @@ module _ {V X : Type 0} (f : V → Option X) where
 pub or_right : (a b r : Bool) → false ≡ a → r ≡ b → r ≡ (a || b)
 or_right = grind arith
 
--- a name that is not in the map is no key
-pub absent_key : {V X : Type 0} (f : V → X) (q : List ℕ) (es : List (List ℕ × V))
-    → has_name (sorted_of bytes_cmp (each_part f es)) q ≡ false → lookup (λ k. same_bytes q k) es ≡ None
-absent_key f q es h = none_there _ (has_name-each_part f q es ∙ h)
-
 -- a row that is not added, if the objective has another name
 pub row_refused : (t u : Tables) (name : List ℕ) (parts : RowParts) (b : Bool) (fault : BuildFault)
     → is_objective (draft None None t) name ≡ false → is_some (lookup (λ k. same_bytes name k) t.rows.entries) ≡ b

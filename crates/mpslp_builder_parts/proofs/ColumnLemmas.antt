@@ -125,10 +125,6 @@ module _ {V : Type 0} (f : V → ColumnParts) (es : List (List ℕ × V)) (old :
       ∙ ap (λ (parts : List (List ℕ × Unit {0})). is_some (find bytes_cmp q parts)) (sym (each_part-twice f no_part es)
       ∙ ap (λ (columns : ColumnEntries). each_part no_part columns.entries) view_is)
 
-  -- a name that no column has is no key
-  pub absent_part : (q : List ℕ) → find bytes_cmp q (each_part no_part old.entries) ≡ None → lookup (λ k. same_bytes q k) es ≡ None
-  absent_part q none = none_there _ (found_part q ∙ ap is_some none)
-
   -- one more entry
   pub added : (more : List (List ℕ × V)) (k : List ℕ) (v : V) → more ≡ es ++ (k, v) ∷ [] → (w : ColumnParts) → f v ≡ w
       → each_part f more ≡ old.entries ++ (k, w) ∷ []
