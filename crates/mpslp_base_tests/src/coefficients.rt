@@ -16,9 +16,7 @@ fn number(literal: &str) -> Decimal {
 
 /// Adds a column of this name, unless there is one.
 fn add_column(table: &mut ColumnTable, alloc: Global, name: &str) -> Result<(), Fail> {
-    if table.number_of(name.as_bytes()).is_none() {
-        table.insert(Name::new(alloc, name.as_bytes())?)?;
-    }
+    table.insert(Name::new(alloc, name.as_bytes())?)?;
     Ok(())
 }
 

@@ -105,11 +105,6 @@ mapped_twice = grind arith
 mapped_or : {X Y : Type 0} (f : X → List Y) (o : Option X) → option_map_or (λ part. part) (option_map f o) [] ≡ option_map_or f o []
 mapped_or = grind arith
 
--- a column that is inserted is new if its name is
-pub inserted : (old new : ColumnEntries) (name : List ℕ) (of_name : ℕ × Bool) → find bytes_cmp name (each_part no_part old.entries) ≡ None
-    → Inserts old name (Ok of_name) new → new.entries ≡ old.entries ++ (name, new_column) ∷ []
-inserted = grind arith
-
 -- ---- the columns of a table
 
 module _ {V : Type 0} (f : V → ColumnParts) (es : List (List ℕ × V)) (old : ColumnEntries)

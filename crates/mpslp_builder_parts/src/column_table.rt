@@ -222,27 +222,13 @@ impl ColumnTable {
         has_cell(&self.columns, &self.log, &self.known, column, row)
     }
 
-    /// Adds a column of which only the name is declared. No column may have this name.
-    ///
-    /// # Errors
-    ///
-    /// [`AllocError`] if the allocation fails. Then nothing changes, and the name is dropped.
-    pub fn insert(&mut self, name: Name) -> Result<(), AllocError>
-        requires { find bytes_cmp name (each_part no_part self.old.entries) ≡ None }
-        ensures ok { OnOk result (self.new.entries ≡ self.old.entries ++ (name, new_column) ∷ []) }
-        ensures err { OnErr result (self.new.entries ≡ self.old.entries) }
-    {
-        self.insert_new(name)?;
-        Ok(())
-    }
-
     /// Adds a column of which only the name is declared, if no column has this name. Returns the number of the column of this name, and
     /// whether it is new. The name is looked up only once.
     ///
     /// # Errors
     ///
     /// [`AllocError`] if the allocation fails. Then nothing changes, and the name is dropped.
-    pub fn insert_new(&mut self, name: Name) -> Result<(usize, bool), AllocError>
+    pub fn insert(&mut self, name: Name) -> Result<(usize, bool), AllocError>
         ensures { Inserts self.old name result self.new }
     {
         let count = self.len();

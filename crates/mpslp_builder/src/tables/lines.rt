@@ -106,7 +106,7 @@ impl Tables {
         ensures rows { self.new.rows.entries ≡ self.old.rows.entries }
         ensures started { Starts self.old name result self.new }
     {
-        let (column, is_new) = self.columns.insert_new(name)?;
+        let (column, is_new) = self.columns.insert(name)?;
         self.recent = column;
         Ok((column, is_new))
     }
