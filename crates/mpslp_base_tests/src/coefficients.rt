@@ -114,6 +114,26 @@ fn keeps_coefficients_row_by_row(rt: HostRuntime) -> Result<(), Fail> {
     Ok(())
 }
 
+/// What adding y answers where it is there with a coefficient, and the rows of each column after that.
+fn added_again(alloc: Global) -> Result<((usize, bool), [[bool; 5]; 4]), Fail> {
+    let mut table = of_pairs(alloc, &[(1, 4)])?;
+    let answer = table.insert(Name::new(alloc, b"y".as_slice())?)?;
+    Ok((answer, presence(&table)))
+}
+
+#[test]
+fn column_that_is_there_keeps_its_coefficients(rt: HostRuntime) -> Result<(), Fail> {
+    let (answer, rows) = added_again(rt.alloc())?;
+    let (number, is_new) = answer;
+    assert_eq!(rt; number, 1);
+    assert_eq!(rt; is_new, false);
+    assert_eq!(rt;
+        rows,
+        [NONE, [false, false, false, false, true], NONE, NONE]
+    );
+    Ok(())
+}
+
 /// Pairs of which neither those of a column nor those of a row come together, and some of them twice.
 const IN_ANY_ORDER: &[(usize, u32)] = &[
     (0, 1),
