@@ -1,7 +1,7 @@
 -- Digits that are tested and read several at once.
-use Rattle.std.proofs.Common.{Bool, List, [], ap, arith, w32, w64, ◌∙◌, ◌/◌, ◌≤◌, cond, false, get_or, length, ltb, map, refl, suc, true, zero, ℕ, ◌%◌, ◌*◌, ◌+◌, ◌-◌, ◌<◌, ◌^◌, ◌∷◌, ◌≡◌}
+use Rattle.std.proofs.Common.{Bool, List, [], ap, arith, cond, drop, false, get_or, length, length-append, ltb, map, refl, suc, sym, take, true}
+use Rattle.std.proofs.{Common.{w32, w64, zero, ℕ, ◌%◌, ◌*◌, ◌++◌, ◌+◌, ◌-◌, ◌/◌, ◌<◌, ◌^◌, ◌∙◌, ◌∷◌, ◌≡◌, ◌≤◌}, lemmas.{List.take-append-drop, Nat.pow-add}}
 use Rattle.std.specs.{Int.from_le_bytes, List.{list_all, prefix_len}, Prelude.{replicate, ◌&&◌}, Simd.Lanes.{mask_l, zip2}}
-use Rattle.std.proofs.{Common.{drop, length-append, sym, take, ◌++◌}, lemmas.{List.take-append-drop, Nat.pow-add}}
 use Rattle.mpslp_decimal.proofs.CutLemmas.{digits_sum-append, one_more}
 use Rattle.mpslp_decimal.specs.{Literal.{digits_sum, is_digit}, Scan.{IsLeft, after_digits, appended, digits_front}}
 

@@ -1,13 +1,10 @@
 -- A literal whose digits fit in 64 bits, and a text of an optional sign and digits, the last of which is not 0.
-use Rattle.std.proofs.Common.{Bool, List, [], ap, arith, length, refl, true, ℕ, ◌%◌, ◌<◌, ◌^◌, get_or, ◌∷◌, ◌≡◌, ◌≤◌, sym}
-use Rattle.std.specs.Prelude.{Ok, pos, ◌==◌}
+use Rattle.std.proofs.Common.{Bool, List, [], ap, arith, length, refl, true, ℕ, ◌%◌, ◌<◌, ◌^◌, get_or, length-append, subst, sym, ℤ, ◌∷◌, ◌≡◌, ◌≤ℤ◌, ◌≤◌}
+use Rattle.std.specs.Prelude.{Ok, Some, pos, ◌==◌}
 use Rattle.mpslp_decimal.proofs.{GrammarLemmas.{scanned, within}, NormalLemmas.decimal_at, SpellsLemmas.number-few}
-use Rattle.std.proofs.Common.{length-append, subst, ℤ, ◌≤ℤ◌}
 use Rattle.mpslp_decimal.specs.declared.number.TheConstants.{MAX_EXPONENT, MIN_EXPONENT}
-use Rattle.mpslp_decimal.specs.Scan.{IsStripped, digits_front}
-use Rattle.std.specs.Prelude.{Some}
 use Rattle.mpslp_decimal.specs.{Decimal.{Number, zero_number}, Literal.{digits_sum, is_minus, number_of, without_sign}, Scan.{after_digits, exponent_after}}
-use Rattle.mpslp_decimal.specs.Scan.{IsScanOf, after_mantissa, fraction_front, in_range, mantissa_front}
+use Rattle.mpslp_decimal.specs.Scan.{IsScanOf, IsStripped, after_mantissa, digits_front, fraction_front, in_range, mantissa_front}
 use Rattle.mpslp_decimal.specs.declared.literal.{Scan.Scan, Significand.TheVariants.Short}
 
 pub empty : (xs : List ℕ) → (length xs == 0) ≡ true → xs ≡ []

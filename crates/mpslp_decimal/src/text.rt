@@ -146,6 +146,19 @@ impl DecimalText {
         prove!(!is_full);
     }
 
+    /// Appends the digits before a point. Most often they are one or two, which are stored without a call.
+    #[inline(always)]
+    fn append_whole(&mut self, digits: &[u8])
+        requires { length self.old + length digits.now ≤ CAPACITY }
+        ensures { self.new ≡ self.old ++ digits.now }
+    {
+        match digits {
+            [first] => self.append(&[*first]),
+            [first, second] => self.append(&[*first, *second]),
+            _ => self.append(digits),
+        }
+    }
+
     fn append_sign(&mut self, value: Decimal)
         requires { length self.old ≡ 0 }
         ensures { self.new ≡ self.old ++ sign_text value }
@@ -185,7 +198,7 @@ impl DecimalText {
     {
         if digits.len() > places {
             let (whole, fraction) = digits.split_at(digits.len() - places);
-            self.append(whole);
+            self.append_whole(whole);
             self.append(b".");
             self.append(fraction);
         } else {
