@@ -114,17 +114,17 @@ fn keeps_coefficients_row_by_row(rt: HostRuntime) -> Result<(), Fail> {
     Ok(())
 }
 
-/// What adding y answers where it is there with a coefficient, and the rows of each column after that.
+/// What adding y returns where it is there with a coefficient, and the rows of each column after that.
 fn added_again(alloc: Global) -> Result<((usize, bool), [[bool; 5]; 4]), Fail> {
     let mut table = of_pairs(alloc, &[(1, 4)])?;
-    let answer = table.insert(Name::new(alloc, b"y".as_slice())?)?;
-    Ok((answer, presence(&table)))
+    let added = table.insert(Name::new(alloc, b"y".as_slice())?)?;
+    Ok((added, presence(&table)))
 }
 
 #[test]
 fn column_that_is_there_keeps_its_coefficients(rt: HostRuntime) -> Result<(), Fail> {
-    let (answer, rows) = added_again(rt.alloc())?;
-    let (number, is_new) = answer;
+    let (added, rows) = added_again(rt.alloc())?;
+    let (number, is_new) = added;
     assert_eq!(rt; number, 1);
     assert_eq!(rt; is_new, false);
     assert_eq!(rt;

@@ -16,7 +16,8 @@ use Prelude.{DuplicateEntry, put-insert, found_nowhere, place_after, sorted-put,
 use Prelude.{DeclaresInTurn, HasColumn, AreDeclaredUnless, have_infinite_side, is_legal, IsMade, Answers, those_of, DuplicateRow, InfiniteValue}
 use Rattle.mpslp_builder.specs.{Answer.AnswersTo, Calls.{AddsRow, HasNewRow}, LineTables.Starts}
 use Rattle.mpslp_builder_parts.specs.ColumnTable.{Inserts}
-use Prelude.{find-sorted_of, each_part}
+use Prelude.{find-sorted_of, each_part, first_refusal}
+use Rattle.mpslp_builder_parts.specs.Parts.{new_row}
 use Rattle.mpslp_builder.{specs.declared.tables.RowRef.TheVariants.Row, proofs.TableDrafts.{column_draft, column_numbered, kept_numbered}}
 use Rattle.mpslp_builder.proofs.TableDrafts.{mark_draft, integer_draft, binary_draft, semi_draft, sides_draft, cell_draft, cell_numbered}
 use Rattle.mpslp_builder.proofs.TableDrafts.{row_draft, row_numbered, written_numbered, range_draft, rhs_draft, objective_draft}
@@ -60,6 +61,12 @@ row_either = grind arith
 row_free : (there infinite : Bool) → there ≡ false → infinite ≡ false → those_of ((there, DuplicateRow) ∷ (infinite, InfiniteValue) ∷ []) ≡ []
 row_free = grind arith
 
+-- a row by limits that no value meets is refused
+pub infinite_answered : (all : Draft) (name : List ℕ) (definition : RowDefinition) (answer : Answer) → have_infinite_side definition ≡ true
+    → answer ≡ first_refusal (refusals all (declare_row name definition)) → (P Q : Type 0) → Q
+    → Answers (refusals all (declare_row name definition)) answer P Q
+infinite_answered = grind arith
+
 module _ (sense : Option Sense) (constant : Option Number) (t u : Tables) where
   -- ---- a row
 
@@ -76,24 +83,25 @@ module _ (sense : Option Sense) (constant : Option Number) (t u : Tables) where
       constant t.objective t.rows.entries t.columns.entries k definition numbered few absent)
 
   -- a call that adds a row makes its declaration, or changes nothing
-  module _ (k : List ℕ) (definition given : RowDefinition) (is : definition ≡ given) (finite : have_infinite_side given ≡ false)
-      (numbered : IsNumbered t) (answer : Answer)
-      (h : AddsRow t k (record { definition = definition; rhs = None; range = None }) answer u) where
-    row_declared : HasNewRow t k (record { definition = definition; rhs = None; range = None }) u
-        → draft sense constant u ≡ with_declaration (draft sense constant t) (declare_row k given)
-    row_declared new = row_added k definition numbered new.added new.absent ∙ ap (λ d. with_declaration (draft sense constant t) (declare_row k d)) is
+  module _ (k : List ℕ) (given : RowDefinition) (parts : RowParts) (is : parts ≡ new_row given) (finite : have_infinite_side given ≡ false)
+      (numbered : IsNumbered t) (answer : Answer) (h : AddsRow t k parts answer u) where
+    adds : AddsRow t k (new_row given) answer u
+    adds = subst (λ (p : RowParts). AddsRow t k p answer u) is h
+
+    row_declared : HasNewRow t k (new_row given) u → draft sense constant u ≡ with_declaration (draft sense constant t) (declare_row k given)
+    row_declared new = row_added k given numbered new.added new.absent
 
     pub row_answered : (all : Draft) → draft sense constant t ≡ all → AnswersTo all (declare_row k given) answer (draft sense constant u)
     row_answered all seen = subst (λ before. AnswersTo before (declare_row k given) answer (draft sense constant u)) seen
-        (row_turned _ _ answer finite row_declared (same_tables sense constant t u) h)
+        (row_turned _ _ answer finite row_declared (same_tables sense constant t u) adds)
 
     pub row_kept : is_legal (declare_row k given) ≡ true → IsMade (draft sense constant t) → IsMade (draft sense constant u) × IsNumbered u
     row_kept legal made = row_either _ answer (λ new. (
       made_after (declare_row k given) (row_declared new) made legal
           (row_free _ _ new.absent finite) refl,
-      row_added_numbered k definition numbered new.added new.few new.absent,
+      row_added_numbered k given numbered new.added new.few new.absent,
     ))
-        (λ same. (subst IsMade (sym (same_tables sense constant t u same)) made, same_numbered t u same numbered)) h
+        (λ same. (subst IsMade (sym (same_tables sense constant t u same)) made, same_numbered t u same numbered)) adds
 
   module _ (change : RowParts → RowParts) (i : ℕ) (h : HasRowChanged t i change u) where
     rows_written : draft sense constant u ≡ draft_from sense constant t.objective (set_value_at t.rows.entries i (change h.parts)) t.columns.entries

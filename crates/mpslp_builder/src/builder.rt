@@ -3,18 +3,18 @@
 mod finish;
 mod queries;
 
-ghost use Rattle.std.specs.Prelude.{◌≡◌, IsTrue, IfSome, Ok, false};
+ghost use Rattle.std.specs.Prelude.{◌≡◌, IsTrue, Ok};
 ghost use Rattle.std.specs.Option.{ForSome};
 ghost use Rattle.mpslp_types.specs.Limit.{is_given};
-ghost use Rattle.mpslp_builder.specs.Declaration.{empty_draft, declare_sense, declare_objective, declare_constant, declare_row, by_type, by_limits, declare_rhs, declare_range, declare_column, declare_coefficient, declare_marked, declare_integer, declare_binary, declare_semi, is_free_row, have_infinite_side, rhs_declared, bounds_declared};
+ghost use Rattle.mpslp_builder.specs.Declaration.{empty_draft, declare_sense, declare_objective, declare_constant, declare_row, by_type, by_limits, declare_rhs, declare_range, declare_column, declare_coefficient, declare_marked, declare_integer, declare_binary, declare_semi, is_free_row, rhs_declared, bounds_declared};
 ghost use Rattle.mpslp_builder.specs.Refusal.{refusals, bounds_refusals};
 ghost use Rattle.mpslp_builder.specs.Answer.{AnswersTo, AnswersToAll, IsNotOutOfMemory};
 
 use crate::builder::queries::have_infinite_limit;
 use crate::tables::Tables;
+use mpslp_builder_parts::RowParts;
 use mpslp_decimal::Decimal;
 use mpslp_decimal::laws::each_value_is_a_decimal;
-use mpslp_model_core::{PackedRowDefinition, RowLimits};
 use mpslp_types::laws::each_name_is_legal;
 use mpslp_types::{BuildFault, HashSeed, Limit, Name, RowType, Sense};
 use std::alloc::Global;
@@ -47,20 +47,6 @@ impl Model for Builder {
     ghost view = { λ b. draft b.sense b.constant b.tables };
 
     ghost invariant = { λ b. IsMade (draft b.sense b.constant b.tables) × IsNumbered b.tables };
-}
-
-/// The definition of a row by its limits, if a value meets them and there is memory for them.
-fn definition_of(alloc: Global, lower: Limit, upper: Limit) -> Option<PackedRowDefinition>
-    ensures definition { IfSome result (λ definition. definition ≡ by_limits lower upper) }
-    ensures finite { IfSome result (λ definition. have_infinite_side (by_limits lower upper) ≡ false) }
-{
-    if have_infinite_limit(&lower, &upper) {
-        return None;
-    }
-    match PackedRowDefinition::of_limits(alloc, RowLimits { lower, upper }) {
-        Ok(definition) => Some(definition),
-        Err(_) => None,
-    }
 }
 
 impl Builder {
@@ -132,8 +118,7 @@ impl Builder {
         ensures { AnswersTo self.old (declare_row name (by_type row_type)) result self.new }
     {
         each_name_is_legal(&name);
-        self.tables
-            .add_row(name, PackedRowDefinition::of_type(row_type))
+        self.tables.add_row(name, RowParts::of_type(row_type))
     }
 
     /// Declares a row by its limits. A finite limit must have a magnitude below 10^20. No right-hand side and no range can be
@@ -148,12 +133,11 @@ impl Builder {
         requires upper { IsTrue (is_given upper) }
         ensures { AnswersTo self.old (declare_row name (by_limits lower upper)) result self.new }
     {
-        let Some(definition) = definition_of(self.alloc, lower, upper) else {
-            self.check_row_limits(name.as_bytes(), &lower, &upper)?;
-            return Err(BuildFault::OutOfMemory);
-        };
+        if have_infinite_limit(&lower, &upper) {
+            return self.check_row_limits(name.as_bytes(), &lower, &upper);
+        }
         each_name_is_legal(&name);
-        self.tables.add_row(name, definition)
+        self.tables.add_row(name, RowParts::of_limits(lower, upper))
     }
 
     /// Declares the right-hand side of a row. For the objective it is the negated constant. For a row of type

@@ -8,7 +8,7 @@ ghost use Rattle.mpslp_builder_parts.specs.Parts.{rhs_of, range_of, new_row};
 ghost use Rattle.mpslp_builder_parts.specs.RowForm.{limit_of_side};
 
 use mpslp_decimal::{Decimal, PackedDecimal};
-use mpslp_model_core::{PackedRowDefinition, UnpackedRowDefinition};
+use mpslp_model_core::UnpackedRowDefinition;
 use mpslp_types::{Limit, RowType};
 use std::marker::Model;
 
@@ -78,38 +78,28 @@ fn limit_of(side: Side, number: &PackedDecimal) -> Limit
     }
 }
 
-/// A row by its type, without right-hand side and range.
-fn row_by_type(row_type: RowType) -> RowParts
-    ensures { result ≡ new_row (by_type row_type) }
-{
-    RowParts {
-        form: RowForm::ByType(row_type, false, false),
-        first: PackedDecimal::of(Decimal::zero()),
-        second: PackedDecimal::of(Decimal::zero()),
-    }
-}
-
-/// A row by its limits.
-fn row_by_limits(lower: Limit, upper: Limit) -> RowParts
-    ensures { result ≡ new_row (by_limits lower upper) }
-{
-    let (lower_side, lower_number) = side_of(lower);
-    let (upper_side, upper_number) = side_of(upper);
-    RowParts {
-        form: RowForm::ByLimits(lower_side, upper_side),
-        first: PackedDecimal::of(lower_number),
-        second: PackedDecimal::of(upper_number),
-    }
-}
-
 impl RowParts {
-    /// A row without right-hand side and range. Allocates nothing.
-    pub fn new(definition: &PackedRowDefinition) -> RowParts
-        ensures { result ≡ new_row definition.now }
+    /// A row that is declared by its type, without right-hand side and range.
+    pub fn of_type(row_type: RowType) -> RowParts
+        ensures { result ≡ new_row (by_type row_type) }
     {
-        match definition.kind() {
-            UnpackedRowDefinition::ByType(row_type) => row_by_type(row_type),
-            UnpackedRowDefinition::ByLimits(lower, upper) => row_by_limits(lower, upper),
+        RowParts {
+            form: RowForm::ByType(row_type, false, false),
+            first: PackedDecimal::of(Decimal::zero()),
+            second: PackedDecimal::of(Decimal::zero()),
+        }
+    }
+
+    /// A row that is declared by its limits.
+    pub fn of_limits(lower: Limit, upper: Limit) -> RowParts
+        ensures { result ≡ new_row (by_limits lower upper) }
+    {
+        let (lower_side, lower_number) = side_of(lower);
+        let (upper_side, upper_number) = side_of(upper);
+        RowParts {
+            form: RowForm::ByLimits(lower_side, upper_side),
+            first: PackedDecimal::of(lower_number),
+            second: PackedDecimal::of(upper_number),
         }
     }
 

@@ -17,5 +17,4 @@ pub mod RowNames
 pub mod ByRow
 pub mod Iterators
 pub mod Packed
-pub mod PackedRowDefinition
 pub mod ModelRow

@@ -12,7 +12,6 @@ ghost use Rattle.mpslp_builder.specs.Calls.{row_key_of, row_name, column_name, h
 use crate::tables::{RowRef, Tables};
 use mpslp_builder_parts::{ObjectiveParts, RowParts};
 use mpslp_decimal::{Decimal, PackedDecimal};
-use mpslp_model_core::PackedRowDefinition;
 use mpslp_types::{BuildFault, Limit, Name};
 use std::alloc::{AllocError, Global};
 
@@ -45,18 +44,14 @@ impl Tables {
         }
     }
 
-    /// Adds a row without right-hand side and range. Most names are new, so the row is looked up and added at once.
-    pub(crate) fn add_row(
-        &mut self,
-        name: Name,
-        definition: PackedRowDefinition,
-    ) -> Result<(), BuildFault>
-        ensures { AddsRow self.old name (record { definition = definition; rhs = None; range = None }) result self.new }
+    /// Adds a row. Most names are new, so the row is looked up and added at once.
+    pub(crate) fn add_row(&mut self, name: Name, parts: RowParts) -> Result<(), BuildFault>
+        ensures { AddsRow self.old name parts result self.new }
     {
         if self.is_objective(name.as_bytes()) || !self.has_room() {
             return Err(self.fault_of_row(name.as_bytes()));
         }
-        let Ok((index, old)) = self.rows.insert_full(name, RowParts::new(&definition)) else {
+        let Ok((index, old)) = self.rows.insert_full(name, parts) else {
             return Err(BuildFault::OutOfMemory);
         };
         self.recent_row = index;
