@@ -1,15 +1,15 @@
 -- Entries of which contracts see a part each, for any function that gives this part.
 use Rattle.std.proofs.Common.{◌≡◌, refl, sym, ap, ◌∙◌, ℕ, zero, suc, ◌<◌, List, [], ◌∷◌, ◌++◌, length, Bool, true, false, cond}
 use Rattle.std.proofs.Common.{arith, rules}
-use Rattle.std.specs.Prelude.{Option, None, Some, is_some, slice_get, OnOk, OnErr, Ok, Result}
+use Rattle.std.specs.Prelude.{Option, None, Some, is_some, slice_get, OnOk, OnErr, Result}
 use Rattle.std.specs.{FinMap.find, List.{AllByRecursion, IsDistinct, position_or_len}, Map.{keys_of, lookup, lookup_key}}
 use Rattle.std.specs.{Cmp.Lexicographic.texts_ties, Option.{option_map, option_map_or}}
 use Rattle.indexmap.specs.IndexMap.{insert_entry, set_value_at}
 use Rattle.mpslp_decimal.specs.Decimal.{Number}
 use Rattle.mpslp_types.specs.Name.{bytes_cmp, same_bytes}
 use Rattle.mpslp_model_core.specs.Numbered.{IsOnce, each_part}
-use Rattle.mpslp_builder_parts.specs.ColumnTable.{ColumnEntries, Inserts, IsChanged, cells_in_column, name_in}
-use Rattle.mpslp_builder_parts.specs.Parts.{ColumnParts, cells_of, new_column, no_part}
+use Rattle.mpslp_builder_parts.specs.ColumnTable.{ColumnEntries, IsChanged, cells_in_column, name_in}
+use Rattle.mpslp_builder_parts.specs.Parts.{ColumnParts, cells_of, no_part}
 use Rattle.mpslp_builder_parts.proofs.{PassLemmas.each_part-append, TakenLemmas.part_at}
 
 -- ---- one entry

@@ -9,7 +9,7 @@ use Rattle.mpslp_model_core.proofs.CellLemmas.{number_tied, number_same}
 use Rattle.mpslp_model_core.specs.Numbered.{IsOnceBy}
 use Rattle.mpslp_builder_parts.specs.CoefficientLog.{LogEntries, chain, IsLog}
 use Rattle.mpslp_builder_parts.specs.KnownPairs.{has_pair, in_pairs, AreKnown, IsOpened, IsPairPut}
-use Rattle.mpslp_builder_parts.proofs.LogLemmas.{logged, kept, one_more, not_tied, is_log-logged}
+use Rattle.mpslp_builder_parts.proofs.{GroupLemmas.chained_more, LogLemmas.{logged, kept, one_more, not_tied, is_log-logged}}
 
 -- two numbers are the same or not
 pub alike : (n m : ℕ) → (n ≡ m) ⊎ (n ≡ m → ⊥)
@@ -167,6 +167,7 @@ module _ (log : LogEntries) (last row : ℕ → ℕ) (stamps : List ℕ) (open_r
     stamped = stamped_late;
     by_row = by_row_late;
     by_column = by_column_late;
+    columns = chained_more log last last_too i (r, v) k.log k.columns here there (λ n. alike n i);
     pairs = put;
   }
 

@@ -4,6 +4,10 @@ pub mod RankLemmas
 pub mod PassLemmas
 pub mod TakenLemmas
 pub mod LogLemmas
+pub mod GroupLemmas
+pub mod PlaceLemmas
+pub mod SwapLemmas
+pub mod KeptLemmas
 pub mod KnownLemmas
 pub mod TableLemmas
 pub mod RunLemmas

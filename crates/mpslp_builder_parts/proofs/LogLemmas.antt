@@ -1,13 +1,11 @@
 -- Chains of coefficients in a log.
-use Rattle.std.proofs.Common.{◌≡◌, refl, sym, ap, ◌∙◌, ℕ, zero, suc, ◌+◌, ◌≤◌, ◌<◌, List, [], ◌∷◌, ◌++◌, length, arith, slice_index, length-append, append_assoc}
+use Rattle.std.proofs.Common.{◌≡◌, refl, sym, ap, ◌∙◌, ℕ, zero, suc, ◌+◌, ◌≤◌, ◌<◌, List, [], ◌∷◌, ◌++◌, length, arith, slice_index, length-append}
 use Rattle.std.specs.{Option.option_map_or, Prelude.{Some, slice_get}}
 use Rattle.std.proofs.Common.{Bool, true, false, cond, ◌-◌, ◌||◌}
 use Rattle.std.specs.{FinMap.find, Ordering.{nat_cmp, eq_by_cmp}, Prelude.is_some}
 use Rattle.mpslp_model_core.proofs.CellLemmas.{number_same}
-use Rattle.std.proofs.{Common.{get_or, map}, lemmas.{Option.slice_get_read, List.get_or_read}}
-use Rattle.std.specs.Prelude.{filter}
-use Rattle.mpslp_model_core.specs.Numbered.{is_kept}
-use Rattle.mpslp_decimal.specs.Decimal.{Number, is_zero}
+use Rattle.std.proofs.{Common.{get_or}, lemmas.{Option.slice_get_read, List.get_or_read}}
+use Rattle.mpslp_decimal.specs.Decimal.{Number}
 use Rattle.mpslp_builder_parts.specs.CoefficientLog.{LogEntries, chain_from, chain, IsLog}
 
 -- one more item at the end
@@ -129,14 +127,3 @@ found_first row cell rest all parts = ap (λ es. is_some (find nat_cmp row es)) 
   where
     either : (b : Bool) → is_some (cond b (Some cell.1) (find nat_cmp row rest)) ≡ (b || is_some (find nat_cmp row rest))
     either = grind arith
-
--- the nonzero coefficients of a chain, each renumbered, one after another
-pub kept_next : (f : ℕ × Number → ℕ × Number) (done later : List (ℕ × Number)) (cell : ℕ × Number) (rest all : List (ℕ × Number)) (result : List (ℕ × Number))
-    → later ≡ done ++ map f (filter is_kept (cell ∷ [])) → all ≡ cell ∷ rest → done ++ map f (filter is_kept all) ≡ result
-    → later ++ map f (filter is_kept rest) ≡ result
-kept_next f done later cell rest all result is parts before = ap (λ xs. xs ++ map f (filter is_kept rest)) is ∙ joined (is_zero cell.1) refl
-    ∙ ap (λ xs. done ++ map f (filter is_kept xs)) (sym parts) ∙ before
-  where
-    joined : (b : Bool) → is_zero cell.1 ≡ b → (done ++ map f (filter is_kept (cell ∷ []))) ++ map f (filter is_kept rest) ≡ done ++ map f (filter is_kept (cell ∷ rest))
-    joined true h = grind (arith, append_assoc)
-    joined false h = grind (arith, append_assoc)

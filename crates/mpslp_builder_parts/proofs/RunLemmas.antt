@@ -1,21 +1,22 @@
--- Coefficients that are sorted where they are, column after column.
+-- Coefficients that are grouped by columns, and sorted where they are.
 use Rattle.std.proofs.Common.{◌≡◌, refl, sym, ap, subst, ◌∙◌, ℕ, zero, suc, ◌+◌, ◌-◌, ◌≤◌, ◌<◌, List, [], ◌∷◌, ◌++◌, length, arith, take, drop}
 use Rattle.std.specs.Prelude.{slice_range, reverse}
-use Rattle.mpslp_builder_parts.specs.CoefficientLog.{LogEntries, chain, IsLog, IsRun}
-use Rattle.std.proofs.{Common.{get_or, slice_index}, Math.Seq.take-suc, lemmas.Option.slice_get-get_or}
-use Rattle.mpslp_decimal.specs.Decimal.{Number, zero_number, is_zero}
-use Rattle.std.proofs.Common.{map, IsPermutation, false}
+use Rattle.mpslp_builder_parts.specs.CoefficientLog.{LogEntries, chain, IsLog}
+use Rattle.mpslp_builder_parts.specs.Grouping.{times_below, ArePlaced, HasGroup, AreGrouped}
+use Rattle.std.proofs.{Common.{get_or, slice_index}}
+use Rattle.mpslp_decimal.specs.Decimal.{Number}
+use Rattle.std.proofs.Common.{map, IsPermutation}
 use Rattle.std.specs.{Cmp.nat_cmp_total, List.{All, Sorted.IsSortedByKey}, Ordering.nat_cmp, Prelude.filter}
 use Rattle.std.proofs.lemmas.List.Sorted.{IsPermutation-trans, IsPermutation-map, IsPermutation-sym, IsPermutation-reverse}
 use Rattle.mpslp_model_core.specs.Numbered.{is_kept, moved_cells, sorted_of, IsOnceBy}
-use Rattle.mpslp_model_core.proofs.{CellLemmas.never_falls-from_sort, RenumberLemmas.{each-from_all, moved-from_any_order}}
+use Rattle.mpslp_model_core.proofs.{CellLemmas.{never_falls-from_sort, filter-permutation}, RenumberLemmas.{each-from_all, moved-from_any_order}}
 use Rattle.std.proofs.lemmas.{List.Elements.All-append, List.Sorted.All-permutation}
 use Rattle.mpslp_model_core.specs.{ModelColumns.{IsWithin, span_cells}, Numbered.each_part, declared.model_columns.ColumnSpan.ColumnSpan}
-use Rattle.mpslp_builder_parts.specs.{Parts.cells_of, StoredColumns.{IsRunFrom, IsWhole, AreRuns, parts_of, run_end}}
+use Rattle.mpslp_builder_parts.specs.{Parts.cells_of, StoredColumns.{IsWhole, last_of, parts_of}}
 use Rattle.mpslp_builder_parts.specs.declared.known_pairs.StoredColumn.{StoredColumn}
 use Rattle.mpslp_builder_parts.proofs.TableLemmas.{all_logged}
-use Rattle.mpslp_builder_parts.proofs.LogLemmas.{unchained}
-use Rattle.std.proofs.lemmas.List.{get_or-drop, get_or-take, drop-map, take-map, take-append-drop, reverse-append, take_all, drop-drop, append-nil, length-take-le, length-drop, length-append}
+use Rattle.mpslp_builder_parts.proofs.GroupLemmas.{below_all, below_le, chain_whole, grouped}
+use Rattle.std.proofs.lemmas.List.{get_or-drop, drop-map, take-map, take-append-drop, take_all, drop-drop, append-nil, length-take-le, length-drop, length-append}
 
 -- ---- a part of a list that is replaced by as many items
 
@@ -71,45 +72,6 @@ module _ {X : Type 0} (xs items ys : List X) (start end n : ℕ) (same : xs ≡ 
   pub middle_put : take (end - start) (drop start (take start items ++ (ys ++ drop end items))) ≡ ys
   middle_put = (λ i. take (sym as_many i) (drop (sym heads i) (take start items ++ (ys ++ drop end items)))) ∙ take-middle (take start items) ys (drop end items)
 
--- ---- the coefficients of a column, one after another in the log
-
--- one more item of a part
-slice-more : (cells : List (ℕ × Number)) (start n : ℕ) (d : ℕ × Number) → start + n < length cells
-    → slice_range cells start (start + suc n) ≡ slice_range cells start (start + n) ++ get_or cells (start + n) d ∷ []
-slice-more cells start n d below = let left = length-drop start cells in let one : (start + suc n) - start ≡ suc n = omega arith in
-    let none : (start + n) - start ≡ n = omega arith in
-    ap (λ m. take m (drop start cells)) one ∙ take-suc (drop start cells) n d (omega (arith, below, left))
-    ∙ (λ i. take (sym none i) (drop start cells) ++ get_or-drop start cells n d i ∷ [])
-
-module _ (log : LogEntries) (start place : ℕ) (is : IsLog log) (run : IsRun log start place) (within : place ≤ length log.cells) where
-  no_cell : ℕ × Number
-  no_cell = (0, zero_number)
-
-  step : (n : ℕ) → start + suc n ≤ place
-      → chain log (start + suc n) ≡ get_or log.cells (start + n) no_cell ∷ chain log (slice_index log.earlier (start + n))
-  step n below = let next : start + suc n ≡ suc (start + n) = omega arith in
-      unchained log is (start + suc n) (start + n) (get_or log.cells (start + n) no_cell) next
-      (slice_get-get_or log.cells (start + n) no_cell (omega (arith, below, within)))
-
-  turned : (n : ℕ) (rest : List (ℕ × Number)) → start + suc n ≤ place → rest ≡ reverse (slice_range log.cells start (start + n))
-      → get_or log.cells (start + n) no_cell ∷ rest ≡ reverse (slice_range log.cells start (start + suc n))
-  turned n rest below is_rest = ap (λ es. get_or log.cells (start + n) no_cell ∷ es) is_rest
-      ∙ sym (ap reverse (slice-more log.cells start n no_cell (omega (arith, below, within)))
-      ∙ reverse-append (slice_range log.cells start (start + n)) (get_or log.cells (start + n) no_cell ∷ []))
-
-  -- the chain from the place after an index of a run
-  run_chain : (n : ℕ) → start + suc n ≤ place → chain log (start + suc n) ≡ reverse (slice_range log.cells start (start + suc n))
-  run_chain zero below = let here : start + 0 ≡ start = omega arith in let none : start - start ≡ 0 = omega arith in
-      step zero below ∙ turned zero _ below (ap (chain log) (ap (slice_index log.earlier) here ∙ run.first)
-      ∙ sym (ap reverse (ap (λ m. slice_range log.cells start m) here ∙ ap (λ m. take m (drop start log.cells)) none)))
-  run_chain (suc n) below = let link = run.links (start + suc n) (omega arith) (omega (arith, below)) in
-      step (suc n) below ∙ turned (suc n) _ below (ap (chain log) link ∙ run_chain n (omega (arith, below)))
-
-  pub run_reversed : chain log place ≡ reverse (slice_range log.cells start place)
-  run_reversed = let order = run.order in
-      let whole : start + suc (place - suc start) ≡ place = omega (arith, order) in
-      subst (λ p. chain log p ≡ reverse (slice_range log.cells start p)) whole (run_chain (place - suc start) (omega (arith, order)))
-
 -- ---- parts of the vector while its columns are sorted one after another
 
 take-short : {X : Type 0} (k n : ℕ) (xs : List X) → k ≤ n → take k (take n xs) ≡ take k xs
@@ -136,56 +98,41 @@ drop-later xs ys start end same order = let whole : start + (end - start) ≡ en
     ap (λ m. drop m xs) (sym whole) ∙ sym (drop-drop (end - start) start xs) ∙ ap (drop (end - start)) same
     ∙ drop-drop (end - start) start ys ∙ ap (λ m. drop m ys) whole
 
-none_zero : (es : List (ℕ × Number)) → ((k : ℕ) (d : ℕ × Number) → k < length es → is_zero (get_or es k d).1 ≡ false) → filter is_kept es ≡ es
-none_zero [] h = refl
-none_zero (e ∷ es) h = let first = h zero e (omega arith) in grind (arith, none_zero es (λ k d l. h (suc k) d (omega (arith, l))))
-
 -- the sorted coefficients of a column are those with the final numbers of their rows
-pub run_moved : (log : LogEntries) (is : IsLog log) (ranks : List ℕ)
+pub group_moved : (log : LogEntries) (ranks : List ℕ)
     (apart : (n m : ℕ) → n < length ranks → m < length ranks → slice_index ranks n ≡ slice_index ranks m → n ≡ m)
-    (start last end : ℕ) → IsRunFrom log start last → end ≡ run_end start last → last ≤ length log.cells → IsOnceBy nat_cmp (chain log last)
-    → All (λ cell. cell.0 < length ranks) (chain log last) → (cells sorted : List (ℕ × Number))
-    → drop start cells ≡ drop start (map (λ cell. (slice_index ranks cell.0, cell.1)) log.cells)
-    → IsPermutation (slice_range cells start end) (slice_range sorted start end) → IsSortedByKey (λ cell. cell.0) nat_cmp (slice_range sorted start end)
-    → slice_range sorted start end ≡ moved_cells ranks (sorted_of nat_cmp (chain log last))
-run_moved log is ranks apart start zero end run ends place once within cells sorted rest moved rises =
-    let none : end - start ≡ 0 = omega (arith, ends) in ap (λ m. take m (drop start sorted)) none
-run_moved log is ranks apart start (suc last) end run ends place once within cells sorted rest moved rises =
-    moved-from_any_order (length ranks) (λ n. slice_index ranks n) apart (chain log (suc last)) (slice_range sorted start end) once
-    (each-from_all (λ e. e.0 < length ranks) (chain log (suc last)) within)
-    (IsPermutation-trans (map f (filter is_kept (chain log (suc last)))) (slice_range cells start end) (slice_range sorted start end)
-    (subst (λ (es : List (ℕ × Number)). IsPermutation es (slice_range cells start end)) (sym kept) (subst (IsPermutation (map f (reverse part))) (sym same)
-    (IsPermutation-map f (reverse part) part (IsPermutation-sym part (reverse part) (IsPermutation-reverse part))))) moved)
-    (never_falls-from_sort nat_cmp_total (λ (e : ℕ × Number). e.0) (slice_range sorted start end) rises)
+    (all : List (ℕ × Number)) (start end last kept : ℕ) → HasGroup log all start end last → IsOnceBy nat_cmp (chain log last)
+    → All (λ cell. cell.0 < length ranks) (chain log last) → (cells grouped sorted : List (ℕ × Number))
+    → drop start cells ≡ drop start (map (λ cell. (slice_index ranks cell.0, cell.1)) all)
+    → slice_range grouped start kept ≡ filter is_kept (slice_range cells start end)
+    → IsPermutation (slice_range grouped start kept) (slice_range sorted start kept)
+    → IsSortedByKey (λ cell. cell.0) nat_cmp (slice_range sorted start kept)
+    → slice_range sorted start kept ≡ moved_cells ranks (sorted_of nat_cmp (chain log last))
+group_moved log ranks apart all start end last kept group once within cells grouped sorted rest nonzero moved rises =
+    moved-from_any_order (length ranks) rank apart (chain log last) (slice_range sorted start kept) once
+    (each-from_all (λ e. e.0 < length ranks) (chain log last) within)
+    (IsPermutation-trans (map f (filter is_kept (chain log last))) (slice_range grouped start kept) (slice_range sorted start kept)
+    (subst (λ (es : List (ℕ × Number)). IsPermutation (map f (filter is_kept es)) (slice_range grouped start kept)) (sym group.own)
+    (subst (IsPermutation (map f (filter is_kept (reverse part)))) (sym (nonzero ∙ ap (filter is_kept) same ∙ map_kept part))
+    (IsPermutation-map f (filter is_kept (reverse part)) (filter is_kept part) (filter-permutation is_kept (reverse part) part
+    (IsPermutation-sym part (reverse part) (IsPermutation-reverse part)))))) moved)
+    (never_falls-from_sort nat_cmp_total (λ (e : ℕ × Number). e.0) (slice_range sorted start kept) rises)
   where
+    rank : ℕ → ℕ
+    rank n = slice_index ranks n
+
     f : ℕ × Number → ℕ × Number
-    f cell = (slice_index ranks cell.0, cell.1)
+    f cell = (rank cell.0, cell.1)
 
     part : List (ℕ × Number)
-    part = slice_range log.cells start (suc last)
-
-    turned : chain log (suc last) ≡ reverse part
-    turned = run_reversed log start (suc last) is run place
+    part = slice_range all start end
 
     same : slice_range cells start end ≡ map f part
-    same = ap (λ m. slice_range cells start m) ends ∙ ap (take (suc last - start)) (rest ∙ drop-map f start log.cells) ∙ take-map f (suc last - start) (drop start log.cells)
+    same = ap (take (end - start)) (rest ∙ drop-map f start all) ∙ take-map f (end - start) (drop start all)
 
-    nonzero : All (λ cell. is_zero cell.1 ≡ false) part
-    nonzero k d below =
-        let left = length-drop start log.cells in
-        let long = length-take-le (suc last - start) (drop start log.cells) (omega (arith, left, place)) in
-        ap (λ (cell : ℕ × Number). is_zero cell.1) (get_or-take (suc last - start) (drop start log.cells) k d (omega (arith, below, long))
-        ∙ get_or-drop start log.cells k d) ∙ run.kept (start + k) d (omega arith) (omega (arith, below, long))
-
-    kept : map f (filter is_kept (chain log (suc last))) ≡ map f (reverse part)
-    kept = ap (λ (es : List (ℕ × Number)). map f (filter is_kept es)) turned
-        ∙ ap (map f) (none_zero (reverse part) (All-permutation (λ cell. is_zero cell.1 ≡ false) part (reverse part) (IsPermutation-reverse part) nonzero))
-
--- where a column's coefficients end
-pub run_bounds : (log : LogEntries) (start last end n : ℕ) → IsRunFrom log start last → end ≡ run_end start last → last ≤ n → start ≤ n
-    → (start ≤ end) × (end ≤ n)
-run_bounds log start zero end n run ends place room = (omega (arith, ends), omega (arith, ends, room))
-run_bounds log start (suc last) end n run ends place room = let order = run.order in (omega (arith, ends, order), omega (arith, ends, place))
+    map_kept : (es : List (ℕ × Number)) → filter is_kept (map f es) ≡ map f (filter is_kept es)
+    map_kept [] = refl
+    map_kept (e ∷ es) = grind (arith, map_kept es)
 
 -- columns before an index keep their coefficients
 pub spans-short : (after cells : List (ℕ × Number)) (start : ℕ) → take start after ≡ take start cells → (es : List (List ℕ × ColumnSpan))
@@ -195,37 +142,90 @@ spans-short after cells start same (e ∷ es) within = let own = within zero e (
     λ i. (e.0, slice-short after cells start e.1.start e.1.end same own.order own.room i)
     ∷ spans-short after cells start same es (λ k d below. within (suc k) d (omega (arith, below))) i
 
--- what holds of the coefficients of all columns holds of the log
-covered : (P : ℕ × Number → Type 0) (log : LogEntries) (is : IsLog log) (start last : ℕ) → IsRunFrom log start last → last ≤ length log.cells
-    → All P (chain log last) → All P (drop (run_end start last) log.cells) → All P (drop start log.cells)
-covered P log is start zero run place own rest = rest
-covered P log is start (suc last) run place own rest =
-    let order = run.order in
-    let whole : start + (suc last - start) ≡ suc last = omega (arith, order) in
-    let part = slice_range log.cells start (suc last) in
-    subst (All P) (ap (λ es. part ++ es) (ap (λ m. drop m log.cells) (sym whole) ∙ sym (drop-drop (suc last - start) start log.cells))
-    ∙ take-append-drop (suc last - start) (drop start log.cells))
-    (All-append P part (drop (suc last) log.cells) (All-permutation P (reverse part) part (IsPermutation-sym part (reverse part)
-    (IsPermutation-reverse part)) (subst (All P) (run_reversed log start (suc last) is run place) own)) rest)
+-- what holds of the coefficients of all columns holds of the vector
+covered : (P : ℕ × Number → Type 0) (log : LogEntries) (all : List (ℕ × Number)) (start end last : ℕ) → HasGroup log all start end last
+    → All P (chain log last) → All P (drop end all) → All P (drop start all)
+covered P log all start end last group own rest =
+    let order = group.order in
+    let whole : start + (end - start) ≡ end = omega (arith, order) in
+    let part = slice_range all start end in
+    subst (All P) (ap (λ es. part ++ es) (ap (λ m. drop m all) (sym whole) ∙ sym (drop-drop (end - start) start all))
+    ∙ take-append-drop (end - start) (drop start all))
+    (All-append P part (drop end all) (All-permutation P (reverse part) part (IsPermutation-sym part (reverse part)
+    (IsPermutation-reverse part)) (subst (All P) group.own own)) rest)
 
-pub all_covered : (P : ℕ × Number → Type 0) (log : LogEntries) (is : IsLog log) (es : List (List ℕ × StoredColumn)) (start : ℕ) → AreRuns log start es
-    → All (λ e. IsWhole log e.1) es → All (λ e. All P (cells_of e.1)) (each_part (parts_of log) es) → All P (drop start log.cells)
-all_covered P log is [] start runs known within = λ k d below. let len = length-drop start log.cells in absurd (omega (arith, below, len, runs))
-all_covered P log is (e ∷ es) start runs known within =
+pub all_covered : (P : ℕ × Number → Type 0) (log : LogEntries) (all : List (ℕ × Number)) (es : List (List ℕ × StoredColumn)) (start : ℕ) (ends : List ℕ)
+    → AreGrouped log all start ends es → All (λ e. IsWhole log e.1) es → All (λ e. All P (cells_of e.1)) (each_part (parts_of log) es)
+    → All P (drop start all)
+all_covered P log all [] start ends groups known within = λ k d below. let len = length-drop start all in absurd (omega (arith, below, len, groups))
+all_covered P log all (e ∷ es) start ends groups known within =
     let own = known zero e (omega arith) in
-    covered P log is start e.1.last runs.0 own.place (all_logged P log e.1 own (within zero (e.0, parts_of log e.1) (omega arith)))
-    (all_covered P log is es (run_end start e.1.last) runs.1 (λ k d below. known (suc k) d (omega (arith, below)))
+    covered P log all start (slice_index ends 0) e.1.last groups.0 (all_logged P log e.1 own (within zero (e.0, parts_of log e.1) (omega arith)))
+    (all_covered P log all es (slice_index ends 0) (drop 1 ends) groups.1 (λ k d below. known (suc k) d (omega (arith, below)))
     (λ k d below. within (suc k) d (omega (arith, below))))
 
+-- the coefficients at their places are grouped by their columns
+module _ (log : LogEntries) (is : IsLog log) (last : ℕ → ℕ) (count : ℕ) (places ends : List ℕ) (placed : ArePlaced log.earlier last count places ends)
+    (all : List (ℕ × Number)) (len : length all ≡ length log.cells)
+    (moved : (i : ℕ) (d : ℕ × Number) → i < length log.cells → get_or all (slice_index places i) d ≡ get_or log.cells i d) where
+  numbers_len : length placed.numbers ≡ length log.cells
+  numbers_len = placed.chained.len ∙ is.len
+
+  has_group : (n : ℕ) → HasGroup log all (times_below n placed.numbers) (times_below (suc n) placed.numbers) (last n)
+  has_group n = record {
+    order = omega arith;
+    room = let most = below_le (suc n) placed.numbers in let long = numbers_len in omega (arith, most, long, len);
+    own = chain_whole log is last placed.numbers placed.chained n ∙ ap reverse (sym (grouped placed.numbers log.cells all numbers_len len
+        (λ i d below. ap (λ p. get_or all p d) (sym (placed.each i below)) ∙ moved i d (let long = numbers_len in omega (arith, below, long))) n));
+  }
+
+  -- the columns from a number on
+  pub groups_from : (n start : ℕ) (later : List ℕ) (es : List (List ℕ × StoredColumn)) → start ≡ times_below n placed.numbers → n + length es ≡ count
+      → ((k : ℕ) → k < length es → slice_index later k ≡ slice_index ends (n + k)) → ((k : ℕ) → last_of es k ≡ last (n + k)) → AreGrouped log all start later es
+  groups_from n start later [] start_is whole ends_are lasts_are =
+      let all_of : n ≡ count = omega (arith, whole) in
+      start_is ∙ ap (λ m. times_below m placed.numbers) all_of ∙ below_all count placed.numbers placed.below ∙ numbers_len ∙ sym len
+  groups_from n start later (e ∷ es) start_is whole ends_are lasts_are =
+      let none : n + 0 ≡ n = omega arith in
+      let end : slice_index later 0 ≡ times_below (suc n) placed.numbers =
+      ends_are 0 (omega arith) ∙ ap (slice_index ends) none ∙ placed.end_of n (omega (arith, whole)) in
+      let own : e.1.last ≡ last n = lasts_are 0 ∙ ap last none in (
+        subst (λ (s : (ℕ × ℕ) × ℕ). HasGroup log all s.0.0 s.0.1 s.1) (λ i. ((sym start_is i, sym end i), sym own i)) (has_group n),
+        groups_from (suc n) (slice_index later 0) (drop 1 later) es end (omega (arith, whole))
+            (λ k below. get_or-drop 1 later k 0 ∙ ap (slice_index later) (let next : 1 + k ≡ suc k = omega arith in next) ∙ ends_are (suc k) (omega (arith, below)) ∙ ap (slice_index ends) (let same : n + suc k ≡ suc n + k = omega arith in same))
+            (λ k. lasts_are (suc k) ∙ ap last (let same : n + suc k ≡ suc n + k = omega arith in same)),
+      )
+
+pub are_grouped : (log : LogEntries) → IsLog log → (es : List (List ℕ × StoredColumn)) (cells all : List (ℕ × Number)) (links places ends : List ℕ)
+    → cells ≡ log.cells → links ≡ log.earlier → ArePlaced links (last_of es) (length es) places ends → length all ≡ length cells
+    → ((i : ℕ) (d : ℕ × Number) → i < length cells → get_or all (slice_index places i) d ≡ get_or cells i d) → AreGrouped log all 0 ends es
+are_grouped log is es cells all links places ends cells_are links_are placed len moved =
+    groups_from log is (last_of es) (length es) places ends (subst (λ ls. ArePlaced ls (last_of es) (length es) places ends) links_are placed) all
+    (len ∙ ap length cells_are)
+    (subst (λ (cs : List (ℕ × Number)). (i : ℕ) (d : ℕ × Number) → i < length cs → get_or all (slice_index places i) d ≡ get_or cs i d) cells_are moved)
+    0 0 ends es refl (omega arith) (λ k below. ap (slice_index ends) (first k)) (λ k. ap (last_of es) (first k))
+  where
+    first : (k : ℕ) → k ≡ 0 + k
+    first k = omega arith
+
+-- the columns before a number are sorted, and those that are left are grouped still
+pub record IsPartly (log : LogEntries) (ranks : List ℕ) (number start : ℕ) (ends : List ℕ) (cells : List (ℕ × Number)) (left : List (List ℕ × StoredColumn)) : Type 0 where
+  pub all : List (ℕ × Number)
+  pub len : length cells ≡ length all
+  pub rest : drop start cells ≡ drop start (map (λ cell. (slice_index ranks cell.0, cell.1)) all)
+  pub groups : AreGrouped log all start (drop number ends) left
+  pub room : start ≤ length all
+  pub whole : number + length left ≡ length ends
+
 -- all columns with one more
-pub within-next : (start end : ℕ) (es done : List (List ℕ × ColumnSpan)) (e : List ℕ × ColumnSpan) → start ≤ end → done ≡ es ++ e ∷ []
-    → e.1.start ≡ start → e.1.end ≡ end → All (λ e. IsWithin start e.1) es → All (λ e. IsWithin end e.1) done
-within-next start end es done e order made starts ends within = subst (All (λ e. IsWithin end e.1)) (sym made)
+pub within-next : (start kept end : ℕ) (es done : List (List ℕ × ColumnSpan)) (e : List ℕ × ColumnSpan) → start ≤ kept → kept ≤ end
+    → done ≡ es ++ e ∷ [] → e.1.start ≡ start → e.1.end ≡ kept → All (λ e. IsWithin start e.1) es → All (λ e. IsWithin end e.1) done
+within-next start kept end es done e order inside made starts ends within = subst (All (λ e. IsWithin end e.1)) (sym made)
     (All-append (λ e. IsWithin end e.1) es (e ∷ []) (λ k d below. let before = within k d below in record {
       order = before.order;
-      room = let room = before.room in omega (arith, room, order);
+      room = let room = before.room in omega (arith, room, order, inside);
     }) own)
   where
     own : All (λ e. IsWithin end e.1) (e ∷ [])
-    own zero d below = record { order = omega (arith, starts, ends, order); room = omega (arith, ends) }
+    own zero d below = record { order = omega (arith, starts, ends, order); room = omega (arith, ends, inside) }
     own (suc k) d below = absurd (omega (arith, below))

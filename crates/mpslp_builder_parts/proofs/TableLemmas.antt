@@ -1,17 +1,15 @@
 -- The columns of a table, after one more coefficient.
-use Rattle.std.proofs.Common.{◌≡◌, refl, sym, ap, subst, ◌∙◌, ℕ, zero, suc, ◌≤◌, ◌<◌, List, [], ◌∷◌, ◌++◌, length, arith, ◌-◌, take, drop, Bool, false, ◌≢◌, slice_index, inl, inr}
+use Rattle.std.proofs.Common.{◌≡◌, refl, sym, ap, subst, ◌∙◌, ℕ, zero, suc, ◌≤◌, ◌<◌, List, [], ◌∷◌, ◌++◌, length, arith, Bool, false, ◌≢◌, slice_index, inl, inr}
 use Rattle.std.specs.{Option.{IfSome, option_map, option_map_or}, Ordering.nat_cmp, Prelude.{Option, Some, None, slice_get}, BTreeSet.{BTreeSet}}
 use Rattle.std.specs.{BTreeMap.is_at, List.list_any}
 use Rattle.indexmap.specs.IndexMap.{set_value_at}
 use Rattle.mpslp_decimal.specs.Decimal.{Number}
-use Rattle.std.specs.{List.All, Prelude.slice_range}
-use Rattle.std.proofs.lemmas.List.{take-append-le, drop-append-le, take_all, length-drop, length-append}
-use Rattle.mpslp_model_core.specs.{Numbered.{each_part, sorted_of, IsOnceBy}, ModelColumns.{IsWithin, span_cells}}
-use Rattle.mpslp_model_core.specs.declared.model_columns.ColumnSpan.{ColumnSpan}
+use Rattle.std.specs.{List.All}
+use Rattle.mpslp_model_core.specs.{Numbered.{each_part, sorted_of, IsOnceBy}}
 use Rattle.mpslp_model_core.proofs.RenumberLemmas.{all-from_each, each-of_map}
 use Rattle.mpslp_builder_parts.specs.CoefficientLog.{LogEntries, chain, IsLog}
 use Rattle.mpslp_builder_parts.specs.KnownPairs.{AreKnown, in_pairs, pair_key, has_pair, IsPutIfSome, IsSameIfSome, IsOpened}
-use Rattle.mpslp_builder_parts.specs.StoredColumns.{parts_of, last_of, last_row_of, HasLast, IsKnown, IsWhole, IsRunFrom, AreRuns, run_end}
+use Rattle.mpslp_builder_parts.specs.StoredColumns.{parts_of, last_of, last_row_of, HasLast, IsKnown, IsWhole}
 use Rattle.mpslp_builder_parts.specs.declared.known_pairs.{StoredColumn.StoredColumn, KnownPairs.KnownPairs}
 use Rattle.std.specs.{Cmp.nat_cmp_total, FinMap.find, Prelude.is_some}
 use Rattle.mpslp_model_core.proofs.CellLemmas.{find-sorted_of}
@@ -132,6 +130,7 @@ known_none log known is stamps row column pairs =
       stamped = λ r i stamp. let none = ap (λ xs. slice_index xs r) stamps in absurd (omega (arith, none, stamp));
       by_row = λ r at i had. absurd (cc);
       by_column = λ i at r had. absurd (cc);
+      columns = record { numbers = []; chained = record { len = refl; links = λ i below. absurd (omega (arith, below)); lasts = λ n. refl } };
       pairs = subst (λ (o : Option (BTreeSet ℕ)). IfSome o (λ set. (i r : ℕ) → r < 4294967296 → in_pairs set i r ≡ false)) (sym pairs) tt;
     })
 
@@ -192,69 +191,8 @@ pub all_logged : (P : ℕ × Number → Type 0) (log : LogEntries) (column : Sto
     → All P (sorted_of nat_cmp (chain log column.last)) → All P (chain log column.last)
 all_logged P log column whole all = all-from_each P (chain log column.last) (each-of_map P (chain log column.last) whole.once all)
 
-span-kept : (cells more : List (ℕ × Number)) (span : ColumnSpan) → IsWithin (length cells) span → span_cells (cells ++ more) span ≡ span_cells cells span
-span-kept cells more span within = let order = within.order in let room = within.room in let len = length-drop span.start cells in
-    ap (take (span.end - span.start)) (drop-append-le span.start cells more (omega (arith, order, room)))
-    ∙ take-append-le (span.end - span.start) (drop span.start cells) more (omega (arith, order, room, len))
-
--- more coefficients leave those of the columns as they are
-pub spans-kept : (cells more : List (ℕ × Number)) (es : List (List ℕ × ColumnSpan)) → All (λ e. IsWithin (length cells) e.1) es
-    → each_part (span_cells (cells ++ more)) es ≡ each_part (span_cells cells) es
-spans-kept cells more [] within = refl
-spans-kept cells more (e ∷ es) within = λ i. (e.0, span-kept cells more e.1 (within zero e (omega arith)) i)
-    ∷ spans-kept cells more es (λ k d below. within (suc k) d (omega (arith, below))) i
-
--- the coefficients of a column that are appended
-pub span-last : (cells more : List (ℕ × Number)) (start end : ℕ) → start ≡ length cells → end ≡ length (cells ++ more)
-    → slice_range (cells ++ more) start end ≡ more
-span-last cells more start end is ends = let len = length-append cells more in
-    ap (λ n. take (end - n) (drop n (cells ++ more))) is ∙ ap (take (end - length cells)) (drop-all cells)
-    ∙ take_all (end - length cells) more (omega (arith, ends, len))
-  where
-    drop-all : (xs : List (ℕ × Number)) → drop (length xs) (xs ++ more) ≡ more
-    drop-all [] = refl
-    drop-all (x ∷ xs) = drop-all xs
-
--- all columns with one more
-pub within-more : (cells later more : List (ℕ × Number)) (es done : List (List ℕ × ColumnSpan)) (e : List ℕ × ColumnSpan)
-    → later ≡ cells ++ more → done ≡ es ++ e ∷ [] → e.1.start ≡ length cells → e.1.end ≡ length later
-    → All (λ e. IsWithin (length cells) e.1) es → All (λ e. IsWithin (length later) e.1) done
-within-more cells later more es done e is made starts ends within = let len = ap length is ∙ length-append cells more in
-    subst (All (λ e. IsWithin (length later) e.1)) (sym made) (all-more es (λ k d below. let before = within k d below in record {
-      order = before.order;
-      room = let room = before.room in omega (arith, room, len);
-    }))
-  where
-    own : IsWithin (length later) e.1
-    own = record { order = let len = ap length is ∙ length-append cells more in omega (arith, starts, ends, len); room = omega (arith, ends) }
-
-    all-more : (es : List (List ℕ × ColumnSpan)) → All (λ e. IsWithin (length later) e.1) es → All (λ e. IsWithin (length later) e.1) (es ++ e ∷ [])
-    all-more [] all zero d below = own
-    all-more [] all (suc k) d below = absurd (omega (arith, below))
-    all-more (x ∷ xs) all zero d below = all zero d (omega arith)
-    all-more (x ∷ xs) all (suc k) d below = all-more xs (λ n b under. all (suc n) b (omega (arith, under))) k d (omega (arith, below))
-
 pub all_whole : (log : LogEntries) (es : List (List ℕ × StoredColumn)) → ((i : ℕ) → last_of es i ≤ length log.cells)
     → ((i : ℕ) → IsOnceBy nat_cmp (chain log (last_of es i))) → All (λ e. IsWhole log e.1) es
 all_whole log [] within once k d below = absurd (omega (arith, below))
 all_whole log (e ∷ es) within once zero d below = record { place = within zero; once = once zero }
 all_whole log (e ∷ es) within once (suc k) d below = all_whole log es (λ i. within (suc i)) (λ i. once (suc i)) k d (omega (arith, below))
-
--- ---- coefficients that come one column after another
-
--- the column at an index, and those after it
-pub runs_next : (log : LogEntries) (es : List (List ℕ × StoredColumn)) (i start last end : ℕ) (all : Type 0) → i < length es → last ≡ last_of es i
-    → IsRunFrom log start last → end ≡ run_end start last → (AreRuns log start (drop i es) → all) → AreRuns log end (drop (suc i) es) → all
-runs_next log [] i start last end all below is run ends before more = absurd (omega (arith, below))
-runs_next log (e ∷ es) zero start last end all below is run ends before more =
-    before (subst (IsRunFrom log start) is run, subst (λ n. AreRuns log n es) (ends ∙ ap (run_end start) is) more)
-runs_next log (e ∷ es) (suc i) start last end all below is run ends before more =
-    runs_next log es i start last end all (omega (arith, below)) is run ends before more
-
-pub runs_end : (log : LogEntries) (es : List (List ℕ × StoredColumn)) (start i : ℕ) → i ≡ length es → start ≡ length log.cells
-    → AreRuns log start (drop i es)
-runs_end log es start i is ends = subst (λ n. AreRuns log start (drop n es)) (sym is) (none es)
-  where
-    none : (es : List (List ℕ × StoredColumn)) → AreRuns log start (drop (length es) es)
-    none [] = ends
-    none (e ∷ es) = none es

@@ -1,8 +1,8 @@
 -- The coefficients of all columns in one log, in the order in which they were put. Those of a column are a chain: beside each is the
 -- place of the one before it in its column. Places count from 1, and 0 is the end of a chain.
-use Rattle.std.specs.Prelude.{◌≡◌, ◌≤◌, ◌<◌, ℕ, zero, suc, List, [], ◌∷◌, length, slice_get, slice_index, slice_index_or, false}
+use Rattle.std.specs.Prelude.{◌≡◌, ◌≤◌, ℕ, zero, suc, List, [], ◌∷◌, length, slice_get, slice_index}
 use Rattle.std.specs.Option.{option_map_or}
-use Rattle.mpslp_decimal.specs.Decimal.{Number, is_zero}
+use Rattle.mpslp_decimal.specs.Decimal.{Number}
 
 pub record LogEntries : Type 0 where
   pub cells : List (ℕ × Number)
@@ -22,10 +22,3 @@ chain log place = chain_from log place place
 pub record IsLog (log : LogEntries) : Type 0 where
   pub len : length log.earlier ≡ length log.cells
   pub below : (index : ℕ) → slice_index log.earlier index ≤ index
-
--- the coefficients from an index up to a place are the chain from that place, and none of them is 0
-pub record IsRun (log : LogEntries) (start place : ℕ) : Type 0 where
-  pub order : start < place
-  pub first : slice_index log.earlier start ≡ 0
-  pub links : (index : ℕ) → start < index → index < place → slice_index log.earlier index ≡ index
-  pub kept : (index : ℕ) (d : ℕ × Number) → start ≤ index → index < place → is_zero (slice_index_or log.cells index d).1 ≡ false

@@ -6,6 +6,7 @@ use Rattle.std.specs.FinMap.{find}
 use Rattle.std.specs.BTreeSet.{BTreeSet, contains, IsUnchanged}
 use Rattle.mpslp_model_core.specs.Numbered.{IsOnceBy}
 use Rattle.mpslp_builder_parts.specs.CoefficientLog.{LogEntries, chain, IsLog}
+use Rattle.mpslp_builder_parts.specs.Grouping.{HaveNumbers}
 
 -- whether there is a coefficient of a row in the chain that begins at the place of a column
 abbrev pub has_pair : LogEntries → (ℕ → ℕ) → ℕ → ℕ → Bool
@@ -46,6 +47,7 @@ pub record AreKnown (all : LogEntries) (last row : ℕ → ℕ) (stamps : List �
   pub stamped : (r i : ℕ) → slice_index stamps r ≡ suc i → has_pair all last i r ≡ true
   pub by_row : (r : ℕ) → open_row ≡ Some r → (i : ℕ) → has_pair all last i r ≡ true → row i ≡ r
   pub by_column : (i : ℕ) → open_column ≡ Some i → (r : ℕ) → has_pair all last i r ≡ true → slice_index stamps r ≡ suc i
+  pub columns : HaveNumbers all.earlier last
   pub pairs : IfSome set (λ pairs. (i r : ℕ) → r < 4294967296 → in_pairs pairs i r ≡ has_pair all last i r)
 
 -- how an open row or column is chosen: it stays, or it had no coefficient before, or there is none

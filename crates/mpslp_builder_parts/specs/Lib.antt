@@ -8,5 +8,6 @@ pub mod DeclaredBounds
 pub mod StoredBounds
 pub mod StoredColumns
 pub mod CoefficientLog
+pub mod Grouping
 pub mod KnownPairs
 pub mod RowForm

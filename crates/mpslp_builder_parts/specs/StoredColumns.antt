@@ -1,12 +1,12 @@
 -- Columns in their form in the code.
-use Rattle.std.specs.Prelude.{◌≡◌, ◌≤◌, ℕ, zero, suc, List, [], ◌∷◌, Some, slice_get, length}
+use Rattle.std.specs.Prelude.{◌≡◌, ◌≤◌, ℕ, List, Some, slice_get, length}
 use Rattle.std.specs.Option.{option_map_or}
 use Rattle.std.specs.Ordering.{nat_cmp}
 use Rattle.indexmap.specs.IndexMap.{set_value_at}
 use Rattle.mpslp_model_core.specs.Numbered.{each_part, sorted_of, IsOnceBy}
 use Rattle.mpslp_builder_parts.specs.Parts.{ColumnParts, parts_with}
 use Rattle.mpslp_builder_parts.specs.ColumnTable.{ColumnEntries}
-use Rattle.mpslp_builder_parts.specs.CoefficientLog.{LogEntries, chain, IsRun}
+use Rattle.mpslp_builder_parts.specs.CoefficientLog.{LogEntries, chain}
 use Rattle.mpslp_builder_parts.specs.KnownPairs.{AreKnown}
 use Rattle.mpslp_builder_parts.specs.declared.parts.ColumnDefinition.{ColumnDefinition}
 use Rattle.mpslp_builder_parts.specs.declared.known_pairs.StoredColumn.{StoredColumn}
@@ -43,17 +43,3 @@ pub record HasLast (i place row : ℕ) (old new : List (List ℕ × StoredColumn
 pub record IsWhole (log : LogEntries) (column : StoredColumn) : Type 0 where
   pub place : column.last ≤ length log.cells
   pub once : IsOnceBy nat_cmp (chain log column.last)
-
--- where the coefficients of a column end in the log that begin at an index, if they come one after another
-abbrev pub run_end : ℕ → ℕ → ℕ
-run_end start zero = start
-run_end start (suc place) = suc place
-
-abbrev pub IsRunFrom : LogEntries → ℕ → ℕ → Type 0
-IsRunFrom log start zero = Unit {0}
-IsRunFrom log start (suc place) = IsRun log start (suc place)
-
--- the coefficients of one column after another are the log from an index on, and none of them is 0
-abbrev pub AreRuns : LogEntries → ℕ → List (List ℕ × StoredColumn) → Type 0
-AreRuns log start [] = start ≡ length log.cells
-AreRuns log start (column ∷ columns) = IsRunFrom log start column.1.last × AreRuns log (run_end start column.1.last) columns

@@ -1,11 +1,9 @@
 //! The coefficients of all columns in one log.
 
-ghost use Rattle.std.specs.Prelude.{◌≡◌, ◌≤◌, ◌<◌, ◌||◌, ◌++◌, ◌∷◌, [], ℕ, suc, IsTrue, IfOk, OnOk, OnErr, length, map, filter, is_some, slice_index};
-ghost use Rattle.std.specs.List.{All};
+ghost use Rattle.std.specs.Prelude.{◌≡◌, ◌≤◌, ◌<◌, ◌||◌, ◌++◌, ◌∷◌, [], ℕ, suc, IfOk, OnOk, OnErr, length, is_some};
 ghost use Rattle.std.specs.Ordering.{nat_cmp, eq_by_cmp};
 ghost use Rattle.std.specs.FinMap.{find};
-ghost use Rattle.mpslp_model_core.specs.Numbered.{sorted_of, is_kept, moved_cells, IsOnceBy};
-ghost use Rattle.mpslp_builder_parts.specs.CoefficientLog.{chain, IsRun};
+ghost use Rattle.mpslp_builder_parts.specs.CoefficientLog.{chain};
 
 use mpslp_decimal::{Decimal, PackedDecimal};
 use std::alloc::{AllocError, Global};
@@ -31,23 +29,6 @@ impl Model for CoefficientLog {
     ghost invariant = { λ log. IsLog (record { cells = log.cells.items; earlier = log.earlier.items }) };
 }
 
-/// Appends a coefficient with the final number of its row, unless it is 0.
-fn push_kept(
-    run: &mut Vec<(u32, PackedDecimal)>,
-    cell: &(u32, PackedDecimal),
-    ranks: &[u32],
-) -> Result<(), AllocError>
-    requires { cell.now.0 < length ranks.now }
-    ensures { OnOk result (run.new.items ≡ run.old.items ++ map (λ cell. (slice_index ranks.now cell.0, cell.1)) (filter is_kept (cell.now ∷ []))) }
-{
-    let value = cell.1.value();
-    if value.is_zero() {
-        return Ok(());
-    }
-    run.push((ranks[cell.0 as usize], PackedDecimal::of(value)))?;
-    Ok(())
-}
-
 impl CoefficientLog {
     /// No coefficients. Allocates nothing.
     pub(crate) fn new(alloc: Global) -> CoefficientLog
@@ -57,13 +38,6 @@ impl CoefficientLog {
             cells: Vec::new(alloc),
             earlier: Vec::new(alloc),
         }
-    }
-
-    /// The number of coefficients.
-    pub(crate) fn len(&self) -> usize
-        ensures { result ≡ length self.now.cells }
-    {
-        self.cells.len()
     }
 
     /// Puts a coefficient, and returns its place. `earlier` is that of the one before it in its column.
@@ -115,74 +89,11 @@ impl CoefficientLog {
         false
     }
 
-    /// Replaces the items of `run` by the nonzero coefficients of the chain from a place, with the final numbers of their rows, the
-    /// latest first.
-    fn fill_run(
-        &self,
-        run: &mut Vec<(u32, PackedDecimal)>,
-        place: u32,
-        ranks: &[u32],
-    ) -> Result<(), AllocError>
-        requires place { place ≤ length self.now.cells }
-        requires within { All (λ cell. cell.0 < length ranks.now) (chain self.now place) }
-        ensures { OnOk result (run.new.items ≡ map (λ cell. (slice_index ranks.now cell.0, cell.1)) (filter is_kept (chain self.now place))) }
+    /// The coefficients in the order in which they were put, and beside each the place of the one before it in its column.
+    pub(crate) fn into_parts(self) -> (Vec<(u32, PackedDecimal)>, Vec<u32>)
+        ensures cells { result.0.items ≡ self.cells }
+        ensures links { result.1.items ≡ self.earlier }
     {
-        run.clear();
-        let mut at = place;
-        while at > 0 {
-            let index = at as usize - 1;
-            push_kept(run, &self.cells[index], ranks)?;
-            at = self.earlier[index];
-        }
-        Ok(())
-    }
-
-    /// Appends the nonzero coefficients of the chain from a place, with the final numbers of their rows and in the order of these.
-    /// `run` is room for them, which is used for one column after another.
-    pub(crate) fn append_column(
-        &self,
-        cells: &mut Vec<(u32, PackedDecimal)>,
-        run: &mut Vec<(u32, PackedDecimal)>,
-        place: u32,
-        ranks: &[u32],
-    ) -> Result<(), AllocError>
-        requires place { place ≤ length self.now.cells }
-        requires once { IsOnceBy nat_cmp (chain self.now place) }
-        requires within { All (λ cell. cell.0 < length ranks.now) (chain self.now place) }
-        requires apart { (n m : ℕ) → n < length ranks.now → m < length ranks.now → slice_index ranks.now n ≡ slice_index ranks.now m → n ≡ m }
-        ensures { OnOk result (cells.new.items ≡ cells.old.items ++ moved_cells ranks.now (sorted_of nat_cmp (chain self.now place))) }
-    {
-        self.fill_run(run, place, ranks)?;
-        run.sort_unstable_by_key(|cell| cell.0);
-        cells.append(run)
-    }
-
-    /// Whether the coefficients from an index up to a place are the chain from that place, and none of them is 0.
-    pub(crate) fn is_run(&self, start: usize, place: u32) -> bool
-        requires { place ≤ length self.now.cells }
-        ensures { IsTrue result → IsRun self.now start place }
-    {
-        let end = place as usize;
-        if start >= end || self.earlier[start] != 0 {
-            return false;
-        }
-        for index in start..end {
-            if self.cells[index].1.value().is_zero() {
-                return false;
-            }
-        }
-        for later in start + 1..end {
-            if self.earlier[later] as usize != later {
-                return false;
-            }
-        }
-        true
-    }
-
-    /// The coefficients in the order in which they were put.
-    pub(crate) fn into_cells(self) -> Vec<(u32, PackedDecimal)>
-        ensures { result.items ≡ self.cells }
-    {
-        self.cells
+        (self.cells, self.earlier)
     }
 }

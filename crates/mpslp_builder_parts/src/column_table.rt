@@ -10,15 +10,17 @@ ghost use Rattle.mpslp_model_core.specs.ModelColumns.{IsWithin, span_bounds, spa
 ghost use Rattle.mpslp_model_core.specs.Numbered.{IsOnce, each_part};
 ghost use Rattle.mpslp_builder_parts.specs.Parts.{cells_of, no_part, parts_with, new_column, with_cell, with_bounds, definition_in, bounds_of, moved_in};
 ghost use Rattle.mpslp_builder_parts.specs.CoefficientLog.{IsLog};
+ghost use Rattle.mpslp_builder_parts.specs.Grouping.{HaveNumbers};
 ghost use Rattle.mpslp_builder_parts.specs.ColumnTable.{name_in, cells_in_column, Inserts, IsChanged};
-ghost use Rattle.mpslp_builder_parts.specs.StoredColumns.{parts_of, definition_of_stored, run_end, AreRuns, IsWhole};
+ghost use Rattle.mpslp_builder_parts.specs.StoredColumns.{parts_of, definition_of_stored, last_of, IsWhole};
 
 use crate::coefficient_log::CoefficientLog;
+use crate::grouping::places_of;
 use crate::known_pairs::{
-    Columns, KnownPairs, MOST_COLUMNS, StoredColumn, are_runs, drop_known, forget_pairs, has_cell,
-    last_of, note, prepare, put_known, set_last,
+    Columns, KnownPairs, MOST_COLUMNS, StoredColumn, drop_known, forget_pairs, has_cell, last_of,
+    note, prepare, put_known, set_last,
 };
-use crate::moving::{in_order_between, renumbered};
+use crate::moving::{at_places, in_order_between, nonzero_first, renumbered};
 use crate::parts::ColumnDefinition;
 use indexmap::IndexMap;
 use mpslp_decimal::{Decimal, PackedDecimal};
@@ -48,65 +50,6 @@ impl Model for ColumnTable {
     ghost invariant = { λ table. IsKnown table.columns.entries table.log table.known };
 }
 
-/// Appends the coefficients of a column with the final row numbers. Returns where they are, and its type and bounds.
-fn append_column(
-    alloc: Global,
-    column: StoredColumn,
-    log: &CoefficientLog,
-    ranks: &[u32],
-    cells: &mut Vec<(u32, PackedDecimal)>,
-    run: &mut Vec<(u32, PackedDecimal)>,
-) -> Result<ColumnSpan, AllocError>
-    requires known { IsWhole log.now column }
-    requires within { All (λ cell. cell.0 < length ranks.now) (cells_of (parts_of log.now column)) }
-    requires apart { (n m : ℕ) → n < length ranks.now → m < length ranks.now → slice_index ranks.now n ≡ slice_index ranks.now m → n ≡ m }
-    ensures bounds { IfOk result (λ span. span.bounds ≡ bounds_of (parts_of log.now column)) }
-    ensures start { IfOk result (λ span. span.start ≡ length cells.old.items) }
-    ensures end { IfOk result (λ span. span.end ≡ length cells.new.items) }
-    ensures cells { OnOk result (cells.new.items ≡ cells.old.items ++ moved_in ranks.now (parts_of log.now column)) }
-{
-    let bounds = ModelBounds::of(alloc, column.definition.declared().bounds())?;
-    let start = cells.len();
-    log.append_column(cells, run, column.last, ranks)?;
-    let end = cells.len();
-    Ok(ColumnSpan { bounds, start, end })
-}
-
-/// The columns of a model with their names and the final row numbers, in the order in which they were declared, and the coefficients
-/// of all of them.
-///
-/// Coefficients are renumbered before the columns are sorted, while the columns are in memory in the order of their declarations. In
-/// the other order each access would be far from the one before it.
-fn columns_in(
-    alloc: Global,
-    columns: Columns,
-    log: &CoefficientLog,
-    ranks: &[u32],
-) -> Result<(Vec<(Name, ColumnSpan)>, Vec<(u32, PackedDecimal)>), AllocError>
-    requires known { All (λ column. IsWhole log.now column.1) columns.entries }
-    requires within { All (λ column. All (λ cell. cell.0 < length ranks.now) (cells_of column.1)) (each_part (parts_of log.now) columns.entries) }
-    requires apart { (n m : ℕ) → n < length ranks.now → m < length ranks.now → slice_index ranks.now n ≡ slice_index ranks.now m → n ≡ m }
-    ensures bounds { IfOk result (λ made. each_part span_bounds made.0.items ≡ each_part bounds_of (each_part (parts_of log.now) columns.entries)) }
-    ensures cells { IfOk result (λ made. each_part (span_cells made.1.items) made.0.items ≡ each_part (moved_in ranks.now) (each_part (parts_of log.now) columns.entries)) }
-    ensures places { IfOk result (λ made. All (λ column. IsWithin (length made.1.items) column.1) made.0.items) }
-{
-    let mut made = Vec::with_capacity(alloc, columns.len())?;
-    let mut cells = Vec::with_capacity(alloc, log.len())?;
-    let mut run = Vec::new(alloc);
-    for (name, column) in columns {
-        let span = append_column(alloc, column, log, ranks, &mut cells, &mut run)?;
-        made.push((name, span))?;
-    }
-    Ok((made, cells))
-}
-
-/// Where the coefficients of a column end that begin at an index, if they come one after another.
-fn end_of(start: usize, last: u32) -> usize
-    ensures { result ≡ run_end start last }
-{
-    if last == 0 { start } else { last as usize }
-}
-
 /// Where the coefficients of a column are, and its type and bounds.
 fn span_between(
     alloc: Global,
@@ -122,16 +65,19 @@ fn span_between(
     Ok(ColumnSpan { bounds, start, end })
 }
 
-/// The same as `columns_in`, where the log has the coefficients of one column after another and none is 0. They stay where they
-/// are, so there is no second vector of them.
-fn columns_in_place(
+/// The columns of a model with their names and the final row numbers, in the order in which they were declared, and the coefficients
+/// of all of them.
+///
+/// Coefficients are grouped and renumbered before the columns are sorted, while the columns are in memory in the order of their
+/// declarations. In the other order each access would be far from the one before it.
+fn columns_in(
     alloc: Global,
     columns: Columns,
     log: CoefficientLog,
     ranks: &[u32],
 ) -> Result<(Vec<(Name, ColumnSpan)>, Vec<(u32, PackedDecimal)>), AllocError>
     requires log { IsLog log }
-    requires runs { AreRuns log 0 columns.entries }
+    requires numbers { HaveNumbers log.earlier (last_of columns.entries) }
     requires known { All (λ column. IsWhole log column.1) columns.entries }
     requires within { All (λ column. All (λ cell. cell.0 < length ranks.now) (cells_of column.1)) (each_part (parts_of log) columns.entries) }
     requires apart { (n m : ℕ) → n < length ranks.now → m < length ranks.now → slice_index ranks.now n ≡ slice_index ranks.now m → n ≡ m }
@@ -139,19 +85,19 @@ fn columns_in_place(
     ensures cells { IfOk result (λ made. each_part (span_cells made.1.items) made.0.items ≡ each_part (moved_in ranks.now) (each_part (parts_of log) columns.entries)) }
     ensures places { IfOk result (λ made. All (λ column. IsWithin (length made.1.items) column.1) made.0.items) }
 {
-    let mut cells = renumbered(log.into_cells(), ranks);
+    let (cells, links) = log.into_parts();
+    let (places, ends) = places_of(alloc, &columns, links)?;
+    let mut cells = renumbered(at_places(cells, places), ranks);
     let mut made = Vec::with_capacity(alloc, columns.len())?;
     let mut start = 0;
+    let mut number = 0;
     for (name, column) in columns {
-        let StoredColumn {
-            last,
-            last_row: _,
-            definition,
-        } = column;
-        let end = end_of(start, last);
-        cells = in_order_between(cells, start, end);
-        made.push((name, span_between(alloc, definition, start, end)?))?;
+        let end = ends[number] as usize;
+        let (grouped, kept) = nonzero_first(cells, start, end);
+        cells = in_order_between(grouped, start, kept);
+        made.push((name, span_between(alloc, column.definition, start, kept)?))?;
         start = end;
+        number += 1;
     }
     Ok((made, cells))
 }
@@ -381,9 +327,6 @@ impl ColumnTable {
             known,
         } = self;
         drop_known(known);
-        if are_runs(&columns, &log) {
-            return columns_in_place(alloc, columns, log, ranks);
-        }
-        columns_in(alloc, columns, &log, ranks)
+        columns_in(alloc, columns, log, ranks)
     }
 }

@@ -9,7 +9,7 @@ ghost use Rattle.std.specs.Ordering.{nat_cmp};
 ghost use Rattle.std.specs.FinMap.{find};
 ghost use Rattle.mpslp_builder_parts.specs.CoefficientLog.{chain};
 ghost use Rattle.mpslp_builder_parts.specs.KnownPairs.{has_pair, in_pairs, IsPutIfSome, IsSameIfSome, IsOpened};
-ghost use Rattle.mpslp_builder_parts.specs.StoredColumns.{IsKnown, IsRunFrom, AreRuns, HasLast, last_of, run_end};
+ghost use Rattle.mpslp_builder_parts.specs.StoredColumns.{IsKnown, HasLast, last_of};
 
 use crate::coefficient_log::CoefficientLog;
 use crate::pair_set::{is_in, put_pair};
@@ -286,37 +286,6 @@ pub(crate) fn set_last(columns: &mut Columns, column: usize, place: u32, row: u3
     let (_name, stored) = columns.pair_mut(column);
     stored.last = place;
     stored.last_row = row;
-}
-
-/// Where the coefficients of a column end that begin at an index of the log, if they come one after another and none is 0.
-fn run_end(log: &CoefficientLog, start: usize, last: u32) -> Option<usize>
-    requires { last ≤ length log.now.cells }
-    ensures run { IfSome result (λ end. IsRunFrom log.now start last) }
-    ensures end { IfSome result (λ end. end ≡ run_end start last) }
-{
-    if last == 0 {
-        return Some(start);
-    }
-    if log.is_run(start, last) {
-        Some(last as usize)
-    } else {
-        None
-    }
-}
-
-/// Whether the log has the coefficients of one column after another, and none is 0.
-pub(crate) fn are_runs(columns: &Columns, log: &CoefficientLog) -> bool
-    requires { (i : ℕ) → last_of columns.now.entries i ≤ length log.now.cells }
-    ensures { IsTrue result → AreRuns log.now 0 columns.now.entries }
-{
-    let mut start = 0;
-    for column in 0..columns.len() {
-        match run_end(log, start, last_of(columns, column)) {
-            Some(end) => start = end,
-            None => return false,
-        }
-    }
-    start == log.len()
 }
 
 /// Drops what is known of the pairs.

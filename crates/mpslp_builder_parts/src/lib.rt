@@ -7,6 +7,7 @@
 mod coefficient_log;
 mod column_table;
 mod declared_bounds;
+mod grouping;
 mod known_pairs;
 mod model_rows_and_columns;
 mod moving;

@@ -1,11 +1,60 @@
-//! Coefficients with new row numbers.
+//! Coefficients at new places, and with new row numbers.
 
-ghost use Rattle.std.specs.Prelude.{◌≡◌, ◌<◌, ◌≤◌, map, take, drop, length, slice_index, slice_range};
+ghost use Rattle.std.specs.Prelude.{◌≡◌, ◌≢◌, ◌<◌, ◌≤◌, ℕ, map, filter, take, drop, length, slice_index, slice_index_or, slice_range};
 ghost use Rattle.std.specs.List.{All};
 ghost use Rattle.std.specs.List.Sorted.{IsPermutation, IsSortedByKey};
 ghost use Rattle.std.specs.Ordering.{nat_cmp};
+ghost use Rattle.mpslp_decimal.specs.Decimal.{Number};
+ghost use Rattle.mpslp_model_core.specs.Numbered.{is_kept};
 
 use mpslp_decimal::PackedDecimal;
+
+/// The coefficients, each at its place. They are swapped, because a second vector of all would be the peak of memory.
+pub(crate) fn at_places(
+    cells: Vec<(u32, PackedDecimal)>,
+    places: Vec<u32>,
+) -> Vec<(u32, PackedDecimal)>
+    requires len { length places.items ≡ length cells.items }
+    requires within { (i : ℕ) → i < length places.items → slice_index places.items i < length places.items }
+    requires apart { (i j : ℕ) → i < j → j < length places.items → slice_index places.items i ≢ slice_index places.items j }
+    ensures len { length result.items ≡ length cells.items }
+    ensures moved { (i : ℕ) (d : ℕ × Number) → i < length cells.items → slice_index_or result.items (slice_index places.items i) d ≡ slice_index_or cells.items i d }
+{
+    let mut cells = cells;
+    let mut places = places;
+    for at in 0..cells.len() {
+        while places[at] as usize != at {
+            let place = places[at] as usize;
+            cells.swap(at, place);
+            places.swap(at, place);
+        }
+    }
+    cells
+}
+
+/// The coefficients, those between two indices that are not 0 before those that are, and the index after the former.
+pub(crate) fn nonzero_first(
+    cells: Vec<(u32, PackedDecimal)>,
+    start: usize,
+    end: usize,
+) -> (Vec<(u32, PackedDecimal)>, usize)
+    requires { start ≤ end × end ≤ length cells.items }
+    ensures before { take start result.0.items ≡ take start cells.items }
+    ensures after { drop end result.0.items ≡ drop end cells.items }
+    ensures len { length result.0.items ≡ length cells.items }
+    ensures within { start ≤ result.1 × result.1 ≤ end }
+    ensures kept { slice_range result.0.items start result.1 ≡ filter is_kept (slice_range cells.items start end) }
+{
+    let mut cells = cells;
+    let mut kept = start;
+    for at in start..end {
+        if !cells[at].1.value().is_zero() {
+            cells.swap(kept, at);
+            kept += 1;
+        }
+    }
+    (cells, kept)
+}
 
 /// The coefficients with the final numbers of their rows.
 pub(crate) fn renumbered(

@@ -20,5 +20,5 @@ pub returns-clause-cells : goal.returns-clause-cells
 returns-clause-cells c = if_ok c.columns_in.result (λ _ is. is
     ∙ ap (λ (columns : ColumnEntries). each_part (moved_in c.args.ranks.now) columns.entries) c.self.view_is) c.columns_in.ensures.cells
 
-pub columns_in_place-requires-clause-known : goal.columns_in_place-requires-clause-known
-columns_in_place-requires-clause-known c = all_whole c.self.inside.log c.self.inside.columns.entries c.self.invariant.within c.self.invariant.once
+pub columns_in-requires-clause-numbers : goal.columns_in-requires-clause-numbers
+columns_in-requires-clause-numbers c = c.self.invariant.columns
