@@ -18,16 +18,19 @@ use mpslp_maps::entry_at;
 use mpslp_types::Name;
 use std::marker::Model;
 
-/// Where the coefficients of a column are in the vector of all, and its type and bounds.
+/// Where the coefficients of a column are in the vector of all, and its type and bounds. The builder counts coefficients by numbers
+/// of 32 bits, so these indices have no more.
 #[derive(Debug, Drop)]
 pub struct ColumnSpan {
     /// Its type and bounds.
     pub bounds: ModelBounds,
     /// The index of its first coefficient.
-    pub start: usize,
+    pub start: u32,
     /// The index after its last coefficient.
-    pub end: usize,
+    pub end: u32,
 }
+
+const _: () = prove!(size_of::<ColumnSpan>() == 32);
 
 /// The columns of a model in byte order of their names, with the coefficients of all of them in one vector. So there is no
 /// allocation for each column, and coefficients that are read one after another are next to one another.
@@ -57,7 +60,7 @@ fn cells_of<'a>(cells: &'a [(u32, PackedDecimal)], span: &ColumnSpan) -> &'a [(u
     requires { IsWithin (length cells.now) span.now }
     ensures { result.now ≡ span_cells cells.now span.now }
 {
-    &cells[span.start..span.end]
+    &cells[span.start as usize..span.end as usize]
 }
 
 impl ModelColumns {
