@@ -54,8 +54,8 @@ impl Model for ColumnTable {
 fn span_between(
     alloc: Global,
     definition: ColumnDefinition,
-    start: usize,
-    end: usize,
+    start: u32,
+    end: u32,
 ) -> Result<ColumnSpan, AllocError>
     ensures bounds { IfOk result (λ span. span.bounds ≡ bounds_of (parts_with [] definition)) }
     ensures start { IfOk result (λ span. span.start ≡ start) }
@@ -92,10 +92,10 @@ fn columns_in(
     let mut start = 0;
     let mut number = 0;
     for (name, column) in columns {
-        let end = ends[number] as usize;
-        let (grouped, kept) = nonzero_first(cells, start, end);
-        cells = in_order_between(grouped, start, kept);
-        made.push((name, span_between(alloc, column.definition, start, kept)?))?;
+        let end = ends[number];
+        let (grouped, kept) = nonzero_first(cells, start as usize, end as usize);
+        cells = in_order_between(grouped, start as usize, kept);
+        made.push((name, span_between(alloc, column.definition, start, kept as u32)?))?;
         start = end;
         number += 1;
     }

@@ -74,7 +74,7 @@ loop-name-preserved c =
     let start = c.loop-name.start in
     let number = c.loop-name.number in
     let ends = c.in_ok-places.ends.items in
-    let end = c.index.result.now in
+    let end = c.index-end.result.now in
     let kept = c.nonzero_first-grouped.result.1 in
     let column = c.in-Some.column in
     let left = each_part (parts_of log) c.next.new.self in
@@ -93,7 +93,7 @@ loop-name-preserved c =
     let as_many = partly.whole in
     let last : number + 0 ≡ number = omega arith in
     let end_is : slice_index (drop number ends) 0 ≡ end = get_or-drop number ends 0 0 ∙ ap (slice_index ends) last
-    ∙ sym (get_or_read ends number end (omega (arith, long, as_many)) c.index.ensures 0) in
+    ∙ sym (get_or_read ends number end (omega (arith, long, as_many)) c.index-end.ensures 0) in
     let group = subst (λ n. HasGroup log partly.all start n column.last) end_is first.0 in
     let order = group.order in
     let whole = holds_first (λ column. IsWhole log column.1) c.loop-name.name-iterator c.next.new.self (c.in-Some.name, column)
