@@ -1,6 +1,6 @@
 //! Tests of the coefficients of all columns during building.
 
-use mpslp_builder_parts::ColumnTable;
+use mpslp_builder_parts::{ColumnTable, Inserted};
 use mpslp_decimal::Decimal;
 use mpslp_types::{FIXED_SEED, Name};
 use std::alloc::{AllocError, Global};
@@ -114,19 +114,40 @@ fn keeps_coefficients_row_by_row(rt: HostRuntime) -> Result<(), Fail> {
     Ok(())
 }
 
-/// What adding y returns where it is there with a coefficient, and the rows of each column after that.
-fn added_again(alloc: Global) -> Result<((usize, bool), [[bool; 5]; 4]), Fail> {
+/// The number of a column that had its name already.
+fn number_if_there(inserted: Inserted) -> Option<usize> {
+    match inserted {
+        Inserted::New(_number) => None,
+        Inserted::There(number) => Some(number),
+    }
+}
+
+/// The number of y, which is there with a coefficient, when it is added once more, and the rows of each column after that.
+fn added_again(alloc: Global) -> Result<(Option<usize>, [[bool; 5]; 4]), Fail> {
     let mut table = of_pairs(alloc, &[(1, 4)])?;
-    let added = table.insert(Name::new(alloc, b"y".as_slice())?)?;
-    Ok((added, presence(&table)))
+    let inserted = table.insert(Name::new(alloc, b"y".as_slice())?)?;
+    Ok((number_if_there(inserted), presence(&table)))
+}
+
+/// The number of w, which is not there, when it is added after three columns, and again if it was there.
+fn added_last(alloc: Global) -> Result<(usize, Option<usize>), Fail> {
+    let mut table = three_columns(alloc)?;
+    let inserted = table.insert(Name::new(alloc, b"w".as_slice())?)?;
+    Ok((inserted.number(), number_if_there(inserted)))
+}
+
+#[test]
+fn new_column_has_the_next_number(rt: HostRuntime) -> Result<(), Fail> {
+    let (number, if_there) = added_last(rt.alloc())?;
+    assert_eq!(rt; number, 3);
+    assert_eq!(rt; if_there, None);
+    Ok(())
 }
 
 #[test]
 fn column_that_is_there_keeps_its_coefficients(rt: HostRuntime) -> Result<(), Fail> {
-    let (added, rows) = added_again(rt.alloc())?;
-    let (number, is_new) = added;
-    assert_eq!(rt; number, 1);
-    assert_eq!(rt; is_new, false);
+    let (number, rows) = added_again(rt.alloc())?;
+    assert_eq!(rt; number, Some(1));
     assert_eq!(rt;
         rows,
         [NONE, [false, false, false, false, true], NONE, NONE]

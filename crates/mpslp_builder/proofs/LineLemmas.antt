@@ -15,7 +15,7 @@ use Prelude.{is_sorted, slice_get_read, flat_map-append, insert_end, list_any-ap
 use Prelude.{DuplicateEntry, put-insert, found_nowhere, place_after, sorted-put, head_of, is_sorted-sorted_of, Answer, term_declared}
 use Prelude.{DeclaresInTurn, HasColumn, AreDeclaredUnless, have_infinite_side, is_legal, IsMade, Answers, those_of, DuplicateRow, InfiniteValue}
 use Rattle.mpslp_builder.specs.{Answer.AnswersTo, Calls.{AddsRow, HasNewRow}, LineTables.Starts}
-use Rattle.mpslp_builder_parts.specs.ColumnTable.{Inserts}
+use Rattle.mpslp_builder_parts.specs.{ColumnTable.{Inserts, number_inserted}, declared.column_table.Inserted.{Inserted, TheVariants.{New, There}}}
 use Prelude.{find-sorted_of, each_part, first_refusal}
 use Rattle.mpslp_builder_parts.specs.Parts.{new_row}
 use Rattle.mpslp_builder.{specs.declared.tables.RowRef.TheVariants.Row, proofs.TableDrafts.{column_draft, column_numbered, kept_numbered}}
@@ -414,14 +414,14 @@ module _ (t u : Tables) (numbered : IsNumbered t) where
 -- a column that is inserted
 module _ (t u : Tables) (numbered : IsNumbered t) (name : List ℕ) (legal : is_mps_name name ≡ true) (objective : u.objective ≡ t.objective)
     (rows : u.rows.entries ≡ t.rows.entries) where
-  pub inserted : (r : Result (ℕ × Bool) AllocError) → Inserts t.columns name r u.columns → Follows t u × Starts t name r u
-  inserted (Ok (n, true)) h =
+  pub inserted : (r : Result Inserted AllocError) → Inserts t.columns name r u.columns → Follows t u × Starts t name r u
+  inserted (Ok (New n)) h =
       let absent = ap is_some (find-sorted_of bytes_cmp bytes_total name (each_part no_part t.columns.entries) ∙ h.0) in
       let added : HasColumnAdded t name new_column u = record { objective = objective; rows = rows; columns = h.2 } in (
         start_follows t u numbered name added absent legal,
         (absent, subst (λ n. HasStarted t name n u) (sym h.1) (started t u numbered name added absent)),
       )
-  inserted (Ok (n, false)) h = let same : IsSameTables t u = record { objective = objective; rows = rows; columns = h.2 } in (follows_same t u numbered same, (h.1, same))
+  inserted (Ok (There n)) h = let same : IsSameTables t u = record { objective = objective; rows = rows; columns = h.2 } in (follows_same t u numbered same, (h.1, same))
   inserted (Err e) h = let same : IsSameTables t u = record { objective = objective; rows = rows; columns = h } in (follows_same t u numbered same, same)
 
 -- a column that is declared may be declared again
@@ -488,13 +488,13 @@ laid_same : (t u v : Tables) (ds : Declarations) → AreDeclared t ds u → IsSa
 laid_same t u v ds laid same = record { free = laid.free; declared = λ sense constant. same_tables sense constant u v same ∙ laid.declared sense constant }
 
 -- a column that is new or there, and what is not declared may change
-pub has_column_of : (t u v : Tables) (name : List ℕ) (of_name : ℕ × Bool) → Starts t name (Ok of_name) u → IsSameTables u v
-    → HasColumn t name of_name.0 v
-has_column_of t u v name (n, true) h same = record {
+pub has_column_of : (t u v : Tables) (name : List ℕ) (of_name : Inserted) → Starts t name (Ok of_name) u → IsSameTables u v
+    → HasColumn t name (number_inserted of_name) v
+has_column_of t u v name (New n) h same = record {
   named = ap (λ es. option_map (λ e. e.0) (slice_get es n)) same.columns ∙ h.1.named;
   declared = laid_same t u v _ h.1.declared same;
 }
-has_column_of t u v name (n, false) h same = record {
+has_column_of t u v name (There n) h same = record {
   named = ap (λ es. option_map (λ e. e.0) (slice_get es n)) (same.columns ∙ h.1.columns) ∙ h.0;
   declared = laid_same t u v _ (laid_same t t u _ (there_laid t name n h.0) h.1) same;
 }

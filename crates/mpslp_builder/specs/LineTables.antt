@@ -6,6 +6,8 @@ use Rattle.std.specs.FinMap.{find}
 use Rattle.std.specs.declared.alloc.AllocError.{AllocError}
 use Rattle.mpslp_decimal.specs.Decimal.{Number}
 use Rattle.mpslp_types.specs.declared.kinds.Sense.{Sense}
+use Rattle.mpslp_builder_parts.specs.declared.column_table.Inserted.{Inserted}
+use Rattle.mpslp_builder_parts.specs.declared.column_table.Inserted.TheVariants.{New, There}
 use Rattle.mpslp_builder.specs.Declaration.{declare_column, Declarations, with_declarations, has_row, has_column}
 use Rattle.mpslp_builder.specs.Refusal.{refusals_in_turn}
 use Rattle.mpslp_builder.specs.Made.{IsMade}
@@ -76,7 +78,7 @@ pub record HasStarted (t : Tables) (name : List ℕ) (column : ℕ) (u : Tables)
   pub semi : column_satisfies u column (λ parts. parts.semi) ≡ false
 
 -- a column of this name is new, or it is there and nothing changes; it has this number
-abbrev pub Starts : Tables → List ℕ → Result (ℕ × Bool) AllocError → Tables → Type 0
-Starts t name (Ok (column, true)) u = (has_column (draft None None t) name ≡ false) × HasStarted t name column u
-Starts t name (Ok (column, false)) u = (column_name t column ≡ Some name) × IsSameTables t u
+abbrev pub Starts : Tables → List ℕ → Result Inserted AllocError → Tables → Type 0
+Starts t name (Ok (New column)) u = (has_column (draft None None t) name ≡ false) × HasStarted t name column u
+Starts t name (Ok (There column)) u = (column_name t column ≡ Some name) × IsSameTables t u
 Starts t name (Err _) u = IsSameTables t u

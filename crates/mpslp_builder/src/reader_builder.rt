@@ -11,6 +11,7 @@ ghost use Rattle.mpslp_builder.specs.RowTerms.{term_declared, DeclaresInTurn};
 use crate::builder::Builder;
 use crate::entries::Entries;
 use crate::row_terms::RowTerms;
+use mpslp_builder_parts::Inserted;
 use mpslp_decimal::Decimal;
 use mpslp_types::{BuildFault, Name};
 
@@ -81,12 +82,14 @@ impl ReaderBuilder {
         let Some(rows) = draft.tables.row_numbers(entries) else {
             return Ok(false);
         };
-        let (column, is_new) = draft.tables.start_column(name)?;
-        if !is_new {
-            return Ok(false);
+        let inserted = draft.tables.start_column(name)?;
+        match inserted {
+            Inserted::New(column) => {
+                draft.tables.put_line(column, is_marked, rows, entries)?;
+                Ok(true)
+            }
+            Inserted::There(_column) => Ok(false),
         }
-        draft.tables.put_line(column, is_marked, rows, entries)?;
-        Ok(true)
     }
 
     /// Declares a column, and its coefficient of a row or of the objective. It does what [`column`](crate::Builder::column) and

@@ -1,5 +1,5 @@
 -- The columns by number, in the order of their declarations.
-use Rattle.std.specs.Prelude.{◌≡◌, ℕ, Bool, true, false, List, [], ◌∷◌, ◌++◌, Option, Some, None, Result, Ok, Err, is_some, length, slice_get}
+use Rattle.std.specs.Prelude.{◌≡◌, ℕ, true, List, [], ◌∷◌, ◌++◌, Option, Some, None, Result, Ok, Err, is_some, length, slice_get}
 use Rattle.std.specs.Option.{option_map, option_map_or}
 use Rattle.std.specs.FinMap.{find}
 use Rattle.std.specs.declared.alloc.AllocError.{AllocError}
@@ -8,6 +8,8 @@ use Rattle.mpslp_decimal.specs.Decimal.{Number}
 use Rattle.mpslp_types.specs.Name.{bytes_cmp}
 use Rattle.mpslp_model_core.specs.Numbered.{each_part}
 use Rattle.mpslp_builder_parts.specs.Parts.{ColumnParts, cells_of, new_column, no_part}
+use Rattle.mpslp_builder_parts.specs.declared.column_table.Inserted.{Inserted}
+use Rattle.mpslp_builder_parts.specs.declared.column_table.Inserted.TheVariants.{New, There}
 
 pub record ColumnEntries : Type 0 where
   pub entries : List (List ℕ × ColumnParts)
@@ -20,11 +22,16 @@ name_in columns i = option_map (λ e. e.0) (slice_get columns.entries i)
 abbrev pub cells_in_column : ColumnEntries → ℕ → List (ℕ × Number)
 cells_in_column columns i = option_map_or (λ e. cells_of e.1) (slice_get columns.entries i) []
 
+-- the number of the column, new or not
+abbrev pub number_inserted : Inserted → ℕ
+number_inserted (New number) = number
+number_inserted (There number) = number
+
 -- a new column is added, and has this number, or the column of this name has it and nothing changes
-abbrev pub Inserts : ColumnEntries → List ℕ → Result (ℕ × Bool) AllocError → ColumnEntries → Type 0
-Inserts old name (Ok (number, true)) new =
+abbrev pub Inserts : ColumnEntries → List ℕ → Result Inserted AllocError → ColumnEntries → Type 0
+Inserts old name (Ok (New number)) new =
     (find bytes_cmp name (each_part no_part old.entries) ≡ None) × (number ≡ length old.entries) × (new.entries ≡ old.entries ++ (name, new_column) ∷ [])
-Inserts old name (Ok (number, false)) new =
+Inserts old name (Ok (There number)) new =
     (is_some (find bytes_cmp name (each_part no_part old.entries)) ≡ true) × (name_in old number ≡ Some name) × (new.entries ≡ old.entries)
 Inserts old name (Err _) new = new.entries ≡ old.entries
 

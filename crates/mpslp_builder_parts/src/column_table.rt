@@ -11,7 +11,7 @@ ghost use Rattle.mpslp_model_core.specs.Numbered.{IsOnce, each_part};
 ghost use Rattle.mpslp_builder_parts.specs.Parts.{cells_of, no_part, parts_with, new_column, with_cell, with_bounds, definition_in, bounds_of, moved_in};
 ghost use Rattle.mpslp_builder_parts.specs.CoefficientLog.{IsLog};
 ghost use Rattle.mpslp_builder_parts.specs.Grouping.{HaveNumbers};
-ghost use Rattle.mpslp_builder_parts.specs.ColumnTable.{name_in, cells_in_column, Inserts, IsChanged};
+ghost use Rattle.mpslp_builder_parts.specs.ColumnTable.{name_in, cells_in_column, number_inserted, Inserts, IsChanged};
 ghost use Rattle.mpslp_builder_parts.specs.StoredColumns.{parts_of, definition_of_stored, last_of, IsWhole};
 
 use crate::coefficient_log::CoefficientLog;
@@ -28,6 +28,27 @@ use mpslp_model_core::{ColumnSpan, ModelBounds};
 use mpslp_types::{HashSeed, Limit, Name, NameBytes};
 use std::alloc::{AllocError, Global};
 use std::marker::Model;
+
+/// The column of a name that was inserted: whether it is new, and its number.
+#[derive(Clone, Copy, Debug)]
+pub enum Inserted {
+    /// No column had the name, so one was added. It has this number.
+    New(usize),
+    /// The column of this number had the name already.
+    There(usize),
+}
+
+impl Inserted {
+    /// The number of the column, new or not.
+    pub fn number(self) -> usize
+        ensures { result ≡ number_inserted self }
+    {
+        match self {
+            Inserted::New(number) => number,
+            Inserted::There(number) => number,
+        }
+    }
+}
 
 /// The columns by number, in the order of their declarations. Contracts see the name of each, what is declared of it and its
 /// coefficients.
@@ -168,13 +189,13 @@ impl ColumnTable {
         has_cell(&self.columns, &self.log, &self.known, column, row)
     }
 
-    /// Adds a column of which only the name is declared, if no column has this name. Returns the number of the column of this name, and
-    /// whether it is new. The name is looked up only once.
+    /// Adds a column of which only the name is declared, if no column has this name. Returns whether the column of this name is new, and
+    /// its number. The name is looked up only once.
     ///
     /// # Errors
     ///
     /// [`AllocError`] if the allocation fails. Then nothing changes, and the name is dropped.
-    pub fn insert(&mut self, name: Name) -> Result<(usize, bool), AllocError>
+    pub fn insert(&mut self, name: Name) -> Result<Inserted, AllocError>
         ensures { Inserts self.old name result self.new }
     {
         let count = self.len();
@@ -185,11 +206,11 @@ impl ColumnTable {
         };
         let (number, old) = self.columns.insert_full(name, stored)?;
         let Some(old) = old else {
-            return Ok((count, true));
+            return Ok(Inserted::New(count));
         };
         let (_name, stored) = self.columns.pair_mut(number);
         *stored = old;
-        Ok((number, false))
+        Ok(Inserted::There(number))
     }
 
     /// Puts a coefficient of the column of a number. Its row must not have one yet.

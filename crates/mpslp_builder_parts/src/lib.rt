@@ -17,7 +17,7 @@ mod parts;
 mod ranks;
 mod row_parts;
 
-pub use column_table::ColumnTable;
+pub use column_table::{ColumnTable, Inserted};
 pub use declared_bounds::DeclaredBounds;
 pub use known_pairs::StoredColumn;
 pub use model_rows_and_columns::{ordered, row_of};

@@ -14,6 +14,7 @@ ghost use Rattle.mpslp_builder.specs.LineTables.{AreRows, AreKnownRows, AreFree,
 
 use crate::entries::Entries;
 use crate::tables::Tables;
+use mpslp_builder_parts::Inserted;
 use mpslp_decimal::Decimal;
 use mpslp_decimal::laws::each_value_is_a_decimal;
 use mpslp_types::Name;
@@ -97,18 +98,18 @@ impl Tables {
         Some(LinePlace { column, rows })
     }
 
-    /// Adds a column without coefficients, if no column has this name. Returns the number of the column of this name, and whether it
-    /// is new. Most names are new, so the column is looked up and added at once.
-    pub(crate) fn start_column(&mut self, name: Name) -> Result<(usize, bool), AllocError>
+    /// Adds a column without coefficients, if no column has this name. Returns whether the column of this name is new, and its number.
+    /// Most names are new, so the column is looked up and added at once.
+    pub(crate) fn start_column(&mut self, name: Name) -> Result<Inserted, AllocError>
         requires numbered { IsNumbered self.old }
         requires legal { is_mps_name name ≡ true }
         ensures kept { Follows self.old self.new }
         ensures rows { self.new.rows.entries ≡ self.old.rows.entries }
         ensures started { Starts self.old name result self.new }
     {
-        let (column, is_new) = self.columns.insert(name)?;
-        self.recent = column;
-        Ok((column, is_new))
+        let inserted = self.columns.insert(name)?;
+        self.recent = inserted.number();
+        Ok(inserted)
     }
 
     /// Marks a column, if its line is in an integer block.

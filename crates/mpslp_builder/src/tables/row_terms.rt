@@ -102,7 +102,8 @@ impl Tables {
         if let Some(column) = self.column_from(name, guess) {
             return Ok(column);
         }
-        let (column, _is_new) = self.start_column(Name::from_legal(alloc, name)?)?;
+        let inserted = self.start_column(Name::from_legal(alloc, name)?)?;
+        let column = inserted.number();
         let seed = *self.rows.hasher();
         self.hints.note(seed, name, column)?;
         Ok(column)

@@ -2,26 +2,27 @@ use Rattle.mpslp_builder.proofs.Prelude
 use Prelude.{◌≡◌, sym, ap, ◌∙◌, ◌++◌, [], ◌∷◌, true, false, flat_map, when, Draft, with_declarations, declare_column, declare_marked}
 use Prelude.{has_column, refusals_in_turn, draft, listed, entry_declared, column_line, no_part, subst, Ok}
 use Rattle.mpslp_builder.{specs.LineTables.Starts}
+use Rattle.mpslp_builder_parts.specs.declared.column_table.Inserted.{Inserted}
 use Rattle.mpslp_builder.proofs.{LineLemmas.{laid_then, same_tables}, ReadingLemmas.{number_there, rows_known}}
 use Rattle.mpslp_builder.proofs.reader_builder.ReaderBuilder.first_line.Goals as goal
 
-pub invariant_of-draft-2 : goal.invariant_of-draft-2
-invariant_of-draft-2 c = let b = c.draft.inside in
+pub invariant_of-draft-in-New : goal.invariant_of-draft-in-New
+invariant_of-draft-in-New c = let b = c.draft.inside in
     (c.put_line.ensures.kept.made b.sense b.constant (c.start_column.ensures.kept.made b.sense b.constant c.draft.invariant.0), c.put_line.ensures.kept.numbered)
 
-pub returns-clause-taken : goal.returns-clause-taken
-returns-clause-taken c =
+pub returns-in_ok-put_line-in-New-clause-taken : goal.returns-in_ok-put_line-in-New-clause-taken
+returns-in_ok-put_line-in-New-clause-taken c =
     let b = c.draft.inside in
     let inner = draft b.sense b.constant b.tables in
     let marked = c.args.is_marked in
     let entries = listed c.args.entries.now in
     let given = c.args.name in
     let started =
-    (subst (λ new. Starts b.tables given (Ok (c.in_ok-column.column, new)) c.start_column.new.self) c.if-not-is_new.false c.in_ok-column.ensures.started).1 in
+    (subst (λ (i : Inserted). Starts b.tables given (Ok i) c.start_column.new.self) c.in-New.is c.in_ok-inserted.ensures.started).1 in
     let declared =
     laid_then b.tables c.start_column.new.self c.put_line.new.self (declare_column given ∷ [])
     (when marked (declare_marked given) ++ flat_map (entry_declared given) entries) started.declared
-    (c.in_ok-put_line.ensures.ok given started.named) in (
+    (c.in_ok-put_line-in-New.ensures.ok given started.named) in (
       ap (λ (d : Draft). refusals_in_turn d (column_line marked c.args.name entries)) (sym c.draft.view_is)
           ∙ declared.free b.sense b.constant,
       declared.declared b.sense b.constant
@@ -36,13 +37,13 @@ returns-in_default-clause-refused c = let b = c.draft.inside in let entries = c.
     not_found : false ≡ true → ⊥
     not_found h = cc
 
-pub returns-then-not-is_new-clause-taken : goal.returns-then-not-is_new-clause-taken
-returns-then-not-is_new-clause-taken c = let b = c.draft.inside in
-    same_tables b.sense b.constant b.tables c.start_column.new.self (subst (λ new. Starts b.tables c.args.name (Ok (c.in_ok-column.column, new))
-    c.start_column.new.self) c.if-not-is_new.true c.in_ok-column.ensures.started).1 ∙ c.draft.view_is
+pub returns-in-There-clause-taken : goal.returns-in-There-clause-taken
+returns-in-There-clause-taken c = let b = c.draft.inside in
+    same_tables b.sense b.constant b.tables c.start_column.new.self (subst (λ (i : Inserted). Starts b.tables c.args.name (Ok i)
+    c.start_column.new.self) c.in-There.is c.in_ok-inserted.ensures.started).1 ∙ c.draft.view_is
 
-pub returns-then-not-is_new-clause-refused : goal.returns-then-not-is_new-clause-refused
-returns-then-not-is_new-clause-refused c = let t = c.draft.inside.tables in
-    let there = number_there no_part t.columns.entries c.in_ok-column.column c.args.name (subst (λ new. Starts t c.args.name
-    (Ok (c.in_ok-column.column, new)) c.start_column.new.self) c.if-not-is_new.true c.in_ok-column.ensures.started).0 in
+pub returns-in-There-clause-refused : goal.returns-in-There-clause-refused
+returns-in-There-clause-refused c = let t = c.draft.inside.tables in
+    let there = number_there no_part t.columns.entries c.in-There._column c.args.name (subst (λ (i : Inserted). Starts t c.args.name
+    (Ok i) c.start_column.new.self) c.in-There.is c.in_ok-inserted.ensures.started).0 in
     λ _ absent _. let both : true ≡ false = there ∙ ap (λ (d : Draft). has_column d c.args.name) c.draft.view_is ∙ absent in cc

@@ -7,5 +7,5 @@ returns-clause-kept c = (inserted c.args.self.now _ c.requires.numbered c.args.n
 
 pub returns-clause-started : goal.returns-clause-started
 returns-clause-started c =
-    (inserted c.args.self.now (record c.args.self.now { columns = c.insert.new.self; recent = c.in_ok-column.column }) c.requires.numbered
-    c.args.name c.requires.legal refl refl (Ok (c.in_ok-column.column, c.in_ok-column.is_new)) c.in_ok-column.ensures).1
+    (inserted c.args.self.now (record c.args.self.now { columns = c.insert.new.self; recent = c.number-self.result }) c.requires.numbered
+    c.args.name c.requires.legal refl refl (Ok c.in_ok-inserted.inserted) c.in_ok-inserted.ensures).1

@@ -1,4 +1,4 @@
-use Rattle.std.proofs.Common.{refl, subst, List, ℕ}
+use Rattle.std.proofs.Common.{refl, subst, sym, List, ℕ}
 use Rattle.mpslp_builder.{specs.TermTables.HasColumn, proofs.LineLemmas.{there_laid, has_column_of}}
 use Rattle.mpslp_builder.proofs.tables.Tables.term_column.Goals as goal
 
@@ -7,6 +7,7 @@ returns-in-Some-clause-ok c = record { named = c.in-Some.ensures; declared = the
 
 pub returns-clause-ok : goal.returns-clause-ok
 returns-clause-ok c = let u = c.start_column.new.self in let v = record u { hints = c.note.new.self } in
-    subst (λ (name : List ℕ). HasColumn c.args.self.now name c.in_ok-column.column v) c.in_ok-from_legal.ensures.copied
-    (has_column_of c.args.self.now u v c.in_ok-from_legal.field-0 (c.in_ok-column.column, c.in_ok-column._is_new)
-    c.in_ok-column.ensures.started (record { objective = refl; rows = refl; columns = refl }))
+    let given = c.in_ok-from_legal.field-0 in
+    let has = has_column_of c.args.self.now u v given c.in_ok-inserted.inserted c.in_ok-inserted.ensures.started (record { objective = refl; rows = refl; columns = refl }) in
+    subst (λ (name : List ℕ). HasColumn c.args.self.now name c.number-column.result v) c.in_ok-from_legal.ensures.copied
+    (subst (λ (n : ℕ). HasColumn c.args.self.now given n v) (sym c.number-column.ensures) has)
