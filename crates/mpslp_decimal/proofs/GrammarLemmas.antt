@@ -6,7 +6,8 @@ use Rattle.std.{proofs.lemmas.List.{Folds.list_all_more, Sums.{prefix_len-drop_y
 use Rattle.std.specs.{List.{before_first, list_all, list_any, position_or_len, prefix_len}, Prelude.{None, Option, Some, min, not}}
 use Rattle.std.specs.Prelude.{pos, ℤ, ◌&&◌, ◌||◌}
 use Rattle.mpslp_decimal.proofs.{CutLemmas.{AreDigits, Each, Each-append, digits_sum-append, one_more}}
-use Rattle.mpslp_decimal.proofs.{NumberTextLemmas.{are-digits, no_mark-digits, no_point-digits}, SpellsLemmas.{digits_sum-small, few-zeros, pow-next}}
+use Rattle.mpslp_decimal.proofs.{NumberTextLemmas.{are-digits, no_mark-digits, no_point-digits}, SpellsLemmas.{digits_sum-small, pow-next}}
+use Rattle.mpslp_decimal.proofs.StripLemmas.{zeros-below}
 use Rattle.mpslp_decimal.specs.Literal.{are_digits, digits_sum, exponent_part, is_digit, is_exponent_mark, is_literal, is_minus, is_point}
 use Rattle.mpslp_decimal.specs.{Literal.{unsigned_part, without_sign}, Scan.{IsScanOf, IsSignificandOf, IsStripped, after_digits, after_fraction}}
 use Rattle.mpslp_decimal.specs.Scan.{after_mantissa, after_point, capped_exponent, digits_front, exponent_after, exponent_of}
@@ -434,4 +435,4 @@ pub short-zeros : (text : List ℕ) (n m z : ℕ) → n ≡ digits_sum (mantissa
 short-zeros text n m z value s some =
     let small : n < 10 ^ length (mantissa_front text) =
     subst (λ k. k < 10 ^ length (mantissa_front text)) (sym value) (digits_sum-small _ (front_digits text)) in
-    omega (arith, few-zeros n m z _ s (omega (arith, s.ends some)) small, within text)
+    omega (arith, zeros-below n m z _ s.value (omega (arith, s.ends some)) small, within text)

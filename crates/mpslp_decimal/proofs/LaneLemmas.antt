@@ -58,15 +58,11 @@ four : (a b c d : ℕ) → a ≤ 9 → b ≤ 9 → c ≤ 9 → d ≤ 9
     → four_value (a + b * 256 + c * 65536 + d * 16777216) ≡ a * 1000 + b * 100 + c * 10 + d
 four a b c d ha hb hc hd = omega (arith, ha, hb, hc, hd)
 
-eight : (a b c d e f g h : ℕ) → a ≤ 9 → b ≤ 9 → c ≤ 9 → d ≤ 9 → e ≤ 9 → f ≤ 9 → g ≤ 9 → h ≤ 9
-    → eight_value (a + b * 256 + c * 65536 + d * 16777216 + e * 4294967296 + f * 1099511627776 + g * 281474976710656 + h * 72057594037927936)
-    ≡ a * 10000000 + b * 1000000 + c * 100000 + d * 10000 + e * 1000 + f * 100 + g * 10 + h
-eight a b c d e f g h ha hb hc hd he hf hg hh = omega (arith, ha, hb, hc, hd, he, hf, hg, hh)
-
 -- the number of bytes that are digits, and the value of the digits
 pub record IsFour (bs : List ℕ) (n : ℕ) : Type 0 where
   pub least : 808464432 ≤ n
   pub most : n ≤ 960051513
+  pub first : (n - 808464432) % 256 ≤ 9
   pub value : four_value (n - 808464432) ≡ digits_sum bs
 
 pub four-number : (bs : List ℕ) (n : ℕ) → length bs ≡ 4 → list_all is_digit bs ≡ true → n ≡ from_le_bytes w32 bs → IsFour bs n
@@ -85,55 +81,41 @@ four-number (a ∷ b ∷ c ∷ d ∷ []) n e all is =
     record {
       least = omega (arith, is, ha.0, hb.0, hc.0, hd.0);
       most = omega (arith, is, ha.1, hb.1, hc.1, hd.1);
+      first = omega (arith, minus, ha.1);
       value = ap four_value minus
           ∙ four (a - 48) (b - 48) (c - 48) (d - 48) (omega (arith, ha.1)) (omega (arith, hb.1)) (omega (arith, hc.1)) (omega (arith, hd.1))
           ∙ omega arith;
     }
 
 -- the same for eight
-whole : (b : ℕ) → 48 ≤ b → b ≡ (b - 48) + 48
-whole b h = omega (arith, h)
-
-less-eight : (a b c d e f g h n : ℕ)
-    → n ≡ (a + 48) + (b + 48) * 256 + (c + 48) * 65536 + (d + 48) * 16777216 + (e + 48) * 4294967296 + (f + 48) * 1099511627776
-    + (g + 48) * 281474976710656 + (h + 48) * 72057594037927936
-    → n - 3472328296227680304 ≡ a + b * 256 + c * 65536 + d * 16777216 + e * 4294967296 + f * 1099511627776 + g * 281474976710656 + h * 72057594037927936
-less-eight a b c d e f g h n is = omega (arith, is)
-
 pub record IsEight (bs : List ℕ) (n : ℕ) : Type 0 where
   pub least : 3472328296227680304 ≤ n
   pub most : n ≤ 4123389851770370361
   pub value : eight_value (n - 3472328296227680304) ≡ digits_sum bs
+
+-- the pairs of each half are those of four digits: the first digit of the second half is too small for a carry between the halves
+twice-four : (p q : ℕ) → p ≤ 151587081 → q % 256 ≤ 9 → eight_value (p + q * 4294967296) ≡ four_value p * 10000 + four_value q
+twice-four p q small first = omega (arith, small, first)
 
 pub eight-number : (bs : List ℕ) (n : ℕ) → length bs ≡ 8 → list_all is_digit bs ≡ true → n ≡ from_le_bytes w64 bs → IsEight bs n
 eight-number [] n e all is = absurd (omega (arith, e))
 eight-number (a ∷ []) n e all is = absurd (omega (arith, e))
 eight-number (a ∷ b ∷ []) n e all is = absurd (omega (arith, e))
 eight-number (a ∷ b ∷ c ∷ []) n e all is = absurd (omega (arith, e))
-eight-number (a ∷ b ∷ c ∷ d ∷ []) n e all is = absurd (omega (arith, e))
-eight-number (a ∷ b ∷ c ∷ d ∷ f ∷ []) n e all is = absurd (omega (arith, e))
-eight-number (a ∷ b ∷ c ∷ d ∷ f ∷ g ∷ []) n e all is = absurd (omega (arith, e))
-eight-number (a ∷ b ∷ c ∷ d ∷ f ∷ g ∷ h ∷ []) n e all is = absurd (omega (arith, e))
-eight-number (a ∷ b ∷ c ∷ d ∷ f ∷ g ∷ h ∷ i ∷ x ∷ xs) n e all is = absurd (omega (arith, e))
-eight-number (a ∷ b ∷ c ∷ d ∷ f ∷ g ∷ h ∷ i ∷ []) n e all is =
-    let ha = has-digit a (b ∷ c ∷ d ∷ f ∷ g ∷ h ∷ i ∷ []) all in
-    let hb = has-digit b (c ∷ d ∷ f ∷ g ∷ h ∷ i ∷ []) ha.2 in
-    let hc = has-digit c (d ∷ f ∷ g ∷ h ∷ i ∷ []) hb.2 in
-    let hd = has-digit d (f ∷ g ∷ h ∷ i ∷ []) hc.2 in
-    let hf = has-digit f (g ∷ h ∷ i ∷ []) hd.2 in
-    let hg = has-digit g (h ∷ i ∷ []) hf.2 in
-    let hh = has-digit h (i ∷ []) hg.2 in
-    let hi = has-digit i [] hh.2 in
-    let minus = less-eight (a - 48) (b - 48) (c - 48) (d - 48) (f - 48) (g - 48) (h - 48) (i - 48) n (is ∙ (λ j. whole a ha.0 j + whole b hb.0 j * 256
-    + whole c hc.0 j * 65536 + whole d hd.0 j * 16777216 + whole f hf.0 j * 4294967296 + whole g hg.0 j * 1099511627776
-    + whole h hh.0 j * 281474976710656 + whole i hi.0 j * 72057594037927936)) in
+eight-number (a ∷ b ∷ c ∷ d ∷ rest) n e all is =
+    let front = a ∷ b ∷ c ∷ d ∷ [] in
+    let long : length rest ≡ 4 = omega (arith, e) in
+    let one = four-number front (from_le_bytes w32 front) refl (grind (arith, all)) refl in
+    let two = four-number rest (from_le_bytes w32 rest) long (grind (arith, all)) refl in
+    let minus : n - 3472328296227680304 ≡ (from_le_bytes w32 front - 808464432) + (from_le_bytes w32 rest - 808464432) * 4294967296 =
+    omega (arith, is, one.least, two.least) in
     record {
-      least = omega (arith, is, ha.0, hb.0, hc.0, hd.0, hf.0, hg.0, hh.0, hi.0);
-      most = omega (arith, is, ha.1, hb.1, hc.1, hd.1, hf.1, hg.1, hh.1, hi.1);
+      least = omega (arith, is, one.least, two.least);
+      most = omega (arith, is, one.most, two.most);
       value = ap eight_value minus
-          ∙ eight (a - 48) (b - 48) (c - 48) (d - 48) (f - 48) (g - 48) (h - 48) (i - 48) (omega (arith, ha.1)) (omega (arith, hb.1))
-          (omega (arith, hc.1)) (omega (arith, hd.1)) (omega (arith, hf.1)) (omega (arith, hg.1)) (omega (arith, hh.1)) (omega (arith, hi.1))
-          ∙ omega arith;
+          ∙ twice-four _ _ (omega (arith, one.most)) two.first
+          ∙ (λ i. one.value i * 10 ^ sym long i + two.value i)
+          ∙ sym (digits_sum-append front rest);
     }
 
 -- ---- Digits that are appended several at once.

@@ -1,5 +1,6 @@
 pub mod CutLemmas
 pub mod LaneLemmas
+pub mod StripLemmas
 pub mod NormalLemmas
 pub mod NumberTextLemmas
 pub mod ScaleLemmas

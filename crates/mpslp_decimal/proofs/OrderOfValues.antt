@@ -1,9 +1,10 @@
 -- The order of values, counted in units of any exponent.
-use Rattle.std.proofs.Common.{ap, arith, lit<, refl, suc, sym, true, zero, ℕ, ◌*◌, ◌+◌, ◌-◌, ◌<◌, ◌^◌, ◌∙◌, ◌≡◌, ◌≤◌}
+use Rattle.std.proofs.Common.{ap, arith, refl, suc, sym, true, zero, ℕ, ◌*◌, ◌+◌, ◌-◌, ◌<◌, ◌^◌, ◌∙◌, ◌≡◌, ◌≤◌}
 use Rattle.std.{proofs.{Math.Nat.pow-le-pow_right, lemmas.{Cmp.int_ranked, Int.ints, Nat.pow-add}}, specs.Ordering.{int_cmp, on}}
 use Rattle.std.specs.{Ordering.{ordering_reverse, then_cmp}, Prelude.{int_le, negsuc, pos, unsigned_abs, ℤ, ◌*ℤ◌, ◌-ℤ◌, ◌<ℤ◌, ◌≤ℤ◌}}
 use Rattle.std.specs.declared.cmp.Ordering.{Ordering, TheVariants.Equal}
 use Rattle.mpslp_decimal.proofs.{NormalLemmas.pow_positive, NumberTextLemmas.signed-size, ScaleLemmas.{one_form, signed_times}}
+use Rattle.mpslp_decimal.proofs.StripLemmas.{ten_positive}
 use Rattle.mpslp_decimal.specs.{Decimal.{IsDecimal, Number, decimal_cmp, height, scaled}, Values.{HasSameValue, mantissa_beside, order_of}}
 use Rattle.mpslp_decimal.specs.Values.{surplus}
 
@@ -108,9 +109,6 @@ pub compare-right : (a b : Number) (r s : Ordering) (places : ℕ) → IsDecimal
 compare-right = grind (arith, size-back, compare-beside, reverse-int_cmp, order-decimal)
 
 -- ---- a mantissa that the other one never reaches
-
-ten_positive : 0 < 10
-ten_positive = lit< tt
 
 far-times : (n places : ℕ) → 36 < places → 10 ^ 37 ≤ suc n * 10 ^ places
 far-times n places h =

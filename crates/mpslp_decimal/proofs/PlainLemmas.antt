@@ -1,7 +1,7 @@
 -- A literal whose digits fit in 64 bits, and a text of an optional sign and digits, the last of which is not 0.
 use Rattle.std.proofs.Common.{Bool, List, [], ap, arith, length, refl, true, ℕ, ◌%◌, ◌<◌, ◌^◌, get_or, length-append, subst, sym, ℤ, ◌∷◌, ◌≡◌, ◌≤ℤ◌, ◌≤◌}
 use Rattle.std.specs.Prelude.{Ok, Some, pos, ◌==◌}
-use Rattle.mpslp_decimal.proofs.{GrammarLemmas.{scanned, within}, NormalLemmas.decimal_at, SpellsLemmas.number-few}
+use Rattle.mpslp_decimal.proofs.{GrammarLemmas.{scanned, short-zeros, within}, NormalLemmas.decimal_at, SpellsLemmas.number-few}
 use Rattle.mpslp_decimal.specs.declared.number.TheConstants.{MAX_EXPONENT, MIN_EXPONENT}
 use Rattle.mpslp_decimal.specs.{Decimal.{Number, zero_number}, Literal.{digits_sum, is_minus, number_of, without_sign}, Scan.{after_digits, exponent_after}}
 use Rattle.mpslp_decimal.specs.Scan.{IsScanOf, IsStripped, after_mantissa, digits_front, fraction_front, in_range, mantissa_front}
@@ -21,6 +21,9 @@ no-fraction = grind arith
 at-end : (text rest : List ℕ) → rest ≡ after_digits text → rest ≡ [] → rest ≡ after_mantissa text
 at-end = grind arith
 
+pub positive : (n : ℕ) → (n ≡ 0 → ⊥) → 0 < n
+positive = grind arith
+
 -- ---- What is read of a literal of few digits.
 
 abbrev pub short-scan : Bool → ℕ → ℕ → ℕ → ℤ → Scan
@@ -35,6 +38,16 @@ short-scanned text unsigned rest minus n m z places exponent signed is after val
     (subst (λ n. IsStripped n m z) value stripped, few) refl some fraction refl signed (within unsigned) zeros
     (omega (arith, fraction, length-append (digits_front unsigned) (fraction_front unsigned), within unsigned))
 
+-- the same of a number that is not 0, without its trailing zeros
+pub stripped-scanned : (text unsigned rest : List ℕ) (minus : Bool) (n m z places : ℕ) (exponent : ℤ) → minus ≡ is_minus text
+    → unsigned ≡ without_sign text → rest ≡ after_mantissa unsigned → n ≡ digits_sum (mantissa_front unsigned) → (n ≡ 0 → ⊥)
+    → places ≡ length (fraction_front unsigned) → exponent_after rest ≡ Some exponent → IsStripped n m z → m < 2 ^ 64
+    → IsScanOf (short-scan minus m z places exponent) text
+stripped-scanned text unsigned rest minus n m z places exponent signed is after value some fraction power stripped few =
+    let above = positive n some in
+    short-scanned text unsigned rest minus n m z places exponent signed is after value (some-digits _ n value above) fraction power
+    stripped (omega (arith, few)) (short-zeros unsigned n m z value stripped above)
+
 pub plain-number : (text unsigned rest : List ℕ) (minus : Bool) (n : ℕ) → minus ≡ is_minus text → unsigned ≡ without_sign text
     → rest ≡ after_digits unsigned → rest ≡ [] → n ≡ digits_sum (mantissa_front unsigned) → 0 < n % 10 → n < 10 ^ 36 → length text ≤ 255
     → number_of text ≡ in_range (decimal_at minus n (pos 0))
@@ -43,9 +56,6 @@ plain-number text unsigned rest minus n signed is after none value ends few shor
     (some-digits _ n value (omega (arith, ends))) (sym (ap length (no-fraction unsigned rest after none))) (ap exponent_after none)
     (record { value = omega arith; ends = λ _. ends }) few (omega arith) in
     sym (number-few (short-scan minus n 0 0 (pos 0)) text n 0 (pos 0) scan refl (λ e. absurd (omega (arith, e, ends))) short refl)
-
-pub positive : (n : ℕ) → (n ≡ 0 → ⊥) → 0 < n
-positive = grind arith
 
 pub within-range : (d : Number) → MIN_EXPONENT ≤ℤ d.exponent → d.exponent ≤ℤ MAX_EXPONENT → in_range d ≡ Ok d
 within-range = grind arith

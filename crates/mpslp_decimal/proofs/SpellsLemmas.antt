@@ -1,12 +1,13 @@
 -- A text is read as a decimal if and only if it is a literal within the limit that has the value of the decimal.
 use Rattle.std.proofs.Common.{Bool, List, None, [], add-one, ap, arith, drop, false, length, length-append, length-drop, lit<, pow-suc}
 use Rattle.std.proofs.Common.{refl, rules, subst, suc, sym, take, true, zero, ℕ, ◌%◌, ◌*◌, ◌++◌, ◌+◌, ◌-◌, ◌/◌, ◌<◌, ◌^◌, ◌∙◌, ◌∷◌, ◌≡◌}
-use Rattle.std.proofs.{Common.◌≤◌, Math.Nat.{mul-le-mul_left, pow-le-pow_right}, lemmas.Bool.{le-ltb, lt-ltb, ltb-false, ltb-true}}
+use Rattle.std.proofs.{Common.◌≤◌, Math.Nat.{mul-le-mul_left, pow-le-pow_right}, lemmas.Bool.{le-ltb, lt-ltb, ltb-false}}
 use Rattle.std.{proofs.lemmas.{Bool.Decides.nat_tests, Int.{ints, unsigned_abs-mul}, List.length-take, Nat.pow-add}, specs.Cmp.first_so}
 use Rattle.std.specs.{Cmp.second_so, List.list_all, Prelude.{Err, Ok, Result, Some, int_le, min, nat_lt, negsuc, pos, unsigned_abs, ℤ}}
 use Rattle.std.specs.Prelude.{◌&&◌, ◌+ℤ◌, ◌-ℤ◌, ◌==◌, ◌↔◌}
 use Rattle.mpslp_decimal.proofs.{CutLemmas.AreDigits, NormalLemmas.{decimal_at, normal-tens, pow_positive, size-signed}}
 use Rattle.mpslp_decimal.proofs.{NumberTextLemmas.{answer_of, nonzero-ends, signed-size, tests_pass, zero-is}, ScaleLemmas.signed_times}
+use Rattle.mpslp_decimal.proofs.StripLemmas.{ten_positive, zeros-below}
 use Rattle.mpslp_decimal.specs.Decimal.{IsDecimal, Number, has_few_digits, has_small_exponent, is_normal, is_zero, normal, zero_number}
 use Rattle.mpslp_decimal.specs.Literal.{digits_sum, exponent_part, fraction_digits, is_digit, is_literal, is_minus, literal_value}
 use Rattle.mpslp_decimal.specs.{Literal.{mantissa_digits, number_of, signed_value, to_signed, without_sign}, Scan.IsScanOf}
@@ -45,9 +46,6 @@ pub many-more : (n d : ℕ) → d < 10 → IsSignificandOf Many n → IsSignific
 many-more n zero small (m, z, (s, long)) = (m, z + 1, ((grind (arith, tens, plus_none, s)), long))
 many-more n (suc d) small (m, z, (s, long)) =
     let b = at_least n m z s in (n * 10 + suc d, 0, (stripped-digit n (suc d) (omega arith) small, omega arith))
-
-ten_positive : 0 < 10
-ten_positive = lit< tt
 
 further : (m i j : ℕ) → i ≤ j → m * 10 ^ i ≤ m * 10 ^ j
 further m i j h = mul-le-mul_left m (pow-le-pow_right ten_positive h)
@@ -128,9 +126,6 @@ pub digits-each : (ds : List ℕ) → list_all is_digit ds ≡ true → AreDigit
 digits-each [] h = tt
 digits-each (d ∷ ds) h = grind (arith, digits-each ds (second_so (is_digit d) (list_all is_digit ds) h))
 
-pub few-zeros : (n m z len : ℕ) → IsStripped n m z → 0 < m → n < 10 ^ len → z < len
-few-zeros = grind (arith, ltb-true, ltb-false, pow-le-pow_right, ten_positive)
-
 -- ---- the exponent
 
 regroup_number : (x : ℤ) (f z : ℕ) → (x +ℤ pos z) -ℤ pos f ≡ (x -ℤ pos f) +ℤ pos z
@@ -186,7 +181,7 @@ number-many scan text s e short =
     by : (m : ℕ) × (z : ℕ) × (IsStripped n m z × (10 ^ 36 ≤ m)) → Err TooManyDigits ≡ number_of text
     by (m, z, (is, long)) =
         let exponent = (signed_value (exponent_part text) -ℤ pos (length (fraction_digits text))) +ℤ pos z in
-        let few = few-zeros n m z _ is (omega arith) (digits_sum-small _ digits) in
+        let few = zeros-below n m z _ is.value (omega arith) (digits_sum-small _ digits) in
         let some = positive-product m (10 ^ z) n (omega arith) (pow_positive z) is.value in
         let value =
         stripped-normal minus n m z _ is some (omega (arith, s.digits_within)) in
@@ -266,7 +261,7 @@ normal-by P minus n e len small short none some = by (n == 0) refl
         let positive : 0 < n = grind (arith, nat_tests, h) in
         let parts = strip len n small positive in
         let ends = parts.2.ends positive in
-        let zeros = few-zeros n parts.0 parts.1 len parts.2 (omega (arith, ends)) small in
+        let zeros = zeros-below n parts.0 parts.1 len parts.2.value (omega (arith, ends)) small in
         subst P (sym (stripped-normal minus n parts.0 parts.1 e parts.2 positive (omega (arith, zeros, short))))
         (some parts.0 parts.1 parts.2 ends)
 
@@ -383,8 +378,7 @@ normal-from_same minus n e len d small short ok same = by (is_zero d) refl
         let size =
         sym (size-signed _ (unsigned_abs d.mantissa * 10 ^ surplus d.exponent e)) ∙ sym (ap (λ x. unsigned_abs x.mantissa) is)
         ∙ size-signed minus n in
-        let few = few-zeros n (unsigned_abs d.mantissa) (surplus d.exponent e) len (record { value = size; ends = λ _. ends })
-        (omega (arith, ends)) small in
+        let few = zeros-below n (unsigned_abs d.mantissa) (surplus d.exponent e) len size (omega (arith, ends)) small in
         ap normal is ∙ normal-tens (int_le d.mantissa (negsuc 0)) _ _ _ ends (omega arith)
         ∙ (λ i. record { mantissa = signed-size d.mantissa i; exponent = d.exponent })
 

@@ -1,6 +1,6 @@
 -- Sums at one exponent, and their normal form.
-use Rattle.std.proofs.Common.{Bool, Option, ap, arith, false, lit<, pow-suc, refl, subst, suc, sym, true, zero, ℕ, ◌%◌, ◌*◌, ◌+◌, ◌-◌, ◌/◌}
-use Rattle.std.proofs.{Common.{◌<◌, ◌^◌, ◌∙◌, ◌≡◌, ◌≤◌}, Math.Nat.pow-le-pow_right, lemmas.Bool.{le-ltb, lt-ltb, ltb-false, ltb-true}}
+use Rattle.std.proofs.Common.{Bool, Option, ap, arith, false, pow-suc, refl, subst, suc, sym, true, zero, ℕ, ◌%◌, ◌*◌, ◌+◌, ◌-◌}
+use Rattle.std.proofs.{Common.{◌<◌, ◌^◌, ◌∙◌, ◌≡◌, ◌≤◌}, Math.Nat.pow-le-pow_right, lemmas.Bool.{le-ltb, lt-ltb}}
 use Rattle.std.{proofs.lemmas.{Bool.Decides.nat_tests, Int.{ints, unsigned_abs-mul}, Nat.pow-add}, specs.{Option.SomeIff, Prelude.Err}}
 use Rattle.std.specs.Prelude.{FitsSigned, MatchOption, None, Ok, Some, if◌then◌else◌, int_le, int_lt, nat_le, negsuc, not, pos}
 use Rattle.std.specs.{Prelude.{unsigned_abs, ℤ, ◌&&◌, ◌*ℤ◌, ◌+ℤ◌, ◌-ℤ◌, ◌<ℤ◌, ◌==◌, ◌≤ℤ◌}, Result.result_ok}
@@ -9,26 +9,10 @@ use Rattle.mpslp_decimal.proofs.{NormalLemmas.{decimal_at, normal-tens, pow_posi
 use Rattle.mpslp_decimal.proofs.{NumberTextLemmas.signed-size, OrderOfValues.{least-exponent, scaled-beside, surplus-down, surplus-heights}}
 use Rattle.mpslp_decimal.proofs.{OrderOfValues.{surplus-up, times_twice}, ScaleLemmas.{exponents-of, height_back, normal-scaled}}
 use Rattle.mpslp_decimal.{proofs.{ScaleLemmas.signed_times, SpellsLemmas.{ends-well, strip, stripped-normal}}, specs.Decimal.IsDecimal}
+use Rattle.mpslp_decimal.proofs.StripLemmas.{ten_positive, zeros-below}
 use Rattle.mpslp_decimal.specs.Decimal.{Number, at_scale, decimal_of, has_small_exponent, height, is_decimal, is_zero, normal, scaled}
 use Rattle.mpslp_decimal.specs.{Decimal.{sum_of, zero_number}, Literal.to_signed, Scan.{IsStripped, in_range}, Values.mantissa_beside}
 use Rattle.mpslp_decimal.specs.{Values.surplus, declared.literal.NumberFault.TheVariants.ExponentRange}
-
--- ---- the trailing zeros of a number
-
-ten_positive : 0 < 10
-ten_positive = lit< tt
-
--- a number has no more zeros than digits
-pub zeros-below : (n m z len : ℕ) → m * 10 ^ z ≡ n → 0 < m → n < 10 ^ len → z < len
-zeros-below = grind (arith, ltb-true, ltb-false, pow-le-pow_right, ten_positive)
-
-pub one-zero-less : (d z n : ℕ) → d * 10 ^ z ≡ n → d % 10 ≡ 0 → (d / 10) * 10 ^ (z + 1) ≡ n
-one-zero-less d z n e ends =
-    let more = pow-add 10 z 1 in
-    rw more ((grind arith) ∙ ap (λ x. x * 10 ^ z) (whole d ends) ∙ e)
-  where
-    whole : (d : ℕ) → d % 10 ≡ 0 → (d / 10) * 10 ≡ d
-    whole d h = omega (arith, h)
 
 -- ---- sums in units of a power of ten
 

@@ -4,7 +4,7 @@ ghost use Rattle.std.specs.Prelude.{ℤ, pos, Ok, true, nat_lt, ◌-◌, ◌+ℤ
 ghost use Rattle.std.specs.List.{prefix_len, list_all};
 ghost use Rattle.mpslp_decimal.specs.Decimal.{IsDecimal};
 ghost use Rattle.mpslp_decimal.specs.Literal.{to_signed, is_digit, is_minus, without_sign, digits_sum, are_digits, is_literal, number_of};
-ghost use Rattle.mpslp_decimal.specs.Scan.{in_range, IsSignificandOf, parts_of, zeros_of, exponent_of, exponent_after, digits_front, after_digits, appended, mantissa_front, fraction_front, after_mantissa, IsScanOf};
+ghost use Rattle.mpslp_decimal.specs.Scan.{in_range, IsStripped, IsSignificandOf, parts_of, zeros_of, exponent_of, exponent_after, digits_front, after_digits, appended, mantissa_front, fraction_front, after_mantissa, IsScanOf};
 
 use crate::number::{Decimal, MAX_DIGITS, MAX_EXPONENT, MIN_EXPONENT};
 use std::simd::prelude::*;
@@ -306,12 +306,12 @@ fn append_fewer_digits(text: &[u8], before: u64) -> Option<(u64, &[u8])>
     }
 }
 
-/// A number without its trailing zeros, and their number.
+/// A number without its trailing zeros, and their number. The function of the same name for sums takes 128 bits, whose divisions
+/// take too long for every literal.
 #[inline(always)]
 fn stripped(number: u64) -> (u64, usize)
     requires some { 0 < number }
-    ensures value { result.0 * 10 ^ result.1 ≡ number }
-    ensures ends { 0 < result.0 % 10 }
+    ensures { IsStripped number result.0 result.1 }
 {
     let mut mantissa = number;
     let mut zeros = 0;

@@ -77,19 +77,19 @@ fn decimal_of(is_negative: bool, size: u128, exponent: i32) -> Option<Decimal>
     in_range(is_negative, digits, exponent + zeros as i32).ok()
 }
 
-/// A number without its trailing zeros, and their number.
+/// A number without its trailing zeros, and their number. Literals have a function of their own for 64 bits, whose divisions take
+/// much less time; a sum may need 128.
 fn stripped(number: u128) -> (u128, u32)
     requires some { 0 < number }
     requires small { number < 10 ^ 39 }
     ensures stripped { IsStripped number result.0 result.1 }
     ensures zeros { result.1 < 39 }
-    ensures some { 0 < result.0 }
 {
-    let mut digits = number;
+    let mut mantissa = number;
     let mut zeros = 0;
-    while digits % 10 == 0 {
-        digits /= 10;
+    while mantissa % 10 == 0 {
+        mantissa /= 10;
         zeros += 1;
     }
-    (digits, zeros)
+    (mantissa, zeros)
 }

@@ -1,10 +1,9 @@
-use Rattle.std.proofs.{Common.{arith, get_or, length, ltb, rules, sym, w8, ℕ, ◌<◌, ◌∙◌, ◌≡◌}, lemmas.{Bool.eqb-true, Simd.{bitmask_splat, length-zip2}}}
+use Rattle.std.proofs.{Common.{arith, length, ltb, rules, sym, w8, ◌∙◌, ◌≡◌}, lemmas.{Bool.eqb-true, Simd.{bitmask_splat, length-zip2}}}
 use Rattle.mpslp_decimal.proofs.LaneLemmas.{lanes-digits, less}
 use Rattle.mpslp_decimal.proofs.literal.are_four_digits.Goals as goal
 
 pub returns : goal.returns
 returns c =
     let long : length c.args.bytes ≡ 4 = search rules in
-    let small : (i : ℕ) → get_or c.args.bytes i 0 < 256 = search rules in
     let lanes = bitmask_splat w8 ltb _ 4 10 (length-zip2 less c.args.bytes _ long ∙ long) (omega arith) in
-    λ h. lanes-digits c.args.bytes 4 long small (sym lanes ∙ eqb-true _ _ h)
+    λ h. lanes-digits c.args.bytes 4 long (search rules) (sym lanes ∙ eqb-true _ _ h)

@@ -1,7 +1,7 @@
-use Rattle.std.proofs.Common.{ap, arith, of_z, refl, rules, sym, to_z, w32, ◌+ℤ◌, ◌-ℤ◌, ◌<◌, ◌^◌, ◌∙◌, ◌≡◌}
+use Rattle.std.proofs.Common.{ap, arith, of_z, refl, rules, sym, to_z, w32, ◌+ℤ◌, ◌-ℤ◌, ◌∙◌, ◌≡◌}
 use Rattle.std.specs.Prelude.{pos, ℤ}
-use Rattle.mpslp_decimal.proofs.PlainLemmas.{positive, short-scanned, some-digits, within-range}
-use Rattle.mpslp_decimal.proofs.{GrammarLemmas.short-zeros, SpellsLemmas.{number-few, number-zero, scan-zeros}}
+use Rattle.mpslp_decimal.proofs.PlainLemmas.{positive, short-scanned, stripped-scanned, within-range}
+use Rattle.mpslp_decimal.proofs.SpellsLemmas.{number-few, number-zero, scan-zeros}
 use Rattle.mpslp_decimal.specs.Scan.{IsStripped}
 use Rattle.mpslp_decimal.proofs.literal.short_parts.Goals as goal
 
@@ -17,45 +17,31 @@ returns-then-mantissa-eq0-clause-value c =
 
 pub normal_exponent-exponent-requires-clause-zeros : goal.normal_exponent-exponent-requires-clause-zeros
 normal_exponent-exponent-requires-clause-zeros c =
-    let few : c.stripped-size.result.0 < 2 ^ 64 = search rules in
-    let some = some-digits _ _ c.in_ok-mantissa.ensures.number (positive _ c.if-mantissa-eq0.false) in
-    let stripped : IsStripped c.in_ok-mantissa.mantissa.number c.stripped-size.result.0 c.stripped-size.result.1 =
-    record { value = c.stripped-size.ensures.value; ends = λ _. c.stripped-size.ensures.ends } in
-    let zeros = short-zeros _ _ _ _ c.in_ok-mantissa.ensures.number stripped (positive _ c.if-mantissa-eq0.false) in
-    let scan = short-scanned c.args.text.now _ c.in_ok-mantissa.rest.now c.split_sign-is_negative.result.0 _ _ _ c.in_ok-mantissa.mantissa.places
-    c.in_ok-exponent.exponent c.split_sign-is_negative.ensures.minus c.split_sign-is_negative.ensures.rest c.in_ok-mantissa.ensures.rest
-    c.in_ok-mantissa.ensures.number some c.in_ok-mantissa.ensures.places (sym c.scan_exponent_part.ensures ∙ c.in_ok-exponent.was)
-    stripped (omega (arith, few)) zeros in
+    let scan = stripped-scanned c.args.text.now _ c.in_ok-mantissa.rest.now c.split_sign-is_negative.result.0 _ _ _
+    c.in_ok-mantissa.mantissa.places c.in_ok-exponent.exponent c.split_sign-is_negative.ensures.minus c.split_sign-is_negative.ensures.rest
+    c.in_ok-mantissa.ensures.rest c.in_ok-mantissa.ensures.number c.if-mantissa-eq0.false c.in_ok-mantissa.ensures.places
+    (sym c.scan_exponent_part.ensures ∙ c.in_ok-exponent.was) c.stripped-size.ensures (search rules) in
     scan-zeros _ c.args.text.now _ _ scan refl (omega (arith, c.if-text-ge-MAX_LITERAL_LEN.false))
 
 pub normal_exponent-exponent-requires-clause-places : goal.normal_exponent-exponent-requires-clause-places
 normal_exponent-exponent-requires-clause-places c =
-    let few : c.stripped-size.result.0 < 2 ^ 64 = search rules in
-    let some = some-digits _ _ c.in_ok-mantissa.ensures.number (positive _ c.if-mantissa-eq0.false) in
-    let stripped : IsStripped c.in_ok-mantissa.mantissa.number c.stripped-size.result.0 c.stripped-size.result.1 =
-    record { value = c.stripped-size.ensures.value; ends = λ _. c.stripped-size.ensures.ends } in
-    let zeros = short-zeros _ _ _ _ c.in_ok-mantissa.ensures.number stripped (positive _ c.if-mantissa-eq0.false) in
-    let scan = short-scanned c.args.text.now _ c.in_ok-mantissa.rest.now c.split_sign-is_negative.result.0 _ _ _ c.in_ok-mantissa.mantissa.places
-    c.in_ok-exponent.exponent c.split_sign-is_negative.ensures.minus c.split_sign-is_negative.ensures.rest c.in_ok-mantissa.ensures.rest
-    c.in_ok-mantissa.ensures.number some c.in_ok-mantissa.ensures.places (sym c.scan_exponent_part.ensures ∙ c.in_ok-exponent.was)
-    stripped (omega (arith, few)) zeros in
+    let scan = stripped-scanned c.args.text.now _ c.in_ok-mantissa.rest.now c.split_sign-is_negative.result.0 _ _ _
+    c.in_ok-mantissa.mantissa.places c.in_ok-exponent.exponent c.split_sign-is_negative.ensures.minus c.split_sign-is_negative.ensures.rest
+    c.in_ok-mantissa.ensures.rest c.in_ok-mantissa.ensures.number c.if-mantissa-eq0.false c.in_ok-mantissa.ensures.places
+    (sym c.scan_exponent_part.ensures ∙ c.in_ok-exponent.was) c.stripped-size.ensures (search rules) in
     omega (arith, scan.places, scan.places_within, c.if-text-ge-MAX_LITERAL_LEN.false)
 
 pub returns-clause-value : goal.returns-clause-value
 returns-clause-value c =
-    let few : c.stripped-size.result.0 < 2 ^ 64 = search rules in
-    let some = some-digits _ _ c.in_ok-mantissa.ensures.number (positive _ c.if-mantissa-eq0.false) in
-    let stripped : IsStripped c.in_ok-mantissa.mantissa.number c.stripped-size.result.0 c.stripped-size.result.1 =
-    record { value = c.stripped-size.ensures.value; ends = λ _. c.stripped-size.ensures.ends } in
-    let zeros = short-zeros _ _ _ _ c.in_ok-mantissa.ensures.number stripped (positive _ c.if-mantissa-eq0.false) in
-    let scan = short-scanned c.args.text.now _ c.in_ok-mantissa.rest.now c.split_sign-is_negative.result.0 _ _ _ c.in_ok-mantissa.mantissa.places
-    c.in_ok-exponent.exponent c.split_sign-is_negative.ensures.minus c.split_sign-is_negative.ensures.rest c.in_ok-mantissa.ensures.rest
-    c.in_ok-mantissa.ensures.number some c.in_ok-mantissa.ensures.places (sym c.scan_exponent_part.ensures ∙ c.in_ok-exponent.was)
-    stripped (omega (arith, few)) zeros in
+    let scan = stripped-scanned c.args.text.now _ c.in_ok-mantissa.rest.now c.split_sign-is_negative.result.0 _ _ _
+    c.in_ok-mantissa.mantissa.places c.in_ok-exponent.exponent c.split_sign-is_negative.ensures.minus c.split_sign-is_negative.ensures.rest
+    c.in_ok-mantissa.ensures.rest c.in_ok-mantissa.ensures.number c.if-mantissa-eq0.false c.in_ok-mantissa.ensures.places
+    (sym c.scan_exponent_part.ensures ∙ c.in_ok-exponent.was) c.stripped-size.ensures (search rules) in
     let scanned : to_z w32 (of_z w32 c.in_ok-exponent.exponent) ≡ c.in_ok-exponent.exponent = search rules in
     let passed : to_z w32 (of_z w32 c.normal_exponent-exponent.result) ≡ c.normal_exponent-exponent.result = search rules in
+    let ends = c.stripped-size.ensures.ends (positive _ c.if-mantissa-eq0.false) in
     sym (number-few _ c.args.text.now _ _ (to_z w32 (of_z w32 c.normal_exponent-exponent.result)) scan refl
-    (λ none. absurd (omega (arith, none, c.stripped-size.ensures.ends))) (omega (arith, c.if-text-ge-MAX_LITERAL_LEN.false))
+    (λ none. absurd (omega (arith, none, ends))) (omega (arith, c.if-text-ge-MAX_LITERAL_LEN.false))
     (passed ∙ c.normal_exponent-exponent.ensures
     ∙ ap (λ (e : ℤ). (e +ℤ pos c.stripped-size.result.1) -ℤ pos c.in_ok-mantissa.mantissa.places) scanned))
     ∙ within-range _ (search rules) (search rules)

@@ -1,12 +1,8 @@
-use Rattle.std.proofs.Common.{◌*◌, ◌<◌, ◌^◌, ◌≡◌}
+use Rattle.mpslp_decimal.proofs.StripLemmas.{IsPartlyStripped}
 use Rattle.mpslp_decimal.proofs.number.sums.stripped.Given as goal
 
--- the number without this number of trailing zeros
-abbrev pub invariant-loop-digits : goal.invariant-loop-digits
-invariant-loop-digits l = record {
-  value : l.digits * 10 ^ l.zeros ≡ l.number;
-  some : 0 < l.digits;
-}
+abbrev pub invariant-loop-mantissa : goal.invariant-loop-mantissa
+invariant-loop-mantissa l = IsPartlyStripped l.number l.mantissa l.zeros
 
-abbrev pub decreases-loop-digits : goal.decreases-loop-digits
-decreases-loop-digits l = l.digits
+abbrev pub decreases-loop-mantissa : goal.decreases-loop-mantissa
+decreases-loop-mantissa l = l.mantissa
