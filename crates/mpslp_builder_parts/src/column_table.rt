@@ -116,10 +116,8 @@ fn columns_in(
         let end = ends[number];
         let (grouped, kept) = nonzero_first(cells, start as usize, end as usize);
         cells = in_order_between(grouped, start as usize, kept);
-        made.push((
-            name,
-            span_between(alloc, column.definition, start, kept as u32)?,
-        ))?;
+        let span = span_between(alloc, column.definition, start, kept as u32)?;
+        made.push((name, span))?;
         start = end;
         number += 1;
     }

@@ -84,8 +84,8 @@ loop-name-preserved c =
     let all = each_part (parts_of log) c.args.columns.entries in
     let parts = parts_of log column in
     let steps = ap (each_part (parts_of log)) c.in-Some.ensures.steps in
-    let span = c.in_ok-span_between.field-0 in
-    let places = c.in_ok-span_between.ensures in
+    let span = c.in_ok-span.span in
+    let places = c.in_ok-span.ensures in
     let moved = moved_in ranks parts in
     let few = λ (cell : ℕ × Number). cell.0 < length ranks in
     let first = subst (AreGrouped log partly.all start (drop number ends)) c.in-Some.ensures.steps partly.groups in
@@ -103,17 +103,17 @@ loop-name-preserved c =
     (c.in-Some.name, parts) steps before.within)) cells grouped after partly.rest nonzero.kept sorted.permutation sorted.sorted in
     let here : span_cells after span ≡ moved = (λ i. span_cells after (record span { start = places.start i; end = places.end i })) ∙ own in
     record {
-      bounds = passed_on (each_part span_bounds made) (each_part span_bounds c.push-in-loop-name.new.self.items) (each_part bounds_of left)
+      bounds = passed_on (each_part span_bounds made) (each_part span_bounds c.push.new.self.items) (each_part bounds_of left)
           (each_part bounds_of all) (c.in-Some.name, bounds_of parts)
           (ap (each_part span_bounds) c.in_ok-push.ensures.items ∙ each_part-append span_bounds made c.in-Some.name span
           ∙ (λ i. each_part span_bounds made ++ (c.in-Some.name, places.bounds i) ∷ []))
           (ap (λ columns. each_part span_bounds made ++ each_part bounds_of columns) (sym steps) ∙ before.bounds);
-      cells = passed_on (each_part (span_cells cells) made) (each_part (span_cells after) c.push-in-loop-name.new.self.items)
+      cells = passed_on (each_part (span_cells cells) made) (each_part (span_cells after) c.push.new.self.items)
           (each_part (moved_in ranks) left) (each_part (moved_in ranks) all) (c.in-Some.name, moved)
           (ap (each_part (span_cells after)) c.in_ok-push.ensures.items ∙ each_part-append (span_cells after) made c.in-Some.name span
           ∙ (λ i. spans-short after cells start (sorted.before ∙ nonzero.before) made before.places i ++ (c.in-Some.name, here i) ∷ []))
           (ap (λ columns. each_part (span_cells cells) made ++ each_part (moved_in ranks) columns) (sym steps) ∙ before.cells);
-      places = within-next start kept end made c.push-in-loop-name.new.self.items (c.in-Some.name, span) nonzero.within.0 nonzero.within.1
+      places = within-next start kept end made c.push.new.self.items (c.in-Some.name, span) nonzero.within.0 nonzero.within.1
           c.in_ok-push.ensures.items places.start places.end before.places;
       partly = record {
         all = partly.all;
