@@ -1,6 +1,6 @@
 //! The columns by number, each with its name, its definition and its coefficients.
 
-ghost use Rattle.std.specs.Prelude.{◌≡◌, ◌<◌, ◌↔◌, ℕ, [], ◌∷◌, ◌++◌, IsTrue, IfOk, IfSome, OnOk, OnErr, None, Some, true, is_some, length, slice_get, slice_index, option_copied};
+ghost use Rattle.std.specs.Prelude.{◌≡◌, ◌<◌, ◌↔◌, ℕ, [], IsTrue, IfOk, IfSome, OnOk, OnErr, None, Some, true, is_some, length, slice_get, slice_index, option_copied};
 ghost use Rattle.std.specs.List.{All};
 ghost use Rattle.std.specs.Option.{option_map};
 ghost use Rattle.std.specs.Ordering.{nat_cmp};
@@ -8,7 +8,7 @@ ghost use Rattle.std.specs.FinMap.{find};
 ghost use Rattle.mpslp_types.specs.Name.{bytes_cmp};
 ghost use Rattle.mpslp_model_core.specs.ModelColumns.{IsWithin, span_bounds, span_cells};
 ghost use Rattle.mpslp_model_core.specs.Numbered.{IsOnce, each_part};
-ghost use Rattle.mpslp_builder_parts.specs.Parts.{cells_of, no_part, parts_with, new_column, with_cell, with_bounds, definition_in, bounds_of, moved_in};
+ghost use Rattle.mpslp_builder_parts.specs.Parts.{cells_of, no_part, parts_with, with_cell, with_bounds, definition_in, bounds_of, moved_in};
 ghost use Rattle.mpslp_builder_parts.specs.CoefficientLog.{IsLog};
 ghost use Rattle.mpslp_builder_parts.specs.Grouping.{HaveNumbers};
 ghost use Rattle.mpslp_builder_parts.specs.ColumnTable.{name_in, cells_in_column, number_inserted, Inserts, IsChanged};

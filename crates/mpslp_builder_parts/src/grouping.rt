@@ -1,11 +1,10 @@
 //! The coefficients of a log, grouped by their columns.
 
-ghost use Rattle.std.specs.Prelude.{◌≡◌, ◌≢◌, ◌<◌, ℕ, IfOk, length, slice_index, slice_index_or};
+ghost use Rattle.std.specs.Prelude.{IfOk, length};
 ghost use Rattle.mpslp_builder_parts.specs.Grouping.{HaveNumbers, ArePlaced};
 ghost use Rattle.mpslp_builder_parts.specs.StoredColumns.{last_of};
 
 use crate::known_pairs::{Columns, last_of};
-use mpslp_decimal::PackedDecimal;
 use std::alloc::{AllocError, Global};
 
 /// Returns where each coefficient is once all are grouped by their columns, those of a column in the order in which they were put,

@@ -4,7 +4,7 @@
 //! coefficient of a column, and the column of the last one of a row, decide whether there is a coefficient of both. For any other
 //! order of calls all pairs are put into a set.
 
-ghost use Rattle.std.specs.Prelude.{◌≡◌, ◌≢◌, ◌≤◌, ◌<◌, ◌||◌, ℕ, [], suc, IsTrue, OnOk, OnErr, IfOk, IfSome, Some, None, true, length, slice_index, is_some};
+ghost use Rattle.std.specs.Prelude.{◌≡◌, ◌≢◌, ◌≤◌, ◌<◌, ◌||◌, ℕ, [], suc, IsTrue, OnOk, OnErr, IfOk, Some, None, true, length, slice_index, is_some};
 ghost use Rattle.std.specs.Ordering.{nat_cmp};
 ghost use Rattle.std.specs.FinMap.{find};
 ghost use Rattle.mpslp_builder_parts.specs.CoefficientLog.{chain};
