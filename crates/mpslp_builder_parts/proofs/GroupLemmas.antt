@@ -159,9 +159,6 @@ times_rise n (m ∷ ms) zero j h = omega arith
 times_rise n (m ∷ ms) (suc i) zero h = absurd (omega (arith, h))
 times_rise n (m ∷ ms) (suc i) (suc j) h = grind (arith, times_rise n ms i j (omega (arith, h)))
 
-pub tied : (k : ℕ) → eq_by_cmp nat_cmp k k ≡ true
-tied = grind arith
-
 pub place_apart : (ms : List ℕ) (i j : ℕ) → i < length ms → j < length ms → i < j → group_place ms i ≡ group_place ms j → ⊥
 place_apart ms i j first second order same = by (cases_order n m)
   where
@@ -173,17 +170,17 @@ place_apart ms i j first second order same = by (cases_order n m)
 
     by : (n ≡ m) ⊎ ((n < m) ⊎ (m < n)) → ⊥
     by (inl alike) =
-        let one = times_more n ms i first (tied n) in
+        let one = times_more n ms i first (number_tied n n refl) in
         let more = times_rise n ms (suc i) j (omega (arith, order)) in
         let at : group_place ms j ≡ times_below n ms + times n (take j ms) = ap (λ k. times_below k ms + times k (take j ms)) (sym alike) in
         absurd (omega (arith, one, more, at, same))
     by (inr (inl less)) =
-        let one = times_more n ms i first (tied n) in
+        let one = times_more n ms i first (number_tied n n refl) in
         let part = times_take n ms (suc i) in
         let rise = below_rise (suc n) m ms less in
         absurd (omega (arith, one, part, rise, same))
     by (inr (inr more)) =
-        let one = times_more m ms j second (tied m) in
+        let one = times_more m ms j second (number_tied m m refl) in
         let part = times_take m ms (suc j) in
         let rise = below_rise (suc m) n ms more in
         absurd (omega (arith, one, part, rise, same))

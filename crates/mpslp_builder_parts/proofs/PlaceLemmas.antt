@@ -5,7 +5,8 @@ use Rattle.std.specs.Ordering.{nat_cmp, eq_by_cmp}
 use Rattle.mpslp_builder_parts.specs.Grouping.{last_place, times, times_below, group_place, AreChained, HaveNumbers, ArePlaced}
 use Rattle.mpslp_builder_parts.specs.StoredColumns.{last_of}
 use Rattle.mpslp_builder_parts.specs.declared.known_pairs.StoredColumn.{StoredColumn}
-use Rattle.mpslp_builder_parts.proofs.GroupLemmas.{tied, tie_same, last_le, last_here, last_none, times_none, times_last, times_more, below_all, below_le}
+use Rattle.mpslp_model_core.proofs.CellLemmas.{number_tied}
+use Rattle.mpslp_builder_parts.proofs.{RunLemmas.take-short, GroupLemmas.{tie_same, last_le, last_here, last_none, times_none, times_last, times_more, times_take, below_all, below_le}}
 
 -- the coefficients of the columns from one on have places
 pub record AreDone (earlier : List ℕ) (last : ℕ → ℕ) (count column next : ℕ) (places ends : List ℕ) : Type 0 where
@@ -57,7 +58,7 @@ number_below earlier numbers es chained i inside = by (cases_lt (slice_index num
     by : (n < length es) ⊎ (length es ≤ n) → (i < last_place n numbers) ⊎ (last_place n numbers ≤ i) → n < length es
     by (inl less) _ = less
     by (inr more) (inl later) = let none = sym (chained.lasts n) ∙ last_beyond es n more in absurd (omega (arith, none, later))
-    by (inr more) (inr before) = absurd (false≢true (sym (last_none n numbers i before inside) ∙ tied n))
+    by (inr more) (inr before) = absurd (false≢true (sym (last_none n numbers i before inside) ∙ number_tied n n refl))
 
 pub none_done : (earlier : List ℕ) (es : List (List ℕ × StoredColumn)) (next count : ℕ) (ends : List ℕ) → HaveNumbers earlier (last_of es)
     → next ≡ length earlier → next ≤ 4294967295 → count ≡ length es → length ends ≡ count → AreDone earlier (last_of es) (length es) count next earlier ends
@@ -174,7 +175,7 @@ module _ (earlier : List ℕ) (last : ℕ → ℕ) (count column next : ℕ) (pl
               let room = length-take-le so_far.upto so_far.numbers within in
               let at_is = so_far.at_is in
               absurd (false≢true (sym (last_none column (take so_far.upto so_far.numbers) i (omega (arith, at_is, none_left)) (omega (arith, before, room)))
-              ∙ ap (eq_by_cmp nat_cmp column) (get_or-take so_far.upto so_far.numbers i 0 before ∙ sym here) ∙ tied column))
+              ∙ ap (eq_by_cmp nat_cmp column) (get_or-take so_far.upto so_far.numbers i 0 before ∙ sym here) ∙ number_tied column column refl))
 
   -- a coefficient of it
   module _ (at index : ℕ) (so_far : IsPlacing earlier last count column at next places ends) (step : at ≡ suc index) where
@@ -203,14 +204,8 @@ module _ (earlier : List ℕ) (last : ℕ → ℕ) (count column next : ℕ) (pl
     -- those before it, and itself
     ranks : times column (take so_far.upto so_far.numbers) ≡ suc (times column (take index so_far.numbers))
     ranks = sym (times_last column (take so_far.upto so_far.numbers)) ∙ ap (λ n. times column (take n (take so_far.upto so_far.numbers))) first
-        ∙ ap (times column) (take-twice (suc index) so_far.upto so_far.numbers (let before = index_before in omega (arith, before)))
+        ∙ ap (times column) (take-short (suc index) so_far.upto so_far.numbers (let before = index_before in omega (arith, before)))
         ∙ times_more column so_far.numbers index inside tie
-      where
-        take-twice : (m n : ℕ) (xs : List ℕ) → m ≤ n → take m (take n xs) ≡ take m xs
-        take-twice zero n xs h = refl
-        take-twice (suc m) zero xs h = absurd (omega (arith, h))
-        take-twice (suc m) (suc n) [] h = refl
-        take-twice (suc m) (suc n) (x ∷ xs) h = ap (λ ys. x ∷ ys) (take-twice m n xs (omega (arith, h)))
 
     pub some_left : 0 < next
     some_left = let is = so_far.next_is in let more = ranks in omega (arith, is, more)
@@ -219,14 +214,9 @@ module _ (earlier : List ℕ) (last : ℕ → ℕ) (count column next : ℕ) (pl
     next_few =
         let is = so_far.next_is in
         let all = below_le (suc column) so_far.numbers in
-        let part = times_upto column so_far.upto so_far.numbers in
+        let part = times_take column so_far.numbers so_far.upto in
         let few = so_far.few in
         omega (arith, is, all, part, few)
-      where
-        times_upto : (n m : ℕ) (ms : List ℕ) → times n (take m ms) ≤ times n ms
-        times_upto n zero ms = omega arith
-        times_upto n (suc m) [] = omega arith
-        times_upto n (suc m) (k ∷ ms) = grind (arith, times_upto n m ms)
 
     pub link_before : slice_index places index < at
     link_before =
@@ -278,7 +268,7 @@ module _ (earlier : List ℕ) (last : ℕ → ℕ) (count column next : ℕ) (pl
                 let room = length-take-le so_far.upto so_far.numbers so_far.within in
                 let at = first in
                 absurd (false≢true (sym (last_none column (take so_far.upto so_far.numbers) i (omega (arith, at, after)) (omega (arith, under, room)))
-                ∙ ap (eq_by_cmp nat_cmp column) (get_or-take so_far.upto so_far.numbers i 0 under ∙ later.0) ∙ tied column))
+                ∙ ap (eq_by_cmp nat_cmp column) (get_or-take so_far.upto so_far.numbers i 0 under ∙ later.0) ∙ number_tied column column refl))
 
         kept : (i : ℕ) → i < length so_far.numbers → (slice_index so_far.numbers i < column) ⊎ ((slice_index so_far.numbers i ≡ column) × (i < index))
             → slice_index (set places index place) i ≡ slice_index earlier i

@@ -74,7 +74,7 @@ module _ {X : Type 0} (xs items ys : List X) (start end n : ℕ) (same : xs ≡ 
 
 -- ---- parts of the vector while its columns are sorted one after another
 
-take-short : {X : Type 0} (k n : ℕ) (xs : List X) → k ≤ n → take k (take n xs) ≡ take k xs
+pub take-short : {X : Type 0} (k n : ℕ) (xs : List X) → k ≤ n → take k (take n xs) ≡ take k xs
 take-short zero n xs h = refl
 take-short (suc k) zero xs h = absurd (omega (arith, h))
 take-short (suc k) (suc n) [] h = refl

@@ -7,6 +7,7 @@ use Rattle.mpslp_builder_parts.specs.declared.known_pairs.StoredColumn.{StoredCo
 
 -- ---- numbers in a list
 
+-- the last place in a list, from the last one after its first item, or 0, and whether that item counts
 abbrev pub place_after : Bool → ℕ → ℕ
 place_after here (suc place) = suc (suc place)
 place_after true zero = 1

@@ -9,5 +9,6 @@ pub mod StoredBounds
 pub mod StoredColumns
 pub mod CoefficientLog
 pub mod Grouping
+pub mod Swapped
 pub mod KnownPairs
 pub mod RowForm

@@ -6,8 +6,64 @@ ghost use Rattle.std.specs.List.Sorted.{IsPermutation, IsSortedByKey};
 ghost use Rattle.std.specs.Ordering.{nat_cmp};
 ghost use Rattle.mpslp_decimal.specs.Decimal.{Number};
 ghost use Rattle.mpslp_model_core.specs.Numbered.{is_kept};
+ghost use Rattle.mpslp_builder_parts.specs.Swapped.{AreSwapped};
 
 use mpslp_decimal::PackedDecimal;
+
+/// The number of coefficients below which no blocks are made: so few are in the cache of a processor together.
+const FEWEST: usize = 262_144;
+
+/// How many blocks the places are divided into. So many coefficients, one of each block, are in the cache of a core together.
+const BLOCKS: usize = 256;
+
+/// The bits of a number below [`BLOCKS`].
+const BLOCK_BITS: u32 = 8;
+
+/// The coefficients and their places, with each coefficient in the block of its place if they are many. Then each is near its place,
+/// and the swaps after this one take little memory at a time. Any order is correct here.
+fn in_blocks(
+    cells: Vec<(u32, PackedDecimal)>,
+    places: Vec<u32>,
+) -> (Vec<(u32, PackedDecimal)>, Vec<u32>)
+    requires len { length places.items ≡ length cells.items }
+    requires within { (i : ℕ) → i < length places.items → slice_index places.items i < length places.items }
+    requires apart { (i j : ℕ) → i < j → j < length places.items → slice_index places.items i ≢ slice_index places.items j }
+    ensures { AreSwapped cells.items places.items 0 result.0.items result.1.items }
+{
+    let mut cells = cells;
+    let mut places = places;
+    let count = cells.len();
+    if count < FEWEST {
+        return (cells, places);
+    }
+    let shift = (usize::BITS - count.leading_zeros()).saturating_sub(BLOCK_BITS);
+    // The index after the coefficients of each block that are in it.
+    let mut heads = [0usize; BLOCKS];
+    for block in 0..BLOCKS {
+        heads[block] = block << shift;
+    }
+    for block in 0..BLOCKS {
+        let end = ((block + 1) << shift).min(count);
+        // At most: each step brings one coefficient into its block.
+        for _ in 0..count {
+            let at = heads[block];
+            if at >= end {
+                break;
+            }
+            let own = (places[at] as usize >> shift).min(BLOCKS - 1);
+            let head = heads[own];
+            if head >= count {
+                break;
+            }
+            if head != at {
+                cells.swap(at, head);
+                places.swap(at, head);
+            }
+            heads[own] = head + 1;
+        }
+    }
+    (cells, places)
+}
 
 /// The coefficients, each at its place. They are swapped, because a second vector of all would be the peak of memory.
 pub(crate) fn at_places(
@@ -20,8 +76,7 @@ pub(crate) fn at_places(
     ensures len { length result.items ≡ length cells.items }
     ensures moved { (i : ℕ) (d : ℕ × Number) → i < length cells.items → slice_index_or result.items (slice_index places.items i) d ≡ slice_index_or cells.items i d }
 {
-    let mut cells = cells;
-    let mut places = places;
+    let (mut cells, mut places) = in_blocks(cells, places);
     for at in 0..cells.len() {
         while places[at] as usize != at {
             let place = places[at] as usize;

@@ -1,5 +1,6 @@
 use Rattle.std.proofs.Common.{length}
-use Rattle.mpslp_builder_parts.proofs.SwapLemmas.{AreSwapped, count_away}
+use Rattle.mpslp_builder_parts.specs.Swapped.{AreSwapped}
+use Rattle.mpslp_builder_parts.proofs.SwapLemmas.{count_away}
 use Rattle.mpslp_builder_parts.proofs.moving.at_places.Given as goal
 
 abbrev pub invariant-loop-at : goal.invariant-loop-at
