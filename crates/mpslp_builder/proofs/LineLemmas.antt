@@ -458,15 +458,13 @@ any-looked_up name [] = refl
 any-looked_up name (term ∷ terms) = grind (arith, any-looked_up name terms)
 
 -- in two lists one after the other
-pub any-both : (name : List ℕ) (first more : Terms) (b : Bool) → is_some (find bytes_cmp name first) ≡ false
+pub any-both : (name : List ℕ) (first more : Terms) (b : Bool) → list_any (λ term. same_bytes name term.0) first ≡ false
     → list_any (λ term. same_bytes name term.0) more ≡ b → list_any (λ term. same_bytes name term.0) (first ++ more) ≡ b
-any-both name first more b absent is = grind
-    (arith, list_any-append (λ (term : List ℕ × Number). same_bytes name term.0) first more, any-found name first)
+any-both name first more b absent is = grind (arith, list_any-append (λ (term : List ℕ × Number). same_bytes name term.0) first more)
 
-pub any-first : (name : List ℕ) (first more : Terms) → is_some (find bytes_cmp name first) ≡ true
+pub any-first : (name : List ℕ) (first more : Terms) → list_any (λ term. same_bytes name term.0) first ≡ true
     → list_any (λ term. same_bytes name term.0) (first ++ more) ≡ true
-any-first name first more there = grind
-    (arith, list_any-append (λ (term : List ℕ × Number). same_bytes name term.0) first more, any-found name first)
+any-first name first more there = grind (arith, list_any-append (λ (term : List ℕ × Number). same_bytes name term.0) first more)
 
 pub any-none : (name : List ℕ) (terms : Terms) → length terms ≡ 0 → list_any (λ term. same_bytes name term.0) terms ≡ false
 any-none name [] h = refl
@@ -474,7 +472,7 @@ any-none name (term ∷ terms) h = absurd (omega arith)
 
 -- a name that is not in the first list
 pub any-more : (name key : List ℕ) (first more all : Terms) (r : Result Bool AllocError) → first ++ more ≡ all → key ≡ name
-    → is_some (find bytes_cmp name first) ≡ false → IfOk r (λ is_new. list_any (λ term. same_bytes key term.0) more ≡ not is_new)
+    → list_any (λ term. same_bytes name term.0) first ≡ false → IfOk r (λ is_new. list_any (λ term. same_bytes key term.0) more ≡ not is_new)
     → IfOk r (λ is_new. list_any (λ term. same_bytes name term.0) all ≡ not is_new)
 any-more = grind (arith, any-both)
 

@@ -6,7 +6,9 @@ ghost use Rattle.std.specs.List.{list_any};
 ghost use Rattle.std.specs.Ordering.{is_gt};
 ghost use Rattle.std.specs.FinMap.{find, is_sorted};
 ghost use Rattle.mpslp_types.specs.Name.{IsMpsName, bytes_cmp, same_bytes};
+ghost use Rattle.mpslp_builder.specs.declared.row_terms.Order.{Order};
 
+use crate::tables::names::is_same_name;
 use indexmap::IndexMap;
 use mpslp_decimal::Decimal;
 use mpslp_maps::find_entry;
@@ -17,29 +19,44 @@ use std::marker::Model;
 /// The number of terms in each part up to which their memory is kept for another row.
 const FEW: usize = 256;
 
+/// The number of first terms that may be out of byte order: so few names are compared one by one faster than one is looked up by its
+/// hash.
+const FEW_COMPARED: usize = 16;
+
+/// In which order the first terms of a row are.
+#[derive(Clone, Copy)]
+enum Order {
+    /// In byte order.
+    Rising,
+    /// In any order.
+    Any,
+}
+
 /// The terms of a row that is not yet declared: columns, each once, and their values. Contracts see them in the order in which
 /// they were added.
 ///
-/// Mostly they are added in byte order. Then a name is compared only with the last one.
+/// Mostly they are added in byte order, so that a name is compared only with the last one, or they are few.
 #[derive(Drop)]
 pub struct RowTerms {
-    /// The terms up to the first one that is out of byte order.
-    pub(crate) rising: Vec<(Name, Decimal)>,
+    /// The first terms: up to the first one that is out of byte order, or more if these are few.
+    pub(crate) first: Vec<(Name, Decimal)>,
+    order: Order,
     /// The others.
     pub(crate) others: IndexMap<Name, Decimal, HashSeed>,
 }
 
 impl Model for RowTerms {
-    ghost use Rattle.std.specs.Prelude.{ℕ, List, ◌++◌, IsTrue};
+    ghost use Rattle.std.specs.Prelude.{◌≡◌, ℕ, List, ◌++◌, IsTrue};
     ghost use Rattle.std.specs.FinMap.{is_sorted};
     ghost use Rattle.mpslp_decimal.specs.Decimal.{Number};
     ghost use Rattle.mpslp_types.specs.Name.{bytes_cmp};
+    ghost use Rattle.mpslp_builder.specs.declared.row_terms.Order.{Order};
 
     ghost Value = { List (List ℕ × Number) };
 
-    ghost view = { λ t. t.rising.items ++ t.others.entries };
+    ghost view = { λ t. t.first.items ++ t.others.entries };
 
-    ghost invariant = { λ t. IsTrue (is_sorted bytes_cmp t.rising.items) };
+    ghost invariant = { λ t. t.order ≡ Order.Rising → IsTrue (is_sorted bytes_cmp t.first.items) };
 }
 
 /// Whether the name is greater than the last one in byte order, or there is none.
@@ -52,7 +69,18 @@ fn is_above(terms: &[(Name, Decimal)], name: &[u8]) -> bool
     }
 }
 
-/// Whether one of the terms has this column.
+/// Whether the terms are in byte order, and also with this name after them.
+fn is_last(terms: &[(Name, Decimal)], order: Order, name: &[u8]) -> bool
+    ensures order { IsTrue result → order ≡ Order.Rising }
+    ensures above { IsTrue result → IsTrue (option_map_or (λ last. is_gt (bytes_cmp name.now last.0)) (slice_get terms.now (length terms.now - 1)) true) }
+{
+    match order {
+        Order::Rising => is_above(terms, name),
+        Order::Any => false,
+    }
+}
+
+/// Whether one of the terms, which are in byte order, has this column.
 fn has_term(terms: &[(Name, Decimal)], name: &[u8]) -> bool
     requires { IsTrue (is_sorted bytes_cmp terms.now) }
     ensures { result ≡ is_some (find bytes_cmp name.now terms.now) }
@@ -60,7 +88,27 @@ fn has_term(terms: &[(Name, Decimal)], name: &[u8]) -> bool
     find_entry(terms, &name).is_some()
 }
 
-/// Adds a term whose column is not among those in byte order. Returns whether it is new among the others.
+/// Whether one of the terms has this column. All are compared.
+fn has_name(terms: &[(Name, Decimal)], name: &[u8]) -> bool
+    ensures { result ≡ list_any (λ term. same_bytes name.now term.0) terms.now }
+{
+    terms
+        .iter()
+        .any(|term| is_same_name(term.0.as_bytes(), name))
+}
+
+/// Whether one of the first terms has this column.
+fn is_first(terms: &[(Name, Decimal)], order: Order, name: &[u8]) -> bool
+    requires { order ≡ Order.Rising → IsTrue (is_sorted bytes_cmp terms.now) }
+    ensures { result ≡ list_any (λ term. same_bytes name.now term.0) terms.now }
+{
+    match order {
+        Order::Rising => has_term(terms, name),
+        Order::Any => has_name(terms, name),
+    }
+}
+
+/// Adds a term whose column is not among the first ones. Returns whether it is new among the others.
 fn add_other(
     others: &mut IndexMap<Name, Decimal, HashSeed>,
     name: Name,
@@ -82,7 +130,8 @@ impl RowTerms {
         ensures { result ≡ [] }
     {
         RowTerms {
-            rising: Vec::new(alloc),
+            first: Vec::new(alloc),
+            order: Order::Rising,
             others: IndexMap::with_hasher(alloc, seed),
         }
     }
@@ -91,7 +140,8 @@ impl RowTerms {
     pub fn clear(&mut self)
         ensures { self.new ≡ [] }
     {
-        self.rising.clear();
+        self.first.clear();
+        self.order = Order::Rising;
         self.others.clear();
     }
 
@@ -99,7 +149,7 @@ impl RowTerms {
     pub fn are_few(&self) -> bool
         ensures { IsTrue result → length self.now ≤ 512 }
     {
-        self.rising.len() <= FEW && self.others.len() <= FEW
+        self.first.len() <= FEW && self.others.len() <= FEW
     }
 
     /// Whether there are no terms.
@@ -107,7 +157,7 @@ impl RowTerms {
         ensures none { IsTrue result → self.now ≡ [] }
         ensures some { self.now ≡ [] → IsTrue result }
     {
-        match self.rising.as_slice() {
+        match self.first.as_slice() {
             [] => self.others.is_empty(),
             _ => false,
         }
@@ -125,14 +175,22 @@ impl RowTerms {
         ensures added { result ≡ Ok true → self.new ≡ self.old ++ (column.now, value) ∷ [] }
     {
         let name = Name::from_legal(alloc, column)?;
+        let order = self.order;
         if self.others.is_empty() {
-            if is_above(self.rising.as_slice(), column) {
-                self.rising.push((name, value))?;
+            if is_last(self.first.as_slice(), order, column) {
+                self.first.push((name, value))?;
                 return Ok(true);
             }
         }
-        if has_term(self.rising.as_slice(), column) {
+        if is_first(self.first.as_slice(), order, column) {
             return Ok(false);
+        }
+        if self.others.is_empty() {
+            if self.first.len() < FEW_COMPARED {
+                self.order = Order::Any;
+                self.first.push((name, value))?;
+                return Ok(true);
+            }
         }
         add_other(&mut self.others, name, value)
     }

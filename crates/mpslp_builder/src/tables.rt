@@ -5,7 +5,7 @@ mod facts;
 pub(crate) mod file_faults;
 pub(crate) mod hints;
 pub(crate) mod lines;
-mod names;
+pub(crate) mod names;
 mod row_terms;
 pub(crate) mod targets;
 

@@ -1,6 +1,7 @@
 //! Which rows and columns are declared, and their numbers: look-ups by name.
 
 ghost use Rattle.std.specs.Prelude.{◌≡◌, IsTrue, IfSome, Some, None, suc, is_some};
+ghost use Rattle.mpslp_types.specs.Name.{same_bytes};
 ghost use Rattle.mpslp_builder.specs.Declaration.{has_row, has_column, has_name, is_objective, is_free_row};
 ghost use Rattle.mpslp_builder.specs.Tables.{draft, IsNumbered};
 ghost use Rattle.mpslp_builder.specs.Calls.{row_key_of, row_name, column_name, IsSameTables};
@@ -9,13 +10,13 @@ use crate::tables::{RowRef, Tables};
 use mpslp_types::NameBytes;
 
 /// Whether two names are the same. Their last bytes are compared first, because most names that differ have other ones.
-fn is_same_name(name: &[u8], other: &[u8]) -> bool
-    ensures { IsTrue result → name.now ≡ other.now }
+pub(crate) fn is_same_name(name: &[u8], other: &[u8]) -> bool
+    ensures { result ≡ same_bytes name.now other.now }
 {
-    let ([.., last], [.., other_last]) = (name, other) else {
-        return false;
-    };
-    last == other_last && name == other
+    match (name, other) {
+        ([.., last], [.., other_last]) if last != other_last => false,
+        _ => name == other,
+    }
 }
 
 impl Tables {

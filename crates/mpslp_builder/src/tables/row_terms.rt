@@ -24,6 +24,39 @@ const AHEAD: usize = 16;
 /// longer than the misses of the cache that it saves.
 const FEW: usize = 1;
 
+/// The terms of a row, of which some are looked up together: the first ones, or the others.
+#[derive(Clone, Copy)]
+enum Terms<'a> {
+    /// The first ones.
+    First(&'a [(Name, Decimal)]),
+    /// The others.
+    Others(&'a IndexMap<Name, Decimal, HashSeed>),
+}
+
+impl<'a> Terms<'a> {
+    /// How many there are.
+    fn len(self) -> usize {
+        match self {
+            Terms::First(terms) => terms.len(),
+            Terms::Others(terms) => terms.len(),
+        }
+    }
+
+    /// The name of the column of the term at an index, empty if there is none.
+    fn name_at(self, index: usize) -> &'a [u8] {
+        match self {
+            Terms::First(terms) => match terms.get(index) {
+                Some(term) => term.0.as_bytes(),
+                None => &[],
+            },
+            Terms::Others(terms) => match terms.get_index(index) {
+                Some((name, _value)) => name.as_bytes(),
+                None => &[],
+            },
+        }
+    }
+}
+
 /// Consecutive numbers.
 fn numbers_from(first: usize) -> [usize; AHEAD] {
     let mut numbers = [0usize; AHEAD];
@@ -36,40 +69,38 @@ fn numbers_from(first: usize) -> [usize; AHEAD] {
 impl Tables {
     /// The number of the first column, if as many columns as are looked up together probably follow the one that was used last in the
     /// order of their declarations. Only the first and the last one are compared.
-    fn next_run(&self, terms: &[(Name, Decimal)]) -> Option<usize> {
-        if terms.len() < AHEAD {
-            return None;
-        }
+    fn next_run(&self, terms: Terms<'_>, from: usize) -> Option<usize> {
         let first = self.recent.saturating_add(1);
         let last = first.saturating_add(AHEAD - 1);
-        let is_run = self.is_column(first, terms[0].0.as_bytes())
-            && self.is_column(last, terms[AHEAD - 1].0.as_bytes());
+        let is_run = self.is_column(first, terms.name_at(from))
+            && self.is_column(last, terms.name_at(from.saturating_add(AHEAD - 1)));
         if is_run { Some(first) } else { None }
     }
 
-    /// The numbers that the columns of the first terms probably have.
-    fn numbers_of(&self, terms: &[(Name, Decimal)]) -> [usize; AHEAD] {
+    /// The numbers that the columns of the terms from an index on probably have.
+    fn numbers_of(&self, terms: Terms<'_>, from: usize) -> [usize; AHEAD] {
         let seed = *self.rows.hasher();
         let mut numbers = [0usize; AHEAD];
-        for i in 0..terms.len().min(AHEAD) {
-            numbers[i] = self.hints.guess(seed, terms[i].0.as_bytes());
+        for i in 0..terms.len().saturating_sub(from).min(AHEAD) {
+            numbers[i] = self
+                .hints
+                .guess(seed, terms.name_at(from.saturating_add(i)));
         }
         numbers
     }
 
-    /// The numbers that the columns of the first terms may have, 0 where there is none. They only speed up later look-ups, so any
-    /// numbers are correct.
-    fn guesses(&self, row: u32, terms: &[(Name, Decimal)]) -> [usize; AHEAD] {
-        let count = terms.len().min(AHEAD);
-        let mut guesses = match self.next_run(terms) {
+    /// The numbers that the columns of the terms from an index on may have. They only speed up later look-ups, so any numbers are
+    /// correct.
+    fn guesses(&self, row: u32, terms: Terms<'_>, from: usize) -> [usize; AHEAD] {
+        let mut guesses = match self.next_run(terms, from) {
             Some(first) => numbers_from(first),
-            None => self.numbers_of(terms),
+            None => self.numbers_of(terms, from),
         };
         // This reads the name of each column, and its last coefficient, after which the next one is stored. In a loop of their own
-        // the misses of the cache overlap.
-        for i in 0..count {
-            let is_found = self.is_column(guesses[i], terms[i].0.as_bytes());
-            if !is_found || self.has_cell(guesses[i], row) {
+        // the misses of the cache overlap. A number that no column has remains, since the column is then probably new.
+        for i in 0..terms.len().saturating_sub(from).min(AHEAD) {
+            let is_found = self.is_column(guesses[i], terms.name_at(from.saturating_add(i)));
+            if is_found && self.has_cell(guesses[i], row) {
                 guesses[i] = 0;
             }
         }
@@ -102,6 +133,7 @@ impl Tables {
         if let Some(column) = self.column_from(name, guess) {
             return Ok(column);
         }
+        // A column that is there lost its hint to another one.
         let inserted = self.start_column(Name::from_legal(alloc, name)?)?;
         let column = inserted.number();
         let seed = *self.rows.hasher();
@@ -136,7 +168,7 @@ impl Tables {
     }
 
     /// Declares terms of a row in order.
-    fn declare_rising(
+    fn declare_first(
         &mut self,
         alloc: Global,
         row: u32,
@@ -152,7 +184,7 @@ impl Tables {
         let mut guesses = [0usize; AHEAD];
         for k in 0..terms.len() {
             if is_long && k % AHEAD == 0 {
-                guesses = self.guesses(row, &terms[k..]);
+                guesses = self.guesses(row, Terms::First(terms), k);
             }
             let term = &terms[k];
             each_name_is_legal(&term.0);
@@ -179,10 +211,15 @@ impl Tables {
         ensures rows { self.new.rows.entries ≡ self.old.rows.entries }
         ensures declared { TermsAreDeclaredUnless self.old row terms.now.entries result self.new }
     {
+        let mut guesses = [0usize; AHEAD];
+        let mut k = 0usize;
         for (name, value) in terms.iter() {
-            let guess = self.recent.saturating_add(1);
+            if k % AHEAD == 0 {
+                guesses = self.guesses(row, Terms::Others(terms), k);
+            }
             each_name_is_legal(name);
-            self.declare_term(alloc, row, name.as_bytes(), guess, *value)?;
+            self.declare_term(alloc, row, name.as_bytes(), guesses[k % AHEAD], *value)?;
+            k = k.saturating_add(1);
         }
         Ok(())
     }
@@ -200,7 +237,7 @@ impl Tables {
         ensures rows { self.new.rows.entries ≡ self.old.rows.entries }
         ensures declared { TermsAreDeclaredUnless self.old row terms.now result self.new }
     {
-        self.declare_rising(alloc, row, terms.rising.as_slice())?;
+        self.declare_first(alloc, row, terms.first.as_slice())?;
         self.declare_others(alloc, row, &terms.others)
     }
 }

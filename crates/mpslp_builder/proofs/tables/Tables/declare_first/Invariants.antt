@@ -1,6 +1,6 @@
 use Rattle.std.{proofs.Common.{◌≡◌, drop, List, ℕ}, specs.{Prelude.Some, List.flat_map}}
 use Rattle.mpslp_builder.{specs.{Calls.row_name, LineTables.Follows, RowTerms.term_declared}, proofs.LineLemmas.Decides}
-use Rattle.mpslp_builder.proofs.tables.Tables.declare_rising.Given as goal
+use Rattle.mpslp_builder.proofs.tables.Tables.declare_first.Given as goal
 
 -- the result depends on the terms that are left
 abbrev pub invariant-loop-k : goal.invariant-loop-k

@@ -2,7 +2,7 @@ use Rattle.std.{proofs.Common.{refl, ap, subst, ◌∙◌, ◌+◌, drop, List, 
 use Rattle.mpslp_decimal.specs.Decimal.{Number}
 use Rattle.mpslp_builder.specs.RowTerms.{term_declared}
 use Rattle.mpslp_builder.proofs.LineLemmas.{follows_same, follows_then, Decides, decides_all, rest_of, drop_none, term_laid, term_refused}
-use Rattle.mpslp_builder.proofs.tables.Tables.declare_rising.Goals as goal
+use Rattle.mpslp_builder.proofs.tables.Tables.declare_first.Goals as goal
 
 pub loop-k-init : goal.loop-k-init
 loop-k-init c = let t = c.args.self.now in
