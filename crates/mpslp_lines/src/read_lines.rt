@@ -90,6 +90,8 @@ pub(crate) fn read_one<L: ReadLines>(reader: &mut L, line: &[u8]) -> Result<(), 
 }
 
 /// Reads the lines of the next part of a text, up to the one that ends the text.
+///
+/// It does not call [`read_one`], whose result would be cleared and copied for each line.
 pub(crate) fn read_lines<L: ReadLines>(reader: &mut L, part: &[u8]) -> Result<(), ReadFault>
     requires reader { IsReader L.has_read reader.old }
     requires unended { L.at_end reader.old ≡ false }
