@@ -462,10 +462,6 @@ pub any-both : (name : List ℕ) (first more : Terms) (b : Bool) → list_any (�
     → list_any (λ term. same_bytes name term.0) more ≡ b → list_any (λ term. same_bytes name term.0) (first ++ more) ≡ b
 any-both name first more b absent is = grind (arith, list_any-append (λ (term : List ℕ × Number). same_bytes name term.0) first more)
 
-pub any-first : (name : List ℕ) (first more : Terms) → list_any (λ term. same_bytes name term.0) first ≡ true
-    → list_any (λ term. same_bytes name term.0) (first ++ more) ≡ true
-any-first name first more there = grind (arith, list_any-append (λ (term : List ℕ × Number). same_bytes name term.0) first more)
-
 pub any-none : (name : List ℕ) (terms : Terms) → length terms ≡ 0 → list_any (λ term. same_bytes name term.0) terms ≡ false
 any-none name [] h = refl
 any-none name (term ∷ terms) h = absurd (omega arith)

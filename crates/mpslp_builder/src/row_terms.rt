@@ -19,8 +19,8 @@ use std::marker::Model;
 /// The number of terms in each part up to which their memory is kept for another row.
 const FEW: usize = 256;
 
-/// The number of first terms that may be out of byte order: so few names are compared one by one faster than one is looked up by its
-/// hash.
+/// The largest number of first terms that may be out of byte order: so few names are compared one by one faster than one is looked up
+/// by its hash.
 const FEW_COMPARED: usize = 16;
 
 /// In which order the first terms of a row are.
@@ -38,8 +38,9 @@ enum Order {
 /// Mostly they are added in byte order, so that a name is compared only with the last one, or they are few.
 #[derive(Drop)]
 pub struct RowTerms {
-    /// The first terms: up to the first one that is out of byte order, or more if these are few.
+    /// The first terms: those up to the first one that is out of byte order, or the first [`FEW_COMPARED`] if these are more.
     pub(crate) first: Vec<(Name, Decimal)>,
+    /// The order of the first terms.
     order: Order,
     /// The others.
     pub(crate) others: IndexMap<Name, Decimal, HashSeed>,
@@ -69,8 +70,8 @@ fn is_above(terms: &[(Name, Decimal)], name: &[u8]) -> bool
     }
 }
 
-/// Whether the terms are in byte order, and also with this name after them.
-fn is_last(terms: &[(Name, Decimal)], order: Order, name: &[u8]) -> bool
+/// Whether the terms are in byte order, and stay so with this name at the end.
+fn continues_order(terms: &[(Name, Decimal)], order: Order, name: &[u8]) -> bool
     ensures order { IsTrue result → order ≡ Order.Rising }
     ensures above { IsTrue result → IsTrue (option_map_or (λ last. is_gt (bytes_cmp name.now last.0)) (slice_get terms.now (length terms.now - 1)) true) }
 {
@@ -98,7 +99,7 @@ fn has_name(terms: &[(Name, Decimal)], name: &[u8]) -> bool
 }
 
 /// Whether one of the first terms has this column.
-fn is_first(terms: &[(Name, Decimal)], order: Order, name: &[u8]) -> bool
+fn is_among(terms: &[(Name, Decimal)], order: Order, name: &[u8]) -> bool
     requires { order ≡ Order.Rising → IsTrue (is_sorted bytes_cmp terms.now) }
     ensures { result ≡ list_any (λ term. same_bytes name.now term.0) terms.now }
 {
@@ -177,12 +178,12 @@ impl RowTerms {
         let name = Name::from_legal(alloc, column)?;
         let order = self.order;
         if self.others.is_empty() {
-            if is_last(self.first.as_slice(), order, column) {
+            if continues_order(self.first.as_slice(), order, column) {
                 self.first.push((name, value))?;
                 return Ok(true);
             }
         }
-        if is_first(self.first.as_slice(), order, column) {
+        if is_among(self.first.as_slice(), order, column) {
             return Ok(false);
         }
         if self.others.is_empty() {

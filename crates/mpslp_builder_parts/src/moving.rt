@@ -10,17 +10,17 @@ ghost use Rattle.mpslp_builder_parts.specs.Swapped.{AreSwapped};
 
 use mpslp_decimal::PackedDecimal;
 
-/// The number of coefficients below which no blocks are made: so few are in the cache of a processor together.
+/// The least number of coefficients that are put into blocks first. Fewer fit into the cache of a processor.
 const FEWEST: usize = 262_144;
-
-/// How many blocks the places are divided into. So many coefficients, one of each block, are in the cache of a core together.
-const BLOCKS: usize = 256;
 
 /// The bits of a number below [`BLOCKS`].
 const BLOCK_BITS: u32 = 8;
 
-/// The coefficients and their places, with each coefficient in the block of its place if they are many. Then each is near its place,
-/// and the swaps after this one take little memory at a time. Any order is correct here.
+/// The largest number of blocks; at least half of them are used. One coefficient of each fits into the cache of a core.
+const BLOCKS: usize = 256;
+
+/// The coefficients and their places. If they are many, each is in the block of its place, so that later swaps stay in the cache.
+/// The contract allows any order.
 fn in_blocks(
     cells: Vec<(u32, PackedDecimal)>,
     places: Vec<u32>,
@@ -37,14 +37,14 @@ fn in_blocks(
         return (cells, places);
     }
     let shift = (usize::BITS - count.leading_zeros()).saturating_sub(BLOCK_BITS);
-    // The index after the coefficients of each block that are in it.
+    // The index after those coefficients at the start of each block that belong to it.
     let mut heads = [0usize; BLOCKS];
     for block in 0..BLOCKS {
         heads[block] = block << shift;
     }
     for block in 0..BLOCKS {
         let end = ((block + 1) << shift).min(count);
-        // At most: each step brings one coefficient into its block.
+        // Each step brings one coefficient into its block, so there are at most `count` steps in all.
         for _ in 0..count {
             let at = heads[block];
             if at >= end {

@@ -4,6 +4,7 @@
 //! one. A table of hints gives the numbers of many names first, and the names are compared in a loop of their own. A hint is never
 //! more than a guess: whoever takes it compares the name. So nothing has to be known of the table.
 
+use mpslp_builder_parts::Inserted;
 use mpslp_types::HashSeed;
 use std::alloc::{AllocError, Global};
 use std::hash::{BuildHasher, Hasher};
@@ -100,7 +101,8 @@ impl Hints {
         Ok(())
     }
 
-    /// Stores the number of a name. That saves something if names are looked up in another order than that of their declarations.
+    /// Stores the number of the name of a new column. That saves something if names are looked up in another order than that of their
+    /// declarations. The hint of a column that is there was replaced by that of another one, and would replace it in turn.
     ///
     /// # Errors
     ///
@@ -109,8 +111,11 @@ impl Hints {
         &mut self,
         seed: HashSeed,
         name: &[u8],
-        number: usize,
+        column: Inserted,
     ) -> Result<(), AllocError> {
+        let Inserted::New(number) = column else {
+            return Ok(());
+        };
         if number >= self.pairs.len() {
             self.grow()?;
         }

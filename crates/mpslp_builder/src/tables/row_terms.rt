@@ -1,6 +1,6 @@
 //! The terms of a row by number: each column, which is declared if it is new, and its coefficient.
 
-ghost use Rattle.std.specs.Prelude.{◌≡◌, ℕ, List, IfOk, IfSome, None, Some, true, is_some};
+ghost use Rattle.std.specs.Prelude.{◌≡◌, ◌≤◌, ℕ, List, IfOk, IfSome, None, Some, true, is_some};
 ghost use Rattle.std.specs.List.{flat_map};
 ghost use Rattle.mpslp_types.specs.Name.{IsMpsName};
 ghost use Rattle.mpslp_builder.specs.RowTerms.{term_declared};
@@ -42,6 +42,13 @@ impl<'a> Terms<'a> {
         }
     }
 
+    /// How many of them are looked up together from an index on.
+    fn count_ahead(self, from: usize) -> usize
+        ensures { result ≤ AHEAD }
+    {
+        self.len().saturating_sub(from).min(AHEAD)
+    }
+
     /// The name of the column of the term at an index, empty if there is none.
     fn name_at(self, index: usize) -> &'a [u8] {
         match self {
@@ -70,6 +77,9 @@ impl Tables {
     /// The number of the first column, if as many columns as are looked up together probably follow the one that was used last in the
     /// order of their declarations. Only the first and the last one are compared.
     fn next_run(&self, terms: Terms<'_>, from: usize) -> Option<usize> {
+        if terms.count_ahead(from) < AHEAD {
+            return None;
+        }
         let first = self.recent.saturating_add(1);
         let last = first.saturating_add(AHEAD - 1);
         let is_run = self.is_column(first, terms.name_at(from))
@@ -81,7 +91,7 @@ impl Tables {
     fn numbers_of(&self, terms: Terms<'_>, from: usize) -> [usize; AHEAD] {
         let seed = *self.rows.hasher();
         let mut numbers = [0usize; AHEAD];
-        for i in 0..terms.len().saturating_sub(from).min(AHEAD) {
+        for i in 0..terms.count_ahead(from) {
             numbers[i] = self
                 .hints
                 .guess(seed, terms.name_at(from.saturating_add(i)));
@@ -98,7 +108,7 @@ impl Tables {
         };
         // This reads the name of each column, and its last coefficient, after which the next one is stored. In a loop of their own
         // the misses of the cache overlap. A number that no column has remains, since the column is then probably new.
-        for i in 0..terms.len().saturating_sub(from).min(AHEAD) {
+        for i in 0..terms.count_ahead(from) {
             let is_found = self.is_column(guesses[i], terms.name_at(from.saturating_add(i)));
             if is_found && self.has_cell(guesses[i], row) {
                 guesses[i] = 0;
@@ -133,11 +143,10 @@ impl Tables {
         if let Some(column) = self.column_from(name, guess) {
             return Ok(column);
         }
-        // A column that is there lost its hint to another one.
         let inserted = self.start_column(Name::from_legal(alloc, name)?)?;
         let column = inserted.number();
         let seed = *self.rows.hasher();
-        self.hints.note(seed, name, column)?;
+        self.hints.note(seed, name, inserted)?;
         Ok(column)
     }
 

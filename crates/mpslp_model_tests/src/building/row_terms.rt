@@ -16,6 +16,35 @@ d 4
 c 3
 a 1";
 
+/// Terms in falling order, more than are compared one by one.
+const MANY: &str = "\
+v 1
+u 2
+t 3
+s 4
+r 5
+q 6
+p 7
+o 8
+n 9
+m 10
+l 11
+k 12
+j 13
+i 14
+h 15
+g 16
+f 17
+e 18";
+
+/// Lines of the model of these terms.
+const EXPECTED_OF_MANY: &str = "\
+entry r 1 1
+entry r 16 16
+entry r 17 17
+entry r 18 18
+entry s 5 5";
+
 /// The column and the value of a term.
 fn parts_of(term: &str) -> (&str, &str) {
     term.split_once(' ').unwrap_or((term, ""))
@@ -48,10 +77,11 @@ fn add_all(alloc: Global, kept: &mut RowTerms, terms: &str) -> Result<(), BuildF
     Ok(())
 }
 
-/// These terms, added after another one was cleared.
+/// These terms, added after others were cleared.
 fn terms_of(alloc: Global, terms: &str) -> Result<RowTerms, BuildFault> {
     let mut kept = RowTerms::new(alloc, FIXED_SEED);
     add(alloc, &mut kept, "x 7")?;
+    add_all(alloc, &mut kept, MANY)?;
     kept.clear();
     add_all(alloc, &mut kept, terms)?;
     Ok(kept)
@@ -130,6 +160,30 @@ fn finds_columns_twice_in_a_row(rt: HostRuntime) -> Result<(), Fail> {
     assert!(rt; are_new(rt.alloc(), TERMS)?);
     assert!(rt; !are_new(rt.alloc(), "a 1\nb 2\na 3")?);
     assert!(rt; !are_new(rt.alloc(), "b 1\na 2\na 3")?);
+    assert!(rt; are_new(rt.alloc(), MANY)?);
+    Ok(())
+}
+
+/// Whether the column of a term is new after many terms.
+fn is_new_after_many(alloc: Global, term: &str) -> Result<bool, BuildFault> {
+    let mut kept = terms_of(alloc, MANY)?;
+    add(alloc, &mut kept, term)
+}
+
+#[test]
+fn finds_columns_twice_in_a_long_row(rt: HostRuntime) -> Result<(), Fail> {
+    let first = is_new_after_many(rt.alloc(), "t 1")?;
+    let last = is_new_after_many(rt.alloc(), "e 1")?;
+    let other = is_new_after_many(rt.alloc(), "d 1")?;
+    assert_eq!(rt; (first, last, other), (false, false, true));
+    Ok(())
+}
+
+#[test]
+fn declares_many_terms_of_a_row(rt: HostRuntime) -> Result<(), Fail> {
+    let views = views_of_terms(rt.alloc(), MANY)?;
+    let absent = first_absent(&views, EXPECTED_OF_MANY);
+    assert_eq!(rt; absent, None);
     Ok(())
 }
 

@@ -21,9 +21,11 @@ Known c = (c.index-in-loop-places.result.now < length c.args.cells.items) × (c.
     × (get_or c.loop-places.places.items c.index-in-loop-places.result.now 0 ≡ c.index-in-loop-places.result.now → ⊥)
 
 known : (c : goal.After-swap-in-loop-places) → Known c
-known c = (to_within _ _ _ _ _ c.loop-places.invariant (below c) _ (read c _ c.index-in-loop-places.ensures) (moves c),
-    to_left _ _ _ _ _ c.loop-places.invariant (below c) _ (read c _ c.index-in-loop-places.ensures) (moves c),
-    was_away _ _ _ _ _ c.loop-places.invariant (below c) _ (read c _ c.index-in-loop-places.ensures) (moves c))
+known c = (
+  to_within _ _ _ _ _ c.loop-places.invariant (below c) _ (read c _ c.index-in-loop-places.ensures) (moves c),
+  to_left _ _ _ _ _ c.loop-places.invariant (below c) _ (read c _ c.index-in-loop-places.ensures) (moves c),
+  was_away _ _ _ _ _ c.loop-places.invariant (below c) _ (read c _ c.index-in-loop-places.ensures) (moves c),
+)
 
 pub loop-places-smaller : goal.loop-places-smaller
 loop-places-smaller c =
