@@ -19,6 +19,19 @@ const BLOCK_BITS: u32 = 8;
 /// The largest number of blocks; at least half of them are used. One coefficient of each fits into the cache of a core.
 const BLOCKS: usize = 256;
 
+/// Whether blocks save time: the coefficients are many, and not at their places already, as those of most MPS files are.
+fn need_blocks(places: &[u32]) -> bool {
+    if places.len() < FEWEST {
+        return false;
+    }
+    for at in 0..places.len() {
+        if places[at] as usize != at {
+            return true;
+        }
+    }
+    false
+}
+
 /// The coefficients and their places. If they are many, each is in the block of its place, so that later swaps stay in the cache.
 /// The contract allows any order.
 fn in_blocks(
@@ -32,10 +45,10 @@ fn in_blocks(
 {
     let mut cells = cells;
     let mut places = places;
-    let count = cells.len();
-    if count < FEWEST {
+    if !need_blocks(&places) {
         return (cells, places);
     }
+    let count = cells.len();
     let shift = (usize::BITS - count.leading_zeros()).saturating_sub(BLOCK_BITS);
     // The index after those coefficients at the start of each block that belong to it.
     let mut heads = [0usize; BLOCKS];

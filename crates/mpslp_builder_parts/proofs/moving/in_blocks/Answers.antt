@@ -5,8 +5,8 @@ use Rattle.mpslp_builder_parts.proofs.SwapLemmas.{none_swapped, after_swap}
 use Rattle.mpslp_builder_parts.proofs.moving.in_blocks.Goals.{then-head-at, else-head-at}
 use Rattle.mpslp_builder_parts.proofs.moving.in_blocks.Goals as goal
 
-pub returns-then-count-lt-FEWEST : goal.returns-then-count-lt-FEWEST
-returns-then-count-lt-FEWEST c = none_swapped c.args.cells.items c.args.places.items c.requires.len c.requires.within c.requires.apart
+pub returns-then-not-need_blocks : goal.returns-then-not-need_blocks
+returns-then-not-need_blocks c = none_swapped c.args.cells.items c.args.places.items c.requires.len c.requires.within c.requires.apart
 
 pub loop-block-2-init : goal.loop-block-2-init
 loop-block-2-init c = none_swapped c.args.cells.items c.args.places.items c.requires.len c.requires.within c.requires.apart
