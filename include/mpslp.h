@@ -100,7 +100,7 @@ typedef struct mpslp_text {
  * library.
  */
 typedef struct mpslp_fault {
-    mpslp_text kind;   /* the name of the kind of error, as DuplicateEntry; docs/FORMATS.md lists them. NotLp for MPSLP_NOT_LP */
+    mpslp_text kind;   /* the name of the kind of error, as DuplicateEntry; docs/ERRORS.md lists them. NotLp for MPSLP_NOT_LP */
     uint64_t line;     /* counted from 1; 0 for an error of the whole text or of arrays, and for MPSLP_NOT_LP */
     mpslp_place place; /* for MPSLP_NOT_LP what has the name; for an error of arrays what has it; else MPSLP_NOWHERE */
     size_t number;     /* the index of that row, column or element: for MPSLP_NOT_LP in byte order of names, else in the arrays */

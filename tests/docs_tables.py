@@ -298,7 +298,7 @@ class Statuses(Form):
               ("canon mps lp unfit", "row 0: NotLp")),
         "3": (("", None), ("canon mps", None), ("convert a b", None), ("same mps - mps -", "both inputs are -"),
               ("show free -", "unknown format: free"), ("canon mps mps -a.mps", None),
-              ("canon mps mps \"$(printf '\\377.mps')\"", None)),
+              ("canon mps mps \"$(printf '\\377.mps')\"", "error: an argument is not valid UTF-8")),
         "4": (("canon mps mps nowhere", "read failed"), ("canon mps mps examples", "read failed"),
               ("canon mps mps nowhere 2>&-", None), ("canon mps mps examples/small.mps > /dev/full", "write failed"),
               ("canon mps mps examples/small.mps >&-", "write failed")),

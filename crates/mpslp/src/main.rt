@@ -22,7 +22,7 @@ fn requested_job<R: Env + AllocGlobal>(rt: &R) -> Result<Job, JobFault> {
         Err(error) if error.kind() == ErrorKind::OutOfMemory => Err(JobFault::OutOfMemory),
         Err(_) => Err(JobFault::Usage(OwnedText::new(
             rt.alloc(),
-            "error: a word of the command line is not UTF-8 text\n",
+            "error: an argument is not valid UTF-8\n",
         )?)),
     }
 }

@@ -65,7 +65,7 @@ const OTHERS: &str = "x a.column b.column column.of.17.b.yt";
 
 /// The columns of the terms of a row: in byte order at first, and then not, and more than are compared one by one.
 const COLUMNS: &str =
-    "a.column LONG x seventeen.letters b.column column.of.17.b.yt k j i h g f1 e d c b other.column.of.26.bytes";
+    "a.column LONG x seventeen.letters b.column column.of.17.b.yt k j i h g f1 e d c b other.column.of.24.bytes";
 
 /// The coefficients of a line.
 fn entries() -> Entries<'static> {
