@@ -1,7 +1,8 @@
 -- Items that are swapped until each is at its place.
-use Rattle.std.proofs.Common.{◌≡◌, ◌≢◌, refl, sym, ap, subst, ◌∙◌, ℕ, zero, suc, ◌+◌, ◌≤◌, ◌<◌, List, length, arith, get_or, cond, ◌⊎◌, inl, inr}
-use Rattle.std.specs.{List.SwappedAt, Ordering.{nat_cmp, eq_by_cmp}}
+use Rattle.std.proofs.Common.{◌≡◌, ◌≢◌, refl, sym, ap, subst, ◌∙◌, ℕ, zero, suc, ◌+◌, ◌≤◌, ◌<◌, List, length, arith, get_or, set, cond, ◌⊎◌, inl, inr}
+use Rattle.std.specs.Ordering.{nat_cmp, eq_by_cmp}
 use Rattle.std.proofs.lemmas.Bool.{cases_order}
+use Rattle.std.proofs.lemmas.List.{get_or-set_same, get_or-set_other, set-set, set-get_or, length-set}
 use Rattle.mpslp_builder_parts.specs.Swapped.{AreSwapped}
 
 -- ---- how many are not at their places
@@ -57,8 +58,19 @@ mirror_before = grind arith
 mirror_mirror : (one other i : ℕ) → mirror one other (mirror one other i) ≡ i
 mirror_mirror one other i = grind (arith, mirror_one, mirror_other, mirror_else)
 
-mirrored : {X : Type 0} (items new : List X) (one other i : ℕ) (d : X) → SwappedAt items new one other → get_or new i d ≡ get_or items (mirror one other i) d
-mirrored items new one other i d swapped = grind (arith, mirror_one, mirror_other, mirror_else, swapped.0, swapped.1, swapped.2)
+-- each item comes from there
+abbrev pub Mirrors : {X : Type 0} → List X → List X → ℕ → ℕ → Type 0
+Mirrors {X} items new one other = (i : ℕ) (d : X) → get_or new i d ≡ get_or items (mirror one other i) d
+
+-- an item is held, whose index counts as its place: it is put at another index, and the item that was there is held
+pub exchanged : {X : Type 0} (items : List X) (at to : ℕ) (held put other : X) → at < length items → to < length items → (to ≡ at → ⊥)
+    → put ≡ held → ((d : X) → other ≡ get_or items to d) → Mirrors (set items at held) (set (set items to put) at other) at to
+exchanged items at to held put other at_in to_in moves same was i d =
+    grind (arith, same, was d, get_or-set_same, get_or-set_other, length-set, mirror_one, mirror_other, mirror_else)
+
+-- the first item that is held
+pub first_held : {X : Type 0} (items : List X) (at : ℕ) (none held : X) → held ≡ get_or items at held → set (set items at none) at held ≡ items
+first_held items at none held is = set-set items at none held ∙ ap (set items at) is ∙ set-get_or items at held
 
 -- ---- items in another order
 
@@ -83,7 +95,7 @@ none_swapped all wanted len within apart = record {
 pub after_swap : {X : Type 0} (all : List X) (wanted : List ℕ) (done : ℕ) (items : List X) (places : List ℕ) → AreSwapped all wanted done items places
     → (one other : ℕ) → one < length all → other < length all → done ≤ one → done ≤ other
     → (new : List X) (later : List ℕ) → length new ≡ length items → length later ≡ length places
-    → SwappedAt items new one other → SwappedAt places later one other → AreSwapped all wanted done new later
+    → Mirrors items new one other → Mirrors places later one other → AreSwapped all wanted done new later
 after_swap {X} all wanted done items places before one other one_in other_in one_left other_left new later new_len later_len swapped replaced = record {
   len = new_len ∙ before.len;
   places_len = later_len ∙ before.places_len;
@@ -94,7 +106,7 @@ after_swap {X} all wanted done items places before one other one_in other_in one
     index = from old.index;
     below = inside old.index old.below;
     place = was (from old.index) ∙ ap place (back old.index) ∙ old.place;
-    item = λ d. mirrored items new one other (from old.index) d swapped ∙ ap (λ k. get_or items k d) (back old.index) ∙ old.item d;
+    item = λ d. swapped (from old.index) d ∙ ap (λ k. get_or items k d) (back old.index) ∙ old.item d;
   };
 }
   where
@@ -111,20 +123,20 @@ after_swap {X} all wanted done items places before one other one_in other_in one
     place i = get_or places i 0
 
     was : (i : ℕ) → get_or later i 0 ≡ place (from i)
-    was i = mirrored places later one other i 0 replaced
+    was i = replaced i 0
 
 -- an item that was away is swapped to its place
 pub fewer_away : (places later : List ℕ) (at to len : ℕ) → to < len → to ≡ get_or places at 0 → (to ≡ at → ⊥)
-    → ((get_or places to 0 ≡ to) → ⊥) → SwappedAt places later at to → count_away len later < count_away len places
+    → ((get_or places to 0 ≡ to) → ⊥) → Mirrors places later at to → count_away len later < count_away len places
 fewer_away places later at to len below to_is moves was_away replaced =
-    away_less len places later to below (grind (arith, to_is, was_away, replaced.1 0)) (λ i inside. each i)
+    away_less len places later to below (grind (arith, to_is, was_away, replaced to 0, mirror_other)) (λ i inside. each i)
   where
     each : (i : ℕ) → away later i ≤ away places i
-    each i = grind (arith, mirrored places later at to i 0 replaced, mirror_one, mirror_other, mirror_else, to_is, moves, was_away)
+    each i = grind (arith, replaced i 0, mirror_one, mirror_other, mirror_else, to_is, moves, was_away)
 
 -- the item that comes next is at its place
 pub next_home : {X : Type 0} (all : List X) (wanted : List ℕ) (done : ℕ) (items : List X) (places : List ℕ) → AreSwapped all wanted done items places
-    → get_or places done 0 ≡ done → AreSwapped all wanted (suc done) items places
+    → get_or places done 0 ≡ done → AreSwapped all wanted (done + 1) items places
 next_home all wanted done items places before home = record {
   len = before.len;
   places_len = before.places_len;
@@ -134,7 +146,7 @@ next_home all wanted done items places before home = record {
   there = before.there;
 }
   where
-    by : (i : ℕ) → (i ≡ done) ⊎ ((i < done) ⊎ (done < i)) → i < suc done → get_or places i 0 ≡ i
+    by : (i : ℕ) → (i ≡ done) ⊎ ((i < done) ⊎ (done < i)) → i < done + 1 → get_or places i 0 ≡ i
     by i (inl same) under = ap (λ k. get_or places k 0) same ∙ home ∙ sym same
     by i (inr (inl less)) under = before.home i less
     by i (inr (inr more)) under = absurd (omega (arith, more, under))
@@ -164,3 +176,35 @@ module _ {X : Type 0} (all : List X) (wanted : List ℕ) (done : ℕ) (items : L
       by (inl same) = omega (arith, same)
       by (inr (inl more)) = omega (arith, more)
       by (inr (inr less)) = absurd (was_away (before.home to less))
+
+-- ---- an item that is held, and its place
+
+module _ {X : Type 0} (all : List X) (wanted : List ℕ) (done at : ℕ) (items : List X) (places : List ℕ) (held : X) (place : ℕ)
+    (before : AreSwapped all wanted done (set items at held) (set places at place)) (inside : at < length all) where
+  held_len : length items ≡ length all
+  held_len = sym (length-set items at held) ∙ before.len
+
+  held_places_len : length places ≡ length all
+  held_places_len = sym (length-set places at place) ∙ before.places_len
+
+  pub held_in : (to : ℕ) → to < length all → to < length items
+  held_in to below = let len = held_len in omega (arith, below, len)
+
+  pub held_places_in : (to : ℕ) → to < length all → to < length places
+  held_places_in to below = let len = held_places_len in omega (arith, below, len)
+
+  pub held_place : place ≡ get_or (set places at place) at 0
+  held_place = sym (get_or-set_same places at place 0 (held_places_in at inside))
+
+  -- it was put at another index, and the item that was there is held
+  module _ (to : ℕ) (below : to < length all) (moves : to ≡ at → ⊥) (put other : X) (placed next : ℕ)
+      (same : put ≡ held) (was : (d : X) → other ≡ get_or items to d) (placed_is : placed ≡ place) (next_is : (d : ℕ) → next ≡ get_or places to d) where
+    pub places_mirrored : Mirrors (set places at place) (set (set places to placed) at next) at to
+    places_mirrored = exchanged places at to place placed next (held_places_in at inside) (held_places_in to below) moves placed_is next_is
+
+    pub held_moved : done ≤ at → done ≤ to → AreSwapped all wanted done (set (set items to put) at other) (set (set places to placed) at next)
+    held_moved at_left to_left = after_swap all wanted done (set items at held) (set places at place) before at to inside below at_left to_left
+        (set (set items to put) at other) (set (set places to placed) at next)
+        (length-set (set items to put) at other ∙ length-set items to put ∙ sym (length-set items at held))
+        (length-set (set places to placed) at next ∙ length-set places to placed ∙ sym (length-set places at place))
+        (exchanged items at to held put other (held_in at inside) (held_in to below) moves same was) places_mirrored

@@ -8,7 +8,8 @@ ghost use Rattle.mpslp_decimal.specs.Decimal.{Number};
 ghost use Rattle.mpslp_model_core.specs.Numbered.{is_kept};
 ghost use Rattle.mpslp_builder_parts.specs.Swapped.{AreSwapped};
 
-use mpslp_decimal::PackedDecimal;
+use mpslp_decimal::{Decimal, PackedDecimal};
+use std::mem::replace;
 
 /// The least number of coefficients that are put into blocks first. Fewer fit into the cache of a processor.
 const FEWEST: usize = 262_144;
@@ -18,6 +19,11 @@ const BLOCK_BITS: u32 = 8;
 
 /// The largest number of blocks; at least half of them are used. One coefficient of each fits into the cache of a core.
 const BLOCKS: usize = 256;
+
+/// What is where a coefficient is taken out.
+fn no_cell() -> (u32, PackedDecimal) {
+    (0, PackedDecimal::of(Decimal::zero()))
+}
 
 /// Whether blocks save time: the coefficients are many, and not at their places already, as those of most MPS files are.
 fn need_blocks(places: &[u32]) -> bool {
@@ -32,7 +38,7 @@ fn need_blocks(places: &[u32]) -> bool {
     false
 }
 
-/// The coefficients and their places. If they are many, each is in the block of its place, so that later swaps stay in the cache.
+/// The coefficients and their places. If they are many, each is in the block of its place, so that later moves stay in the cache.
 /// The contract allows any order.
 fn in_blocks(
     cells: Vec<(u32, PackedDecimal)>,
@@ -57,28 +63,29 @@ fn in_blocks(
     }
     for block in 0..BLOCKS {
         let end = ((block + 1) << shift).min(count);
-        // Each step brings one coefficient into its block, so there are at most `count` steps in all.
-        for _ in 0..count {
-            let at = heads[block];
-            if at >= end {
-                break;
+        for at in heads[block]..end {
+            let mut place = places[at];
+            let mut held = replace(&mut cells[at], no_cell());
+            // Each step brings one coefficient into its block, so there are at most `count` steps in all.
+            for _ in 0..count {
+                let own = (place as usize >> shift).min(BLOCKS - 1);
+                let head = heads[own];
+                if own == block || head == at || head >= count {
+                    break;
+                }
+                heads[own] = head + 1;
+                held = replace(&mut cells[head], held);
+                place = replace(&mut places[head], place);
             }
-            let own = (places[at] as usize >> shift).min(BLOCKS - 1);
-            let head = heads[own];
-            if head >= count {
-                break;
-            }
-            if head != at {
-                cells.swap(at, head);
-                places.swap(at, head);
-            }
-            heads[own] = head + 1;
+            cells[at] = held;
+            places[at] = place;
         }
     }
     (cells, places)
 }
 
-/// The coefficients, each at its place. They are swapped, because a second vector of all would be the peak of memory.
+/// The coefficients, each at its place. One is held and put at its place, then the one that was there, and so on: a second vector of
+/// all would be the peak of memory.
 pub(crate) fn at_places(
     cells: Vec<(u32, PackedDecimal)>,
     places: Vec<u32>,
@@ -91,10 +98,16 @@ pub(crate) fn at_places(
 {
     let (mut cells, mut places) = in_blocks(cells, places);
     for at in 0..cells.len() {
-        while places[at] as usize != at {
-            let place = places[at] as usize;
-            cells.swap(at, place);
-            places.swap(at, place);
+        let mut place = places[at];
+        if place as usize != at {
+            let mut held = replace(&mut cells[at], no_cell());
+            while place as usize != at {
+                let to = place as usize;
+                held = replace(&mut cells[to], held);
+                place = replace(&mut places[to], place);
+            }
+            cells[at] = held;
+            places[at] = place;
         }
     }
     cells
