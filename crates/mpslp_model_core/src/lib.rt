@@ -2,7 +2,8 @@
 //!
 //! A [`Model`] stores its [`ModelParts`]: rows and columns in byte order of their names, and the coefficients of each column in
 //! the order of their row numbers, those of all columns in one vector. So access by number is an index, and access by name is a
-//! binary search. Limits and numbers are packed ([`PackedLimit`]), because a model has many.
+//! binary search. Numbers are packed, because a model has many; most rows and columns need no box ([`ModelRow`],
+//! [`ModelBounds`]).
 //!
 //! What is declared of a row or a column ([`UnpackedRowDefinition`], [`DeclaredColumn`]) is here too, with the limits and
 //! bounds that it means, and with its errors.

@@ -240,7 +240,6 @@ fn packs_sides_rows_and_columns(rt: HostRuntime) {
         upper: side("1e20"),
     };
     assert!(rt; PackedRow::of(limits).limits() == limits);
-    assert!(rt; PackedRow::of(limits) == PackedRow::of(limits));
     let bounds = ColumnBounds {
         kind: Kind::Semi,
         lower: side("0"),
