@@ -14,17 +14,13 @@ ghost use Rattle.mpslp_builder_parts.specs.Parts.{limits_in};
 use crate::order::{in_order, is_in_order, numbers_below, order_of};
 use crate::row_parts::RowParts;
 use mpslp_decimal::Decimal;
-use mpslp_model_core::{ModelRow, RowLimits, UnpackedRowDefinition, limits_of, plain_limits};
+use mpslp_model_core::{ModelRow, RowDefinition, RowLimits, limits_of, plain_limits};
 use mpslp_types::{Name, RowType};
 use std::alloc::{AllocError, Global};
 
 /// The limits of a row; if they are not decimals, those of a row without limits.
 #[inline(always)]
-fn limits_or_none(
-    definition: &UnpackedRowDefinition,
-    rhs: Decimal,
-    range: &Option<Decimal>,
-) -> RowLimits
+fn limits_or_none(definition: &RowDefinition, rhs: Decimal, range: &Option<Decimal>) -> RowLimits
     ensures { result ≡ unwrap_or (limits_of (row_definition definition.now) rhs range.now) (plain_limits types.Free zero_number) }
 {
     match limits_of(definition, rhs, range) {

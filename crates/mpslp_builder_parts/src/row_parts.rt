@@ -8,7 +8,7 @@ ghost use Rattle.mpslp_builder_parts.specs.Parts.{rhs_of, range_of, new_row};
 ghost use Rattle.mpslp_builder_parts.specs.RowForm.{limit_of_side};
 
 use mpslp_decimal::{Decimal, PackedDecimal};
-use mpslp_model_core::UnpackedRowDefinition;
+use mpslp_model_core::RowDefinition;
 use mpslp_types::{Limit, RowType};
 use std::marker::Model;
 
@@ -105,12 +105,12 @@ impl RowParts {
 
     /// The declaration of the row.
     #[inline(always)]
-    pub fn definition(&self) -> UnpackedRowDefinition
+    pub fn definition(&self) -> RowDefinition
         ensures { row_definition result ≡ self.now.definition }
     {
         match self.form {
-            RowForm::ByType(row_type, _, _) => UnpackedRowDefinition::ByType(row_type),
-            RowForm::ByLimits(lower, upper) => UnpackedRowDefinition::ByLimits(
+            RowForm::ByType(row_type, _, _) => RowDefinition::ByType(row_type),
+            RowForm::ByLimits(lower, upper) => RowDefinition::ByLimits(
                 limit_of(lower, &self.first),
                 limit_of(upper, &self.second),
             ),

@@ -2,10 +2,11 @@
 //!
 //! A [`Model`] stores its [`ModelParts`]: rows and columns in byte order of their names, and the coefficients of each column in
 //! the order of their row numbers, those of all columns in one vector. So access by number is an index, and access by name is a
-//! binary search. Limits and numbers are packed ([`PackedLimit`]), because a model has many.
+//! binary search. Numbers are packed, because a model has many; most rows and columns need no box ([`ModelRow`],
+//! [`ModelBounds`]).
 //!
-//! What is declared of a row or a column ([`UnpackedRowDefinition`], [`DeclaredColumn`]) is here too, with the limits and
-//! bounds that it means, and with its errors.
+//! What is declared of a row or a column ([`RowDefinition`], [`DeclaredColumn`]) is here too, with the limits and bounds that it
+//! means, and with its errors.
 #![tactic(auto)]
 
 mod bounds;
@@ -26,8 +27,7 @@ mod sides;
 pub use bounds::{ColumnFault, DeclaredColumn, kind_of_column_fault};
 pub use iterators::{ColumnEntries, Columns, Rows};
 pub use limits::{
-    RowFault, UnpackedRowDefinition, is_faulty_row, kind_of_row_fault, limits_of, plain_limits,
-    row_has,
+    RowDefinition, RowFault, is_faulty_row, kind_of_row_fault, limits_of, plain_limits, row_has,
 };
 pub use model::{Model, ModelParts};
 pub use model_columns::{ColumnSpan, ModelColumns};

@@ -14,9 +14,9 @@ use crate::sides::{RowLimits, is_same_number};
 use mpslp_decimal::Decimal;
 use mpslp_types::{FaultKind, Limit, RowType};
 
-/// The declaration of a row. Contracts see it as a `RowDefinition`.
+/// The declaration of a row. Contracts speak of its `row_definition`.
 #[derive(Clone, Copy, Debug)]
-pub enum UnpackedRowDefinition {
+pub enum RowDefinition {
     /// Its type.
     ByType(RowType),
     /// Its lower and its upper limit.
@@ -100,18 +100,16 @@ fn ranged_limits(row_type: RowType, rhs: Decimal, range: Decimal) -> Option<RowL
 /// The limits of a row, if they are decimals.
 #[inline(always)]
 pub fn limits_of(
-    definition: &UnpackedRowDefinition,
+    definition: &RowDefinition,
     rhs: Decimal,
     range: &Option<Decimal>,
 ) -> Option<RowLimits>
     ensures { result ≡ limits_of (row_definition definition.now) rhs range.now }
 {
     match (definition, range) {
-        (UnpackedRowDefinition::ByType(row_type), None) => Some(plain_limits(*row_type, rhs)),
-        (UnpackedRowDefinition::ByType(row_type), Some(range)) => ranged_limits(
-            *row_type, rhs, *range,
-        ),
-        (UnpackedRowDefinition::ByLimits(lower, upper), _) => Some(RowLimits {
+        (RowDefinition::ByType(row_type), None) => Some(plain_limits(*row_type, rhs)),
+        (RowDefinition::ByType(row_type), Some(range)) => ranged_limits(*row_type, rhs, *range),
+        (RowDefinition::ByLimits(lower, upper), _) => Some(RowLimits {
             lower: *lower,
             upper: *upper,
         }),
@@ -121,23 +119,18 @@ pub fn limits_of(
 /// Whether the right-hand side is infinite in a row that cannot have it: plus infinity on G, minus infinity on L, either on E
 /// or with a range.
 #[inline(always)]
-fn has_infinite_rhs(
-    definition: &UnpackedRowDefinition,
-    rhs: Decimal,
-    range: &Option<Decimal>,
-) -> bool
+fn has_infinite_rhs(definition: &RowDefinition, rhs: Decimal, range: &Option<Decimal>) -> bool
     ensures { result ≡ has_infinite_rhs (row_definition definition.now) rhs range.now }
 {
     match definition {
-        UnpackedRowDefinition::ByType(RowType::AtMost) => {
+        RowDefinition::ByType(RowType::AtMost) => {
             (range.is_some() || rhs.is_negative()) && rhs.is_infinite_size()
         }
-        UnpackedRowDefinition::ByType(RowType::AtLeast) => {
+        RowDefinition::ByType(RowType::AtLeast) => {
             (range.is_some() || !rhs.is_negative()) && rhs.is_infinite_size()
         }
-        UnpackedRowDefinition::ByType(RowType::Equal) => rhs.is_infinite_size(),
-        UnpackedRowDefinition::ByType(RowType::Free) | UnpackedRowDefinition::ByLimits(_, _) =>
-            false,
+        RowDefinition::ByType(RowType::Equal) => rhs.is_infinite_size(),
+        RowDefinition::ByType(RowType::Free) | RowDefinition::ByLimits(_, _) => false,
     }
 }
 
@@ -222,11 +215,11 @@ fn is_crossed(limits: &Option<RowLimits>) -> bool
 
 /// Whether the row is declared by its type, and has no range.
 #[inline(always)]
-fn is_plain(definition: &UnpackedRowDefinition, range: &Option<Decimal>) -> bool
+fn is_plain(definition: &RowDefinition, range: &Option<Decimal>) -> bool
     ensures { result ≡ is_plain (row_definition definition.now) range.now }
 {
     match (definition, range) {
-        (UnpackedRowDefinition::ByType(_), None) => true,
+        (RowDefinition::ByType(_), None) => true,
         _ => false,
     }
 }
@@ -262,12 +255,12 @@ fn limit_of_limits(lower: &Limit, upper: &Limit) -> Option<Limit>
 
 /// The limit that decides whether a row by its limits is faulty, if one of them does.
 #[inline(always)]
-fn only_limit(definition: &UnpackedRowDefinition) -> Option<Limit>
+fn only_limit(definition: &RowDefinition) -> Option<Limit>
     ensures { IfSome result (λ limit. (b : Number) (r : Option Number) → is_large_limit limit ≡ is_faulty_row (row_definition definition.now) b r) }
 {
     match definition {
-        UnpackedRowDefinition::ByLimits(lower, upper) => limit_of_limits(lower, upper),
-        UnpackedRowDefinition::ByType(_) => None,
+        RowDefinition::ByLimits(lower, upper) => limit_of_limits(lower, upper),
+        RowDefinition::ByType(_) => None,
     }
 }
 
@@ -275,11 +268,7 @@ fn only_limit(definition: &UnpackedRowDefinition) -> Option<Limit>
 /// all where only one number may be wrong: for a row by its type without a range, or by its limits with an infinite one or two equal
 /// ones.
 #[inline(always)]
-pub fn is_faulty_row(
-    definition: &UnpackedRowDefinition,
-    rhs: Decimal,
-    range: &Option<Decimal>,
-) -> bool
+pub fn is_faulty_row(definition: &RowDefinition, rhs: Decimal, range: &Option<Decimal>) -> bool
     ensures { result ≡ is_faulty_row (row_definition definition.now) rhs range.now }
 {
     if is_plain(definition, range) {
@@ -296,7 +285,7 @@ pub fn is_faulty_row(
 /// Whether a row with this definition, right-hand side and range has this error.
 pub fn row_has(
     fault: RowFault,
-    definition: &UnpackedRowDefinition,
+    definition: &RowDefinition,
     rhs: Decimal,
     range: &Option<Decimal>,
 ) -> bool

@@ -1,4 +1,5 @@
-//! Limits, rows and columns in packed form, of which a model stores many. A limit takes 24 bytes.
+//! Limits in packed form, and those of the rows and columns that `ModelRow` and `ModelBounds` keep in a box. A limit takes 24
+//! bytes.
 
 ghost use Rattle.std.specs.Prelude.{◌≡◌};
 
@@ -134,18 +135,5 @@ impl PackedColumn {
             lower: self.lower.limit(),
             upper: self.upper.limit(),
         }
-    }
-}
-
-impl PartialEq for PackedRow {
-    ghost use Rattle.mpslp_model_core.specs.Same.{same_row};
-    ghost use Rattle.mpslp_model_core.specs.SameLaws.{lawful, decides-row};
-
-    ghost eq = { same_row };
-
-    ghost laws = { lawful same_row decides-row };
-
-    fn eq(&self, other: &PackedRow) -> bool {
-        self.limits() == other.limits()
     }
 }

@@ -3,16 +3,16 @@
 use crate::texts::{number, row_type, side, side_if_given};
 use mpslp_decimal::Decimal;
 use mpslp_model_core::{
-    ColumnBounds, ColumnFault, DeclaredColumn, PackedColumn, PackedLimit, PackedRow, RowFault,
-    RowLimits, UnpackedRowDefinition, is_faulty_row, kind_of_column_fault, kind_of_row_fault,
-    limits_of, plain_limits, row_has,
+    ColumnBounds, ColumnFault, DeclaredColumn, PackedColumn, PackedLimit, PackedRow, RowDefinition,
+    RowFault, RowLimits, is_faulty_row, kind_of_column_fault, kind_of_row_fault, limits_of,
+    plain_limits, row_has,
 };
 use mpslp_types::{Kind, Limit, RowType};
 
 /// A row: its type or its limits, its right-hand side and its range, if it has one.
 #[derive(Clone, Copy)]
 struct Row {
-    definition: UnpackedRowDefinition,
+    definition: RowDefinition,
     rhs: Decimal,
     range: Option<Decimal>,
 }
@@ -27,7 +27,7 @@ fn row_of(text: &str) -> Row {
         Some(range) => Some(number(range)),
     };
     Row {
-        definition: UnpackedRowDefinition::ByType(row_type),
+        definition: RowDefinition::ByType(row_type),
         rhs,
         range,
     }
@@ -70,7 +70,7 @@ fn limits_rows_by_their_type(rt: HostRuntime) {
 
 #[test]
 fn limits_a_row_by_both_limits(rt: HostRuntime) {
-    let definition = UnpackedRowDefinition::ByLimits(side("-1"), side("1e20"));
+    let definition = RowDefinition::ByLimits(side("-1"), side("1e20"));
     let limits = limits_of(&definition, number("9"), &None).unwrap_or(plain_limits(
         RowType::Equal,
         number("9"),
@@ -120,7 +120,7 @@ fn reports_what_is_wrong_with_a_row(rt: HostRuntime) {
         assert!(rt; row_has_its_fault(line), "at {line}");
     }
     let crossed = Row {
-        definition: UnpackedRowDefinition::ByLimits(side("2"), side("1")),
+        definition: RowDefinition::ByLimits(side("2"), side("1")),
         rhs: Decimal::zero(),
         range: None,
     };
@@ -240,7 +240,6 @@ fn packs_sides_rows_and_columns(rt: HostRuntime) {
         upper: side("1e20"),
     };
     assert!(rt; PackedRow::of(limits).limits() == limits);
-    assert!(rt; PackedRow::of(limits) == PackedRow::of(limits));
     let bounds = ColumnBounds {
         kind: Kind::Semi,
         lower: side("0"),
