@@ -234,7 +234,7 @@ impl Builder {
         ensures { AnswersToAll (bounds_refusals self.old column.now lower upper) self.old (bounds_declared column.now lower upper) result self.new }
     {
         let number = self.tables.bounds_target(column, &lower, &upper)?;
-        self.tables.put_bounds(self.alloc, number, lower, upper)?;
+        self.tables.put_bounds(number, lower, upper)?;
         Ok(())
     }
 

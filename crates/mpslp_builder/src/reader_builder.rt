@@ -15,8 +15,8 @@ use mpslp_builder_parts::Inserted;
 use mpslp_decimal::Decimal;
 use mpslp_types::{BuildFault, Name};
 
-/// A [`Builder`] that a reader fills. Each of its calls does what several calls of the builder do, and looks each name up only
-/// once: [`next_line`](Self::next_line) and [`first_line`](Self::first_line) for a line of COLUMNS,
+/// A [`Builder`] that a reader fills. Each of its calls does what several calls of the builder do, and looks each row up only once:
+/// [`next_line`](Self::next_line) and [`first_line`](Self::first_line) for a line of COLUMNS, which look the column up only once too,
 /// [`row_term`](Self::row_term) and [`row_terms`](Self::row_terms) for the terms of a row of LP.
 ///
 /// After an error of such a call the draft may have a first part of its declarations. A reader drops the draft then: it returns

@@ -258,7 +258,6 @@ impl ColumnTable {
     /// [`AllocError`] if there is no memory for its first bound. Then nothing changes.
     pub fn put_bounds(
         &mut self,
-        alloc: Global,
         column: usize,
         lower: Option<Limit>,
         upper: Option<Limit>,
@@ -267,6 +266,7 @@ impl ColumnTable {
         ensures ok { OnOk result (IsChanged column (with_bounds lower upper) self.old self.new) }
         ensures err { OnErr result (self.new.entries ≡ self.old.entries) }
     {
+        let alloc = self.alloc;
         let (_name, stored) = self.columns.pair_mut(column);
         stored.definition.sides.put(alloc, lower, upper)
     }
@@ -333,7 +333,6 @@ impl ColumnTable {
     /// [`AllocError`] if an allocation fails.
     pub fn into_columns(
         self,
-        alloc: Global,
         ranks: &[u32],
     ) -> Result<(Vec<(Name, ColumnSpan)>, Vec<(u32, PackedDecimal)>), AllocError>
         requires within { All (λ column. All (λ cell. cell.0 < length ranks.now) column.1.cells) self.entries }
@@ -343,7 +342,7 @@ impl ColumnTable {
         ensures places { IfOk result (λ made. All (λ column. IsWithin (length made.1.items) column.1) made.0.items) }
     {
         let ColumnTable {
-            alloc: _,
+            alloc,
             columns,
             log,
             known,

@@ -21,7 +21,7 @@ pub use column_table::{ColumnTable, Inserted};
 pub use declared_bounds::DeclaredBounds;
 pub use known_pairs::StoredColumn;
 pub use model_rows_and_columns::{ordered, row_of};
-pub use order::{in_order, order_of};
+pub use order::order_of;
 pub use parts::{ColumnDefinition, ObjectiveParts};
 pub use ranks::ranks_of;
 pub use row_parts::RowParts;

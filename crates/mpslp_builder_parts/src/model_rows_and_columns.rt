@@ -41,7 +41,7 @@ fn limits_in(row: &RowParts) -> RowLimits
 ///
 /// # Errors
 ///
-/// [`AllocError`] if there is no memory for two different limits.
+/// [`AllocError`] if there is no memory for two different finite limits.
 pub fn row_of(alloc: Global, row: &RowParts) -> Result<ModelRow, AllocError>
     ensures { IfOk result (λ made. made ≡ limits_in row.now) }
 {

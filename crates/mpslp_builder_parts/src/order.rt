@@ -194,13 +194,12 @@ pub(crate) fn numbers_below(alloc: Global, count: usize) -> Result<Vec<usize>, A
 /// Returns the items of these numbers, in this order; the others are dropped. No item is copied, and each number may occur at
 /// most once.
 ///
-/// Items are swapped in place, because a second vector of all items would be the peak of memory. An item that is already at its
-/// place is not touched.
+/// Items are swapped in place, because a second vector of all items would be the peak of memory.
 ///
 /// # Errors
 ///
 /// [`AllocError`] if there is no memory for two numbers for each item. The items are then dropped.
-pub fn in_order<T: Drop>(
+pub(crate) fn in_order<T: Drop>(
     alloc: Global,
     items: Vec<T>,
     order: &[usize],

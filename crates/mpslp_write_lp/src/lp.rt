@@ -39,7 +39,8 @@ fn put_lines<W: Sink>(model: &Model, output: &mut Output<W>)
 /// Writes the canonical LP text of a model to a sink, in at most as many calls as it has bytes, and does not flush. The text
 /// is collected in a buffer of 65,536 bytes between calls. Does not allocate.
 ///
-/// The coefficients of a row are those that the model lists, and each is read where the list says.
+/// Call [`Model::with_row_lists`] first: then the time is proportional to the text. Without these lists the coefficients of each row
+/// are looked for in all columns.
 ///
 /// # Errors
 ///

@@ -23,6 +23,7 @@ use mpslp_model_core::{
 };
 use mpslp_types::{Fault, FaultKind, Name, ReadFault, Sense};
 use std::alloc::{AllocError, Global};
+use std::mem::drop;
 
 /// The rows of a model with their names, in the order in which they were declared.
 ///
@@ -98,8 +99,11 @@ pub(crate) fn into_model(
     drop_hints(hints);
     let (row_order, rows) = ordered(alloc, rows_in(alloc, rows)?)?;
     let ranks = ranks_of(alloc, &row_order)?;
-    let (spans, cells) = columns.into_columns(alloc, &ranks)?;
-    let (_column_order, spans) = ordered(alloc, spans)?;
+    drop(row_order);
+    let (spans, cells) = columns.into_columns(&ranks)?;
+    drop(ranks);
+    let (column_order, spans) = ordered(alloc, spans)?;
+    drop(column_order);
     let columns = ModelColumns::of(spans, cells);
     Model::of_parts(alloc, parts_of(sense, constant, objective, rows, columns))
 }

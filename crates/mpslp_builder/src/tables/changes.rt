@@ -13,7 +13,7 @@ use crate::tables::{RowRef, Tables};
 use mpslp_builder_parts::{ObjectiveParts, RowParts};
 use mpslp_decimal::{Decimal, PackedDecimal};
 use mpslp_types::{BuildFault, Limit, Name};
-use std::alloc::{AllocError, Global};
+use std::alloc::AllocError;
 
 /// The maximum number of rows: they and the objective have numbers of 32 bits.
 const MOST_ROWS: usize = 4_294_967_294;
@@ -163,7 +163,6 @@ impl Tables {
     /// Stores the given bounds of a column.
     pub(crate) fn put_bounds(
         &mut self,
-        alloc: Global,
         column: usize,
         lower: Option<Limit>,
         upper: Option<Limit>,
@@ -173,6 +172,6 @@ impl Tables {
         ensures err { OnErr result (IsSameTables self.old self.new) }
     {
         self.recent = column;
-        self.columns.put_bounds(alloc, column, lower, upper)
+        self.columns.put_bounds(column, lower, upper)
     }
 }

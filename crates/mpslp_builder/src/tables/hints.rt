@@ -15,8 +15,9 @@ const LOW: u64 = 0xFFFF_FFFF;
 /// The number of pairs of the first table.
 const FIRST: usize = 16;
 
-/// Hints of the numbers of names. Names whose hashes begin with the same bits share a pair of hints. The other bits of the hash are
-/// stored in the hint, above the number, so that the hint of another name is recognized without a look at its name.
+/// Hints of the numbers of names. Only the lower 32 bits of a hash are used. Names for which these begin with the same bits share a
+/// pair of hints. Their other bits are stored in the hint, above the number, so that the hint of another name is recognized without a
+/// look at its name.
 #[derive(Debug, Drop)]
 pub(crate) struct Hints {
     alloc: Global,
@@ -66,7 +67,7 @@ impl Hints {
         }
     }
 
-    /// The index of the pair of a name, and what is stored of its hash. The first bits of the hash are the index.
+    /// The index of the pair of a name, and what is stored of its hash. The first of the lower 32 bits of the hash are the index.
     fn split(&self, hash: u64) -> (usize, u32) {
         let product = (hash & LOW).wrapping_mul(self.pairs.len() as u64);
         ((product >> 32) as usize, (product & LOW) as u32)

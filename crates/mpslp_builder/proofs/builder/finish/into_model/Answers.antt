@@ -26,14 +26,14 @@ finished : (c : After-parts_of) → AreOrdered c.args.tables.rows.entries c.in_o
 finished c ordered ranks =
     let order = c.in_ok-row_order.row_order.items in
     let columns = c.args.tables.columns.entries in
-    let column_order = c.in_ok-_column_order._column_order.items in
+    let column_order = c.in_ok-column_order.column_order.items in
     let made_rows = c.in_ok-rows_in.field-0.items in
     let made = c.in_ok-spans.spans.items in
     let cells = c.in_ok-spans.cells.items in
-    let named = c.parts_of.ensures.columns ∙ c.of-columns.ensures ∙ ap (λ es. columns_of es cells) c.in_ok-_column_order.ensures.taken in
+    let named = c.parts_of.ensures.columns ∙ c.of-columns.ensures ∙ ap (λ es. columns_of es cells) c.in_ok-column_order.ensures.taken in
     let ordered_spans = entries_at made column_order in
     let in_columns : AreOrdered columns column_order (entries_at columns column_order) = ordered_alike span_bounds bounds_of made columns
-    column_order c.in_ok-spans.ensures.bounds c.in_ok-_column_order.ensures.permutation c.in_ok-_column_order.ensures.sorted in
+    column_order c.in_ok-spans.ensures.bounds c.in_ok-column_order.ensures.permutation c.in_ok-column_order.ensures.sorted in
     record {
       row_order = order;
       column_order = column_order;
@@ -87,9 +87,9 @@ into_columns-requires-clause-apart c = let at = goal.at.into_columns-requires-cl
     (in_rows at.After-deref).permuted (ranked at.After-deref-2))
 
 pub of-columns-requires : goal.of-columns-requires
-of-columns-requires c = subst (All (λ column. IsWithin (length c.in_ok-spans.cells.items) column.1)) (sym c.in_ok-_column_order.ensures.taken)
+of-columns-requires c = subst (All (λ column. IsWithin (length c.in_ok-spans.cells.items) column.1)) (sym c.in_ok-column_order.ensures.taken)
     (taken-all (λ column. IsWithin (length c.in_ok-spans.cells.items) column.1) c.in_ok-spans.spans.items
-    c.in_ok-_column_order._column_order.items c.in_ok-spans.ensures.places)
+    c.in_ok-column_order.column_order.items c.in_ok-spans.ensures.places)
 
 pub of_parts-requires : goal.of_parts-requires
 of_parts-requires c = let at = goal.at.of_parts-requires c in
