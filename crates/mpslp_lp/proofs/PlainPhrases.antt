@@ -418,15 +418,6 @@ pub only-term : (name column : List ℕ) (value : Decimal) (result : Result Part
     column value result → MatchResult result (λ row. row ≡ row_of_term name column value) (λ error. error ≡ OutOfMemory)
 only-term = grind arith
 
--- the state and the context after the grammar has named a row that begins with a sign
-abbrev pub name_of : AfterToken → List ℕ
-name_of (Goes after (RowSign name sign)) = name
-name_of _ = []
-
-abbrev pub context_of : Context → AfterToken → Context
-context_of default (Goes after next) = after
-context_of default (Refuses kind) = default
-
 -- a row, and the context that is unchanged
 pub row-and-context : (context after : Context) (row : PartialRow) (result : Result PartialRow LineError)
     → after ≡ context → MatchResult result (λ made. made ≡ row) (λ error. error ≡ OutOfMemory)

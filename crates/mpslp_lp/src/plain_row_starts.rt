@@ -21,7 +21,7 @@ use crate::plain_tokens::{RightSide, next_name, next_terminal, right_side_after,
 use mpslp_decimal::Decimal;
 use mpslp_lines::LineError;
 use mpslp_lp_grammar::{
-    Context, PartialRow, Place, Sign, State, TerminalKind, TerminalToken, row_without_terms, take,
+    Context, PartialRow, Place, Sign, State, TerminalKind, TerminalToken, row_without_terms,
 };
 use mpslp_lp_tokens::Tokens;
 use mpslp_model::Name;
@@ -108,20 +108,6 @@ fn next_term<'a>(tokens: &mut Tokens<'a>) -> Option<FirstTerm<'a>>
     }
 }
 
-/// The name of the next row if it has no label. The grammar gives it to a row that begins with a sign.
-fn default_name(context: &mut Context) -> Result<Name, LineError>
-    ensures { MatchResult result (λ name. (name ≡ default_row context.old) × (context.new ≡ context.old)) (λ error. error ≡ LineError.OutOfMemory) }
-{
-    let sign = TerminalToken {
-        kind: TerminalKind::Sign(Sign::Plus),
-        text: b"+".as_slice(),
-    };
-    match take(context, State::Between(Place::BetweenRows), &sign) {
-        Ok(State::RowSign(name, _sign)) => Ok(name),
-        _ => Err(LineError::OutOfMemory),
-    }
-}
-
 /// A row with this name, and this term only.
 fn row_of_term(
     context: &mut Context,
@@ -143,7 +129,7 @@ fn row_of_column(context: &mut Context, column: &[u8]) -> Result<PartialRow, Lin
     ensures { MatchResult result (λ row. (row ≡ row_of_term (default_row context.old) column.now one) × (context.new ≡ context.old))
         (λ error. error ≡ LineError.OutOfMemory) }
 {
-    let name = default_name(context)?;
+    let name = context.next_row()?;
     row_of_term(context, name, column, Decimal::one())
 }
 
@@ -220,7 +206,7 @@ fn take_unlabelled_term<'a>(
     let Some(term) = term_from(first, &mut left) else {
         return Ok(tokens);
     };
-    let name = default_name(context)?;
+    let name = context.next_row()?;
     take_first_term(context, state, name, term, left)
 }
 

@@ -41,7 +41,8 @@ pub(crate) fn set_state(state: &mut State, next: State)
     *state = next;
 }
 
-/// Puts a state back that turned out to be another one than expected, which never happens where a reader calls this.
+/// Puts back a state that was taken out and does not change: the relation does not fit the left-hand side of the row, or, which
+/// never happens where a reader calls this, the state is another one than expected.
 #[inline(never)]
 pub(crate) fn restore_state(state: &mut State, other: State)
     ensures { state.new ≡ other }

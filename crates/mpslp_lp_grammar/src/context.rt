@@ -4,6 +4,7 @@ ghost use Rattle.std.specs.Prelude.{◌≡◌, MatchResult};
 ghost use Rattle.mpslp_types.specs.Name.{IsMpsName};
 ghost use Rattle.mpslp_lines.specs.declared.errors.LineError.{LineError};
 ghost use Rattle.mpslp_lp_grammar.specs.Phrase.{start};
+ghost use Rattle.mpslp_lp_grammar.specs.Rows.{default_row};
 
 use crate::lp_builder::LpBuilder;
 use crate::sections_seen::SectionsSeen;
@@ -49,6 +50,17 @@ impl Context {
         ensures { MatchResult result (λ copy. copy ≡ name.now) (λ error. error ≡ LineError.OutOfMemory) }
     {
         self.builder.copied(name)
+    }
+
+    /// The name of the next row if it has no label: `c` and its position among all rows.
+    ///
+    /// # Errors
+    ///
+    /// `OutOfMemory` if an allocation fails.
+    pub fn next_row(&self) -> Result<Name, LineError>
+        ensures { MatchResult result (λ name. name ≡ default_row self.now) (λ error. error ≡ LineError.OutOfMemory) }
+    {
+        self.builder.next_row()
     }
 
     /// The builder that all was declared to.

@@ -1,8 +1,6 @@
 //! Items of the objective and of rows, token by token.
 
-ghost use Rattle.std.specs.Prelude.{◌≡◌};
 ghost use Rattle.mpslp_types.specs.Name.{IsMpsName};
-ghost use Rattle.mpslp_lp_grammar.specs.Items.{one};
 ghost use Rattle.mpslp_lp_grammar.specs.TerminalToken.{HasLegalName, terminal_of_token};
 ghost use Rattle.mpslp_lp_grammar.specs.Declares.{TakesToken, answer_at};
 ghost use Rattle.mpslp_lp_grammar.specs.Terminal.{Terminal};
@@ -18,16 +16,6 @@ use crate::terminals::{TerminalKind, TerminalToken};
 use mpslp_decimal::Decimal;
 use mpslp_lines::LineError;
 use mpslp_model::{FaultKind, Name};
-
-/// The coefficient of a term without a number.
-pub(crate) fn one() -> Decimal
-    ensures { result ≡ one }
-{
-    match Decimal::parse(b"1") {
-        Ok(one) => one,
-        Err(_) => Decimal::zero(),
-    }
-}
 
 /// Declares a term of the objective with this name, and its column if that is new.
 ///
@@ -108,7 +96,7 @@ pub(crate) fn take_after_signs(
 {
     match token.kind {
         TerminalKind::Sign(more) => Ok(State::Signs(owner, sign.times(more))),
-        TerminalKind::Name => take_term(context, owner, token.text, sign.of(one())),
+        TerminalKind::Name => take_term(context, owner, token.text, sign.of(Decimal::one())),
         TerminalKind::Number(value) => Ok(State::ItemNumber(owner, sign, value)),
         _ => refuse(context, token, FaultKind::BadToken),
     }
@@ -125,7 +113,7 @@ pub(crate) fn begin_item(
 {
     match token.kind {
         TerminalKind::Sign(sign) => Ok(State::Signs(owner, sign)),
-        TerminalKind::Name => take_term(context, owner, token.text, one()),
+        TerminalKind::Name => take_term(context, owner, token.text, Decimal::one()),
         TerminalKind::Number(value) => Ok(State::ItemNumber(owner, Sign::Plus, value)),
         _ => refuse(context, token, FaultKind::BadToken),
     }

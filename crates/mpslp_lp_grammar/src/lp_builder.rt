@@ -14,7 +14,6 @@ ghost use Rattle.mpslp_lp_grammar.specs.Declares.{Declares, DeclaresBounds, Decl
 ghost use Rattle.mpslp_lp_grammar.specs.FirstToken.{kind_declared};
 
 use crate::given_limit::GivenLimit;
-use crate::items::one;
 use crate::relations::Relation;
 use crate::states::{ListSection, PartialParts, PartialRow};
 use itoa::Buffer;
@@ -403,6 +402,6 @@ impl LpBuilder {
     {
         let name = self.default_objective()?;
         self.declare_objective(sense, name)?;
-        self.declare_term(b"obj".as_slice(), column, one())
+        self.declare_term(b"obj".as_slice(), column, Decimal::one())
     }
 }

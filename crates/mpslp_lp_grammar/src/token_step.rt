@@ -13,7 +13,7 @@ use crate::bounds::{take_bound_column, take_free, take_side_value};
 use crate::context::Context;
 use crate::first_token::{begin, begin_phrase_after};
 use crate::given_limit::GivenLimit;
-use crate::items::{begin_item, one, take_after_signs, take_term};
+use crate::items::{begin_item, take_after_signs, take_term};
 use crate::relations::Relation;
 use crate::rows::begin_row;
 use crate::sides::limit_of_terminal;
@@ -191,7 +191,7 @@ fn take_after_row_name(
             let label = context.builder.next_row()?;
             let empty = context.builder.row_without_terms(label, None)?;
             each_name_is_legal(&name);
-            let row = empty.with_term(context, name.as_bytes(), one())?;
+            let row = empty.with_term(context, name.as_bytes(), Decimal::one())?;
             begin(context, Place::InRow(row), token)
         }
         _ => refuse(context, token, FaultKind::BadToken),
