@@ -116,10 +116,6 @@ pub linked : (log : LogEntries) → IsLog log → (stored : List ℕ) → stored
 linked log is stored same place link read some within = let len = is.len in
     get_or_read log.earlier (place - 1) link (omega (arith, some, within, len)) (read ∙ ap (λ (xs : List ℕ). get_or xs (place - 1) link) same) 0
 
-pub link_within : (log : LogEntries) → IsLog log → (place link : ℕ) → link ≡ slice_index log.earlier (place - 1) → 0 < place → place ≤ length log.cells
-    → link < place
-link_within log is place link at some within = let below = is.below (place - 1) in omega (arith, at, below, some)
-
 -- what is found in a chain: its first coefficient, or what is found among the others
 pub found_first : (row : ℕ) (cell : ℕ × Number) (rest all : List (ℕ × Number)) → all ≡ cell ∷ rest
     → is_some (find nat_cmp row all) ≡ (eq_by_cmp nat_cmp row cell.0 || is_some (find nat_cmp row rest))

@@ -1,4 +1,4 @@
--- Items that are swapped until each is at its place.
+-- Items that are moved until each is at its place. A move is a swap if the item that is held counts as put back.
 use Rattle.std.proofs.Common.{◌≡◌, ◌≢◌, refl, sym, ap, subst, ◌∙◌, ℕ, zero, suc, ◌+◌, ◌≤◌, ◌<◌, List, length, arith, get_or, set, cond, ◌⊎◌, inl, inr}
 use Rattle.std.specs.Ordering.{nat_cmp, eq_by_cmp}
 use Rattle.std.proofs.lemmas.Bool.{cases_order}
@@ -63,7 +63,7 @@ abbrev pub Mirrors : {X : Type 0} → List X → List X → ℕ → ℕ → Type
 Mirrors {X} items new one other = (i : ℕ) (d : X) → get_or new i d ≡ get_or items (mirror one other i) d
 
 -- an item is held, whose index counts as its place: it is put at another index, and the item that was there is held
-pub exchanged : {X : Type 0} (items : List X) (at to : ℕ) (held put other : X) → at < length items → to < length items → (to ≡ at → ⊥)
+exchanged : {X : Type 0} (items : List X) (at to : ℕ) (held put other : X) → at < length items → to < length items → (to ≡ at → ⊥)
     → put ≡ held → ((d : X) → other ≡ get_or items to d) → Mirrors (set items at held) (set (set items to put) at other) at to
 exchanged items at to held put other at_in to_in moves same was i d =
     grind (arith, same, was d, get_or-set_same, get_or-set_other, length-set, mirror_one, mirror_other, mirror_else)
@@ -92,7 +92,7 @@ none_swapped all wanted len within apart = record {
     by i j first second same (inr (inr after)) = absurd (apart j i after (omega (arith, first, len)) (sym same))
 
 -- two items are swapped that may be away from their places
-pub after_swap : {X : Type 0} (all : List X) (wanted : List ℕ) (done : ℕ) (items : List X) (places : List ℕ) → AreSwapped all wanted done items places
+after_swap : {X : Type 0} (all : List X) (wanted : List ℕ) (done : ℕ) (items : List X) (places : List ℕ) → AreSwapped all wanted done items places
     → (one other : ℕ) → one < length all → other < length all → done ≤ one → done ≤ other
     → (new : List X) (later : List ℕ) → length new ≡ length items → length later ≡ length places
     → Mirrors items new one other → Mirrors places later one other → AreSwapped all wanted done new later
@@ -125,7 +125,7 @@ after_swap {X} all wanted done items places before one other one_in other_in one
     was : (i : ℕ) → get_or later i 0 ≡ place (from i)
     was i = replaced i 0
 
--- an item that was away is swapped to its place
+-- an item that was away comes to its place
 pub fewer_away : (places later : List ℕ) (at to len : ℕ) → to < len → to ≡ get_or places at 0 → (to ≡ at → ⊥)
     → ((get_or places to 0 ≡ to) → ⊥) → Mirrors places later at to → count_away len later < count_away len places
 fewer_away places later at to len below to_is moves was_away replaced =

@@ -1,14 +1,13 @@
 -- The columns of a table, after one more coefficient.
-use Rattle.std.proofs.Common.{◌≡◌, refl, sym, ap, subst, ◌∙◌, ℕ, zero, suc, ◌≤◌, ◌<◌, List, [], ◌∷◌, ◌++◌, length, arith, Bool, false, ◌≢◌, slice_index, inl, inr}
+use Rattle.std.proofs.Common.{◌≡◌, refl, sym, ap, subst, ◌∙◌, ℕ, zero, suc, ◌≤◌, ◌<◌, List, [], ◌∷◌, ◌++◌, length, arith, false, ◌≢◌, slice_index, inl, inr}
 use Rattle.std.specs.{Option.{IfSome, option_map, option_map_or}, Ordering.nat_cmp, Prelude.{Option, Some, None, slice_get}, BTreeSet.{BTreeSet}}
-use Rattle.std.specs.{BTreeMap.is_at, List.list_any}
 use Rattle.indexmap.specs.IndexMap.{set_value_at}
 use Rattle.mpslp_decimal.specs.Decimal.{Number}
 use Rattle.std.specs.{List.All}
 use Rattle.mpslp_model_core.specs.{Numbered.{each_part, sorted_of, IsOnceBy}}
 use Rattle.mpslp_model_core.proofs.RenumberLemmas.{all-from_each, each-of_map}
 use Rattle.mpslp_builder_parts.specs.CoefficientLog.{LogEntries, chain, IsLog}
-use Rattle.mpslp_builder_parts.specs.KnownPairs.{AreKnown, in_pairs, pair_key, has_pair, IsPutIfSome, IsSameIfSome, IsOpened}
+use Rattle.mpslp_builder_parts.specs.KnownPairs.{AreKnown, in_pairs, has_pair, IsPutIfSome, IsOpened}
 use Rattle.mpslp_builder_parts.specs.StoredColumns.{parts_of, last_of, last_row_of, HasLast, IsKnown, IsWhole}
 use Rattle.mpslp_builder_parts.specs.declared.known_pairs.{StoredColumn.StoredColumn, KnownPairs.KnownPairs}
 use Rattle.std.specs.{Cmp.nat_cmp_total, FinMap.find, Prelude.is_some}
@@ -63,16 +62,6 @@ parts_kept log earlier cell is [] within = refl
 parts_kept log earlier cell is (e ∷ es) within =
     let same = kept log earlier cell is e.1.last (within zero) in
     λ i. (e.0, record (parts_of log e.1) { cells = sorted_of nat_cmp (same i) }) ∷ parts_kept log earlier cell is es (λ j. within (suc j)) i
-
--- ---- the set of all pairs
-
-pub pairs_same : (old new : Option (BTreeSet ℕ)) (has : ℕ → ℕ → Bool) → IsSameIfSome old new
-    → IfSome old (λ pairs. (i r : ℕ) → r < 4294967296 → in_pairs pairs i r ≡ has i r)
-    → IfSome new (λ pairs. (i r : ℕ) → r < 4294967296 → in_pairs pairs i r ≡ has i r)
-pairs_same None None has same all = all
-pairs_same (Some old) (Some new) has same all = λ i r few. ap (list_any (is_at (nat_cmp (pair_key i r)))) same ∙ all i r few
-pairs_same None (Some new) has same all = absurd same
-pairs_same (Some old) None has same all = absurd same
 
 -- ---- what is found
 

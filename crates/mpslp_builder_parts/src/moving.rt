@@ -20,7 +20,7 @@ const BLOCK_BITS: u32 = 8;
 /// The largest number of blocks; at least half of them are used. One coefficient of each fits into the cache of a core.
 const BLOCKS: usize = 256;
 
-/// What is where a coefficient is taken out.
+/// What is stored where a coefficient was taken out, until one is put there.
 fn no_cell() -> (u32, PackedDecimal) {
     (0, PackedDecimal::of(Decimal::zero()))
 }
@@ -68,6 +68,8 @@ fn in_blocks(
             let mut held = replace(&mut cells[at], no_cell());
             // Each step brings one coefficient into its block, so there are at most `count` steps in all.
             for _ in 0..count {
+                // A block has as many coefficients as indices, so only `own == block` ends the loop. The other tests, and `min`, are
+                // for the proof.
                 let own = (place as usize >> shift).min(BLOCKS - 1);
                 let head = heads[own];
                 if own == block || head == at || head >= count {
