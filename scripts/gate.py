@@ -5,7 +5,7 @@
 mutants, since `rt ci` would check a whole crate for each: scripts/mutants.py checks that the prover rejects them, those of a
 crate as soon as `rt ci` has built what it needs, on processors that `rt ci` leaves idle. The scripts of TESTS test what was built.
 One line is printed for each crate, its mutants and each script; all of their output goes to build/log/. A mutant that cannot be
-applied is found before `rt ci` begins.
+applied, and a file that is not laid out, are found before `rt ci` begins.
 """
 
 import os
@@ -14,7 +14,7 @@ import shutil
 import subprocess
 import sys
 import time
-from collections.abc import Iterator
+from collections.abc import Iterable, Iterator
 from concurrent.futures import FIRST_COMPLETED, Future, ThreadPoolExecutor, wait
 from contextlib import contextmanager, nullcontext
 from dataclasses import dataclass
@@ -23,7 +23,7 @@ from pathlib import Path
 from threading import Lock
 
 from crates import Crate, below, crates_of_repository, mark, sums_of
-from kit import ROOT, require_kit
+from kit import ROOT, kit_folder, require_kit
 from mutants import Outcome, crates_with_mutants, test_crate, unusable_edits
 from prove import LOGS, MEMORY_OF_A_LANE, default_lanes, free_memory
 
@@ -378,13 +378,23 @@ class Gate:
         self.tally += Tally(*map(int, CLOSING.match(closing).groups()))
 
 
+def not_laid_out(crates: Iterable[Crate]) -> list[str]:
+    """What the kit's formatter says of the files that it would change."""
+    files = [file for crate in crates for file in crate.files() if file.suffix in (".rt", ".antt")]
+    words = [f"{kit_folder()}/bin/rattle", "fmt", "--check", *map(str, files)]
+    run = subprocess.run(words, stdout=subprocess.PIPE, stderr=subprocess.STDOUT, text=True, check=False)
+    # Any other status says nothing of the layout.
+    return run.stdout.splitlines() if run.returncode == 1 else []
+
+
 def main() -> int:
     require_kit()
     LOGS.mkdir(parents=True, exist_ok=True)
     report = Report()
-    # These would be found only in an hour, with the mutants of their crate.
-    if unusable := unusable_edits(crates_of_repository()):
-        print(*unusable, f"0 passed, {len(unusable)} failed", sep="\n")
+    crates = crates_of_repository()
+    # These would be found only minutes later, when their crate is proved, or in an hour, with its mutants.
+    if wrong := [*not_laid_out(crates.values()), *unusable_edits(crates)]:
+        print(*wrong, f"0 passed, {len(wrong)} failed", sep="\n")
         return 1
     report.say(f"rt ci proves on {processors()} processors; the prover's output is in {LOGS.relative_to(ROOT)}/")
     tally = Gate(report).run()
