@@ -84,12 +84,17 @@ class Runner:
 
     def __init__(self) -> None:
         self.running: set[subprocess.Popen[bytes]] = set()
+        self.is_stopped = False
         self.lock = threading.Lock()
 
     def run(self, words: list[str], folder: Path, log: Path) -> int:
+        """The command's status. After a stop nothing is started, and the status is that of a command which the stop ended."""
         with log.open("ab") as output:
-            process = subprocess.Popen(words, cwd=folder, stdin=subprocess.DEVNULL, stdout=output, stderr=output, **OWN_GROUP)
+            # It is started under the lock, so that a stop finds it.
             with self.lock:
+                if self.is_stopped:
+                    return -signal.SIGTERM
+                process = subprocess.Popen(words, cwd=folder, stdin=subprocess.DEVNULL, stdout=output, stderr=output, **OWN_GROUP)
                 self.running.add(process)
             try:
                 return process.wait()
@@ -99,6 +104,7 @@ class Runner:
 
     def stop(self) -> None:
         with self.lock:
+            self.is_stopped = True
             for process in self.running:
                 try:
                     os.killpg(process.pid, signal.SIGTERM)

@@ -10,6 +10,7 @@ import signal
 import subprocess
 import sys
 import tempfile
+import threading
 import time
 import unittest
 from pathlib import Path
@@ -19,6 +20,7 @@ ROOT = Path(__file__).resolve().parent.parent
 sys.path.insert(0, str(ROOT / "scripts"))
 
 import gate  # noqa: E402
+import prove  # noqa: E402
 
 KIT_SUM = (ROOT / "kit-sum").read_text().strip()
 
@@ -182,6 +184,31 @@ class Commands(unittest.TestCase):
         after = self.calls()[len(before) :]
         self.assertIn("build mpslp_builder", after)
         self.assertNotIn("build mpslp_types", after)
+
+    def test_nothing_is_started_after_a_stop(self) -> None:
+        runner = prove.Runner()
+        begun = self.folder / "begun"
+        words = ["touch", str(begun)]
+        self.assertEqual(runner.run(words, self.folder, self.folder / "log"), 0)
+        begun.unlink()
+        runner.stop()
+        self.assertNotEqual(runner.run(words, self.folder, self.folder / "log"), 0)
+        self.assertFalse(begun.exists())
+
+    def test_what_is_started_while_others_stop_is_ended_too(self) -> None:
+        for _ in range(20):
+            runner = prove.Runner()
+            statuses: list[int] = []
+            calls = [
+                threading.Thread(target=lambda: statuses.append(runner.run(["sleep", "30"], self.folder, self.folder / "log")))
+                for _ in range(8)
+            ]
+            for call in calls:
+                call.start()
+            runner.stop()
+            for call in calls:
+                call.join(10)
+            self.assertEqual(statuses, [-signal.SIGTERM] * len(calls))
 
     def test_what_is_above_a_crate_that_is_proved_again_is_proved_again_too(self) -> None:
         self.make()
