@@ -1,7 +1,7 @@
 /*
  * The calls of mpslp.h that read or make a model: each takes a seed for the hashes of names from the system, and passes it with its
  * own arguments to the proved call. If the system gives no random bits, the seed is one that everybody can know: no result depends on
- * it, only the time of files that were made for it.
+ * it, only the time of files that were made for it. tests/c/arguments.py checks that each argument arrives at its place.
  */
 #define _DEFAULT_SOURCE
 #include <mpslp.h>

@@ -1,7 +1,7 @@
 //! The inputs of a job: files, standard input, and stand-ins for missing ones.
 
+use mpslp_convert::{Job, JobFault, perform_seeded};
 use mpslp_model::{FromRead, HashSeed, Sink, Source};
-use mpslp_run_jobs::{Job, JobFault, perform};
 use std::io::{Error, ErrorKind, Read};
 use std::rt::Files;
 use std::{fs, io};
@@ -73,7 +73,7 @@ fn perform_from_first<R: Input + Files + AllocGlobal, I: Source, W: Sink, E: Sin
 ) -> u8 {
     let alloc = rt.alloc();
     match paths(job).1 {
-        None => perform(
+        None => perform_seeded(
             alloc,
             seed,
             MAX_BYTES,
@@ -83,7 +83,7 @@ fn perform_from_first<R: Input + Files + AllocGlobal, I: Source, W: Sink, E: Sin
             out,
             err,
         ),
-        Some("-") => perform(
+        Some("-") => perform_seeded(
             alloc,
             seed,
             MAX_BYTES,
@@ -94,7 +94,7 @@ fn perform_from_first<R: Input + Files + AllocGlobal, I: Source, W: Sink, E: Sin
             err,
         ),
         Some(path) => match fs::open(rt, path) {
-            Ok(file) => perform(
+            Ok(file) => perform_seeded(
                 alloc,
                 seed,
                 MAX_BYTES,
@@ -104,7 +104,7 @@ fn perform_from_first<R: Input + Files + AllocGlobal, I: Source, W: Sink, E: Sin
                 out,
                 err,
             ),
-            Err(_) => perform(
+            Err(_) => perform_seeded(
                 alloc,
                 seed,
                 MAX_BYTES,

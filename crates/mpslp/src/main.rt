@@ -1,11 +1,11 @@
-//! Normalises linear and mixed-integer model files: the program that does the jobs of `mpslp_run_jobs`.
+//! Normalises linear and mixed-integer model files: the program that does the jobs of `mpslp_convert`.
 #![tactic(auto)]
 
 mod inputs;
 
 use inputs::perform_on_inputs;
+use mpslp_convert::{Job, JobFault, Word, job};
 use mpslp_model::{FIXED_SEED, HashSeed, ToWrite};
-use mpslp_run_jobs::{Job, JobFault, OwnedText, job};
 use std::io::ErrorKind;
 use std::process::ExitCode;
 use std::random::RandomSource;
@@ -20,7 +20,7 @@ fn requested_job<R: Env + AllocGlobal>(rt: &R) -> Result<Job, JobFault> {
             Err(_) => Err(JobFault::OutOfMemory),
         },
         Err(error) if error.kind() == ErrorKind::OutOfMemory => Err(JobFault::OutOfMemory),
-        Err(_) => Err(JobFault::Usage(OwnedText::new(
+        Err(_) => Err(JobFault::Usage(Word::new(
             rt.alloc(),
             "error: an argument is not valid UTF-8\n",
         )?)),

@@ -1,7 +1,7 @@
 //! Tests of arguments and the jobs that they request.
 
 use mpslp_command::job;
-use mpslp_jobs::{FileFormat, Job, JobFault, OwnedText};
+use mpslp_jobs::{Form, Job, JobFault, Word};
 use std::alloc::{AllocError, Global};
 use std::test::Fail;
 
@@ -101,10 +101,10 @@ fn line_of(alloc: Global, job: &Job) -> Result<String, AllocError> {
     }
 }
 
-fn name(format: FileFormat) -> &'static str {
+fn name(format: Form) -> &'static str {
     match format {
-        FileFormat::Mps => "mps",
-        FileFormat::Lp => "lp",
+        Form::Mps => "mps",
+        Form::Lp => "lp",
     }
 }
 
@@ -183,13 +183,13 @@ fn standard_input_is_read_once(rt: HostRuntime) -> Result<(), Fail> {
 
 /// Whether an owned copy of this text has the same text.
 fn keeps_text(alloc: Global, text: &str) -> bool {
-    match OwnedText::new(alloc, text) {
+    match Word::new(alloc, text) {
         Ok(word) => word.as_str() == text,
         Err(_) => false,
     }
 }
 
 #[test]
-fn an_owned_text_has_its_text(rt: HostRuntime) {
+fn a_word_has_its_text(rt: HostRuntime) {
     assert!(rt; keeps_text(rt.alloc(), "a word"));
 }

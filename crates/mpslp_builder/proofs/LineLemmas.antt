@@ -14,7 +14,8 @@ use Prelude.{drop, get_or, not, inl, inr, ◌+◌, ◌≤◌, insert, Err, IfOk,
 use Prelude.{is_sorted, slice_get_read, flat_map-append, insert_end, list_any-append, same_bytes, bytes_cmp, OutOfMemory, UnknownRow}
 use Prelude.{DuplicateEntry, put-insert, found_nowhere, place_after, sorted-put, head_of, is_sorted-sorted_of, Answer, term_declared}
 use Prelude.{DeclaresInTurn, HasColumn, AreDeclaredUnless, have_infinite_side, is_legal, IsMade, Answers, those_of, DuplicateRow, InfiniteValue}
-use Rattle.mpslp_builder.specs.{Answer.AnswersTo, Calls.{AddsRow, HasNewRow}, LineTables.Starts}
+use Rattle.mpslp_builder.specs.{Answer.AnswersTo, Calls.{AddsRow, HasNewRow}, LineTables.{HasPart, Starts}, Stopped.{HasFirstPart, IsStopped}}
+use Prelude.{append-nil, append_assoc, Declaration}
 use Rattle.mpslp_builder_parts.specs.{ColumnTable.{Inserts, number_inserted}, declared.column_table.Inserted.{Inserted, TheVariants.{New, There}}}
 use Prelude.{find-sorted_of, each_part, first_refusal}
 use Rattle.mpslp_builder_parts.specs.Parts.{new_row}
@@ -263,6 +264,11 @@ row_there sense constant t n r is = search (rules, or_true, number_there)
 pub either_way : {A E P Q R : Type 0} (r : Result A E) → (P → R) → (Q → R) → OnOk r P → OnErr r Q → R
 either_way = grind arith
 
+-- what holds in any case holds after an error
+pub after_err : {A E P : Type 0} (r : Result A E) → P → OnErr r P
+after_err (Ok x) h = tt
+after_err (Err e) h = h
+
 pub follows_same : (t u : Tables) → IsNumbered t → IsSameTables t u → Follows t u
 follows_same = grind arith
 
@@ -291,6 +297,57 @@ laid_then t u v ds es a b = record {
   declared = λ sense constant.
       b.declared _ _ ∙ ap (λ d. with_declarations d es) (a.declared sense constant)
       ∙ sym (with_declarations-append ds es (draft sense constant t));
+}
+
+laid_same : (t u v : Tables) (ds : Declarations) → AreDeclared t ds u → IsSameTables u v → AreDeclared t ds v
+laid_same t u v ds laid same = record { free = laid.free; declared = λ sense constant. same_tables sense constant u v same ∙ laid.declared sense constant }
+
+-- ---- a first part of declarations
+
+pub part_none : (t u : Tables) (ds : Declarations) → IsSameTables t u → HasPart t ds u
+part_none t u ds same = record { made = []; left = ds; parts = refl; declared = laid_same t t u [] (laid_none t) same }
+
+pub part_all : (t u : Tables) (ds : Declarations) → AreDeclared t ds u → HasPart t ds u
+part_all t u ds laid = record { made = ds; left = []; parts = sym (append-nil ds); declared = laid }
+
+-- all of the first declarations, and a part of the others
+pub part_then : (t u v : Tables) (ds es : Declarations) → AreDeclared t ds u → HasPart u es v → HasPart t (ds ++ es) v
+part_then t u v ds es laid part = record {
+  made = ds ++ part.made;
+  left = part.left;
+  parts = ap (λ (more : Declarations). ds ++ more) part.parts ∙ sym (append_assoc ds part.made part.left);
+  declared = laid_then t u v ds part.made laid part.declared;
+}
+
+-- a part of the first declarations
+pub part_more : (t u : Tables) (ds es : Declarations) → HasPart t ds u → HasPart t (ds ++ es) u
+part_more t u ds es part = record {
+  made = part.made;
+  left = part.left ++ es;
+  parts = ap (λ (first : Declarations). first ++ es) part.parts ∙ append_assoc part.made part.left es;
+  declared = part.declared;
+}
+
+-- the same of the drafts of builders
+pub first_part : (sense : Option Sense) (constant : Option Number) (t u : Tables) (ds : Declarations) → HasPart t ds u
+    → HasFirstPart (draft sense constant t) ds (draft sense constant u)
+first_part sense constant t u ds part = record {
+  made = part.made;
+  left = part.left;
+  parts = part.parts;
+  free = part.declared.free sense constant;
+  declared = part.declared.declared sense constant;
+}
+
+-- a column that is declared may be declared again
+pub part_next : (earlier later : Draft) (column : List ℕ) (more : Declarations) → with_declaration earlier (declare_column column) ≡ earlier
+    → HasFirstPart earlier more later → HasFirstPart earlier (declare_column column ∷ more) later
+part_next earlier later column more again part = record {
+  made = declare_column column ∷ part.made;
+  left = part.left;
+  parts = ap (λ (ds : Declarations). declare_column column ∷ ds) part.parts;
+  free = ap (λ (d : Draft). refusals_in_turn d part.made) again ∙ part.free;
+  declared = part.declared ∙ ap (λ (d : Draft). with_declarations d part.made) (sym again);
 }
 
 -- one declaration that has no error
@@ -478,9 +535,6 @@ any-more = grind (arith, any-both)
 pub there_laid : (t : Tables) (name : List ℕ) (i : ℕ) → column_name t i ≡ Some name → AreDeclared t (declare_column name ∷ []) t
 there_laid = grind (arith, put_again, is_sorted-sorted_of, bytes_total, number_there)
 
-laid_same : (t u v : Tables) (ds : Declarations) → AreDeclared t ds u → IsSameTables u v → AreDeclared t ds v
-laid_same t u v ds laid same = record { free = laid.free; declared = λ sense constant. same_tables sense constant u v same ∙ laid.declared sense constant }
-
 -- a column that is new or there, and what is not declared may change
 pub has_column_of : (t u v : Tables) (name : List ℕ) (of_name : Inserted) → Starts t name (Ok of_name) u → IsSameTables u v
     → HasColumn t name (number_inserted of_name) v
@@ -496,43 +550,56 @@ has_column_of t u v name (There n) h same = record {
 pub unless_then : (t u v : Tables) (ds es : Declarations) (answer : Answer) → AreDeclared t ds u → AreDeclaredUnless u es answer v
     → AreDeclaredUnless t (ds ++ es) answer v
 unless_then t u v ds es (Ok x) a b = laid_then t u v ds es a b
-unless_then t u v ds es (Err fault) a (inl none) = inl none
-unless_then t u v ds es (Err fault) a (inr first) =
-    inr (λ sense constant.
-    let before = draft _ _ t in
-    ap head_of (
-    refusals_in_turn-append ds es before
-    ∙ ap (λ (faults : List BuildFault). faults ++ refusals_in_turn (with_declarations before ds) es) (a.free sense constant)
-    ∙ ap (λ (all : Draft). refusals_in_turn all es) (sym (a.declared sense constant))
-    )
-    ∙ first _ _)
+unless_then t u v ds es (Err fault) a (inl before) = inl (record {
+  made = ds ++ before.made;
+  rejected = before.rejected;
+  left = before.left;
+  parts = ap (λ (more : Declarations). ds ++ more) before.parts ∙ sym (append_assoc ds before.made (before.rejected ∷ before.left));
+  declared = laid_then t u v ds before.made a before.declared;
+  error = before.error;
+})
+unless_then t u v ds es (Err fault) a (inr none) = inr (none.0, part_then t u v ds es a none.1)
 
 -- there is no memory
-pub unless_memory : (t u : Tables) (ds : Declarations) (answer : Answer) → IsErrAnd answer (λ fault. fault ≡ OutOfMemory)
+pub unless_memory : (t u : Tables) (ds : Declarations) (answer : Answer) → IsErrAnd answer (λ fault. fault ≡ OutOfMemory) → HasPart t ds u
     → AreDeclaredUnless t ds answer u
-unless_memory = grind arith
+unless_memory t u ds (Ok x) none part = absurd none
+unless_memory t u ds (Err fault) none part = inr (none, part)
 
 -- the error that is reported
 pub unless_reported : (t u : Tables) (ds : Declarations) (answer : Answer) (fault : BuildFault) → IsErrAnd answer (λ stated. stated ≡ fault)
     → AreDeclaredUnless t ds (Err fault) u → AreDeclaredUnless t ds answer u
 unless_reported t u ds (Ok x) fault stated h = absurd stated
-unless_reported t u ds (Err other) fault stated h = grind arith
+unless_reported t u ds (Err other) fault stated h = subst (λ (f : BuildFault). AreDeclaredUnless t ds (Err f) u) (sym stated) h
 
 head-first : (faults more : List BuildFault) (fault : BuildFault) → head_of faults ≡ Some fault → head_of (faults ++ more) ≡ Some fault
 head-first = grind arith
 
--- an error of the first declarations is the first of all
-pub unless_err : (t u v : Tables) (ds es : Declarations) (fault : BuildFault) → AreDeclaredUnless t ds (Err fault) u
-    → AreDeclaredUnless t (ds ++ es) (Err fault) v
-unless_err = grind (arith, inl, inr, refusals_in_turn-append, head-first)
+-- an error of the first declarations is that of all
+pub unless_err : (t u : Tables) (ds es : Declarations) (fault : BuildFault) → AreDeclaredUnless t ds (Err fault) u
+    → AreDeclaredUnless t (ds ++ es) (Err fault) u
+unless_err t u ds es fault (inl before) = inl (record {
+  made = before.made;
+  rejected = before.rejected;
+  left = before.left ++ es;
+  parts = ap (λ (first : Declarations). first ++ es) before.parts ∙ append_assoc before.made (before.rejected ∷ before.left) es;
+  declared = before.declared;
+  error = before.error;
+})
+unless_err t u ds es fault (inr none) = inr (none.0, part_more t u ds es none.1)
 
 -- the coefficient is declared already
-pub taken_place : (t u v : Tables) (once : IsOnceEach u) (numbered : IsNumbered u) (n i : ℕ) (r c : List ℕ) (x : Number) → HasColumn t c i u
-    → row_name u n ≡ Some r → true ≡ is_some (find nat_cmp n (cells_at u i)) → AreDeclaredUnless t (term_declared r (c, x)) (Err DuplicateEntry) v
-taken_place t u v once numbered n i r c x column row stated = inr (λ sense constant. ap (λ all. head_of (refusals all (declare_coefficient
-    (at r c) x) ++ [])) (sym (column.declared.declared sense constant)) ∙ ap (λ faults. head_of (faults ++ [])) (cell_stated constant u once
-    i c column.named (number_there no_part u.columns.entries i c column.named) n r true numbered row (row_there None constant u n r row)
-    stated))
+pub taken_place : (t : Tables) (once : IsOnceEach t) (numbered : IsNumbered t) (n i : ℕ) (r c : List ℕ) (x : Number) → column_name t i ≡ Some c
+    → row_name t n ≡ Some r → true ≡ is_some (find nat_cmp n (cells_at t i)) → AreDeclaredUnless t (entry_declared c (r, x)) (Err DuplicateEntry) t
+taken_place t once numbered n i r c x column row stated = inl (record {
+  made = [];
+  rejected = declare_coefficient (at r c) x;
+  left = [];
+  parts = refl;
+  declared = laid_none t;
+  error = λ sense constant. ap head_of
+      (cell_stated constant t once i c column (number_there no_part t.columns.entries i c column) n r true numbered row (row_there None constant t n r row) stated);
+})
 
 -- a coefficient of any row that there is
 pub cell_follows_there : (t u : Tables) → IsNumbered t → IsOnceEach t → (i n : ℕ) → is_some (row_name t n) ≡ true → (x : Number)
@@ -572,16 +639,47 @@ decides_next = grind (arith, unless_then)
 pub decides_err : (t u v : Tables) (first left all : Declarations) (answer : Answer) (fault : BuildFault) → IsErrAnd answer (λ stated.
     stated ≡ fault) → AreDeclaredUnless u first (Err fault) v → Decides u (first ++ left) t all → AreDeclaredUnless t all answer v
 decides_err t u v first left all answer fault stated refused before =
-    before _ v (unless_reported u v (first ++ left) answer fault stated (unless_err u v v first left fault refused))
+    before _ v (unless_reported u v (first ++ left) answer fault stated (unless_err u v first left fault refused))
 
 -- nothing is left
 pub decides_all : (t u : Tables) (all : Declarations) → Decides u [] t all → AreDeclared t all u
 decides_all t u all before = before (Ok tt) u (laid_none u)
 
+-- the error is the first one of the declarations
+first_of_all : (all : Draft) (made left : Declarations) (rejected : Declaration) (fault : BuildFault) → refusals_in_turn all made ≡ []
+    → head_of (refusals (with_declarations all made) rejected) ≡ Some fault
+    → head_of (refusals_in_turn all (made ++ rejected ∷ left)) ≡ Some fault
+first_of_all all made left rejected fault free is =
+    ap head_of (
+    refusals_in_turn-append made (rejected ∷ left) all
+    ∙ ap (λ (faults : List BuildFault). faults ++ refusals_in_turn (with_declarations all made) (rejected ∷ left)) free
+    )
+    ∙ head-first (refusals (with_declarations all made) rejected) _ fault is
+
 -- the same of the drafts of builders
 pub in_turn : (sense : Option Sense) (constant : Option Number) (t u : Tables) (ds : Declarations) (answer : Answer)
     → AreDeclaredUnless t ds answer u → DeclaresInTurn (draft sense constant t) ds answer (draft sense constant u)
-in_turn = grind arith
+in_turn sense constant t u ds (Ok x) laid = (laid.free sense constant, laid.declared sense constant)
+in_turn sense constant t u ds (Err fault) (inl before) =
+    inr (ap (λ (all : Declarations). head_of (refusals_in_turn (draft sense constant t) all)) before.parts
+    ∙ first_of_all (draft sense constant t) before.made before.left before.rejected fault (before.declared.free sense constant)
+    (ap (λ (d : Draft). head_of (refusals d before.rejected)) (sym (before.declared.declared sense constant)) ∙ before.error sense constant))
+in_turn sense constant t u ds (Err fault) (inr none) = inl none.0
+
+-- and what is declared after an error
+pub stopped : (sense : Option Sense) (constant : Option Number) (t u : Tables) (ds : Declarations) (answer : Answer)
+    → AreDeclaredUnless t ds answer u → IsStopped (draft sense constant t) ds answer (draft sense constant u)
+stopped sense constant t u ds (Ok x) laid = tt
+stopped sense constant t u ds (Err fault) (inl before) = inr (inl (record {
+  made = before.made;
+  rejected = before.rejected;
+  left = before.left;
+  parts = before.parts;
+  free = before.declared.free sense constant;
+  declared = before.declared.declared sense constant;
+  error = before.error sense constant;
+}))
+stopped sense constant t u ds (Err fault) (inr none) = inr (inr (none.0, first_part sense constant t u ds none.1))
 
 next_is : (k : ℕ) → suc k ≡ k + 1
 next_is k = omega arith

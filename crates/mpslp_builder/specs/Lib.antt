@@ -11,6 +11,7 @@ pub mod Finish
 pub mod Laws
 pub mod ColumnLine
 pub mod RowTerms
+pub mod Stopped
 -- ---- what only the code cites
 pub mod Tables
 pub mod Calls

@@ -1,5 +1,5 @@
 -- What is known of tables while a line of a column is declared, by number.
-use Rattle.std.specs.Prelude.{◌≡◌, ◌≢◌, ℕ, Bool, true, false, ◌&&◌, List, [], ◌∷◌, Option, Some, None, Result, Ok, Err}
+use Rattle.std.specs.Prelude.{◌≡◌, ◌≢◌, ℕ, Bool, true, false, ◌&&◌, List, [], ◌∷◌, ◌++◌, Option, Some, None, Result, Ok, Err}
 use Rattle.std.specs.Option.{ForSome}
 use Rattle.std.specs.Ordering.{nat_cmp}
 use Rattle.std.specs.FinMap.{find}
@@ -54,9 +54,20 @@ pub record AreDeclared (t : Tables) (declarations : Declarations) (u : Tables) :
   pub free : (sense : Option Sense) (constant : Option Number) → refusals_in_turn (draft sense constant t) declarations ≡ []
   pub declared : (sense : Option Sense) (constant : Option Number) → draft sense constant u ≡ with_declarations (draft sense constant t) declarations
 
+-- a first part of these declarations is made, none of it is rejected, and nothing else is declared
+pub record HasPart (t : Tables) (declarations : Declarations) (u : Tables) : Type 0 where
+  pub made : Declarations
+  pub left : Declarations
+  pub parts : declarations ≡ made ++ left
+  pub declared : AreDeclared t made u
+
 -- these declarations of the column of a number are made, whatever its name is
 abbrev pub AreDeclaredOfColumn : Tables → ℕ → (List ℕ → Declarations) → Tables → Type 0
 AreDeclaredOfColumn t column declarations u = (name : List ℕ) → column_name t column ≡ Some name → AreDeclared t (declarations name) u
+
+-- a first part of them is made
+abbrev pub HasPartOfColumn : Tables → ℕ → (List ℕ → Declarations) → Tables → Type 0
+HasPartOfColumn t column declarations u = (name : List ℕ) → column_name t column ≡ Some name → HasPart t (declarations name) u
 
 -- a coefficient of the column of a number, in the row of a number, is declared, whatever their names are
 abbrev pub IsEntryDeclared : Tables → ℕ → ℕ → Number → Tables → Type 0

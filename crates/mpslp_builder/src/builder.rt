@@ -16,7 +16,7 @@ use mpslp_builder_parts::RowParts;
 use mpslp_decimal::Decimal;
 use mpslp_decimal::laws::each_value_is_a_decimal;
 use mpslp_types::laws::each_name_is_legal;
-use mpslp_types::{BuildFault, HashSeed, Limit, Name, RowType, Sense};
+use mpslp_types::{BuildFault, FIXED_SEED, HashSeed, Limit, Name, RowType, Sense};
 use std::alloc::Global;
 use std::marker::Model;
 
@@ -50,9 +50,18 @@ impl Model for Builder {
 }
 
 impl Builder {
-    /// A builder without declarations. Only the time of its calls depends on the seed, which is to be secret if names may be chosen
-    /// to make it slow.
-    pub fn new(alloc: Global, seed: HashSeed) -> Builder
+    /// A builder without declarations. Allocates nothing.
+    ///
+    /// The hashes of names have the fixed seed, which everybody knows: names can be chosen so that many declarations take quadratic
+    /// time. For names that somebody else chose take [`new_seeded`](Self::new_seeded) with random bits.
+    pub fn new(alloc: Global) -> Builder
+        ensures { result ≡ empty_draft }
+    {
+        Builder::new_seeded(alloc, FIXED_SEED)
+    }
+
+    /// As [`new`](Self::new), with a seed for the hashes of names. Only the time of the builder's calls depends on the seed.
+    pub fn new_seeded(alloc: Global, seed: HashSeed) -> Builder
         ensures { result ≡ empty_draft }
     {
         Builder {

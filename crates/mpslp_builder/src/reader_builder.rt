@@ -1,12 +1,12 @@
-//! The builder of a reader, with calls that are cheaper than those of [`Builder`], and whose contracts say less after an error.
+//! The builder of a reader, with calls that are cheaper than those of [`Builder`], and of which some leave a part of their declarations after an error.
 
-ghost use Rattle.std.specs.Prelude.{◌≡◌, ◌≢◌, [], Ok, false, true};
+ghost use Rattle.std.specs.Prelude.{◌≡◌, ◌≢◌, [], Ok, OnErr, false, true};
 ghost use Rattle.std.specs.List.{flat_map};
-ghost use Rattle.mpslp_types.specs.Name.{IsMpsName};
 ghost use Rattle.mpslp_builder.specs.Declaration.{has_column};
 ghost use Rattle.mpslp_builder.specs.Refusal.{refusals_in_turn};
 ghost use Rattle.mpslp_builder.specs.ColumnLine.{line_declared, IsRefusedLine, TakesLine};
 ghost use Rattle.mpslp_builder.specs.RowTerms.{term_declared, DeclaresInTurn};
+ghost use Rattle.mpslp_builder.specs.Stopped.{HasFirstPart, IsStopped};
 
 use crate::builder::Builder;
 use crate::entries::Entries;
@@ -19,8 +19,8 @@ use mpslp_types::{BuildFault, Name};
 /// [`next_line`](Self::next_line) and [`first_line`](Self::first_line) for a line of COLUMNS, which look the column up only once too,
 /// [`row_term`](Self::row_term) and [`row_terms`](Self::row_terms) for the terms of a row of LP.
 ///
-/// After an error of such a call the draft may have a first part of its declarations. A reader drops the draft then: it returns
-/// `Failed` from then on. So `mpslp_model`, which passes [`Builder`] on to users, does not re-export this type.
+/// After an error of such a call the draft has a first part of its declarations and is otherwise unchanged. A reader drops the draft
+/// then: it returns `Failed` from then on. So `mpslp_model`, which passes [`Builder`] on to users, does not re-export this type.
 #[derive(Drop)]
 pub struct ReaderBuilder {
     /// What has been declared. It takes all other declarations.
@@ -45,6 +45,7 @@ impl ReaderBuilder {
         entries: &Entries<'_>,
     ) -> Result<bool, BuildFault>
         ensures taken { TakesLine self.old.draft (line_declared is_marked column.now entries.now) result self.new.draft }
+        ensures stopped { OnErr result (HasFirstPart self.old.draft (line_declared is_marked column.now entries.now) self.new.draft) }
         ensures there { result ≡ Ok true → has_column self.old.draft column.now ≡ true }
         ensures refused { result ≡ Ok false → has_column self.old.draft column.now ≡ true → IsRefusedLine self.old.draft is_marked column.now entries.now }
     {
@@ -75,6 +76,7 @@ impl ReaderBuilder {
         entries: &Entries<'_>,
     ) -> Result<bool, BuildFault>
         ensures taken { TakesLine self.old.draft (line_declared is_marked name entries.now) result self.new.draft }
+        ensures stopped { OnErr result (HasFirstPart self.old.draft (line_declared is_marked name entries.now) self.new.draft) }
         ensures absent { result ≡ Ok true → has_column self.old.draft name ≡ false }
         ensures refused { result ≡ Ok false → has_column self.old.draft name ≡ false → IsRefusedLine self.old.draft is_marked name entries.now }
     {
@@ -93,26 +95,24 @@ impl ReaderBuilder {
     }
 
     /// Declares a column, and its coefficient of a row or of the objective. It does what [`column`](crate::Builder::column) and
-    /// [`coefficient`](crate::Builder::coefficient) do, and looks the row up only once.
+    /// [`coefficient`](crate::Builder::coefficient) do, and looks the row up only once. If the column is declared already, the name is
+    /// dropped.
     ///
     /// # Errors
     ///
-    /// The first error of these calls: `UnknownRow`, `DuplicateEntry` or `OutOfMemory`. Then the column may be declared.
-    pub fn row_term(&mut self, row: &[u8], column: &[u8], value: Decimal) -> Result<(), BuildFault>
-        requires { IsMpsName column.now }
-        ensures declared { DeclaresInTurn self.old.draft (term_declared row.now (column.now, value)) result self.new.draft }
+    /// The first error of these calls: `UnknownRow`, `DuplicateEntry` or `OutOfMemory`. After `UnknownRow` nothing is declared, after
+    /// `DuplicateEntry` the column is, and after `OutOfMemory` it may be.
+    pub fn row_term(&mut self, row: &[u8], column: Name, value: Decimal) -> Result<(), BuildFault>
+        ensures declared { DeclaresInTurn self.old.draft (term_declared row.now (column, value)) result self.new.draft }
+        ensures stopped { IsStopped self.old.draft (term_declared row.now (column, value)) result self.new.draft }
         ensures rows { self.new.draft.rows ≡ self.old.draft.rows }
     {
         let draft = &mut self.draft;
-        match draft.tables.row_number(row) {
-            Some(number) => {
-                let guess = draft.tables.recent.saturating_add(1);
-                draft
-                    .tables
-                    .declare_term(draft.alloc, number, column, guess, value)
-            }
-            None => Err(BuildFault::UnknownRow),
-        }
+        let Some(number) = draft.tables.row_number(row) else {
+            return Err(BuildFault::UnknownRow);
+        };
+        let guess = draft.tables.recent.saturating_add(1);
+        draft.tables.declare_own_term(number, column, guess, value)
     }
 
     /// Declares the terms of a row in order: each column, and its coefficient. It does what
@@ -120,10 +120,12 @@ impl ReaderBuilder {
     ///
     /// # Errors
     ///
-    /// The first error of these calls, in order: `UnknownRow`, `DuplicateEntry` or `OutOfMemory`. Then the declarations before
-    /// it are made.
+    /// The first error of these calls, in order: `UnknownRow`, `DuplicateEntry` or `OutOfMemory`. After `UnknownRow` nothing is
+    /// declared, after `DuplicateEntry` the declarations before the one with the error are made, and after `OutOfMemory` a first part of
+    /// the declarations.
     pub fn row_terms(&mut self, row: &[u8], terms: &RowTerms) -> Result<(), BuildFault>
         ensures declared { DeclaresInTurn self.old.draft (flat_map (term_declared row.now) terms.now) result self.new.draft }
+        ensures stopped { IsStopped self.old.draft (flat_map (term_declared row.now) terms.now) result self.new.draft }
         ensures rows { self.new.draft.rows ≡ self.old.draft.rows }
     {
         if terms.is_empty() {

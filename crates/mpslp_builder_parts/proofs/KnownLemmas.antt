@@ -59,13 +59,14 @@ module _ (log : LogEntries) (last : ℕ → ℕ) (is : IsLog log) (within : (i :
 
   -- the set with one more pair is that of all pairs
   pub pair_late : (old new : ℕ → ℕ → Bool) → new i r ≡ true → ((j q : ℕ) → q < 4294967296 → (j ≡ i → q ≡ r → ⊥) → new j q ≡ old j q)
-      → ((j q : ℕ) → q < 4294967296 → old j q ≡ has_pair log last j q) → (j q : ℕ) → q < 4294967296 → new j q ≡ has_pair after last_too j q
-  pair_late old new here_too others all j q few = elim (alike j i) [
+      → ((j q : ℕ) → j < 4294967295 → q < 4294967296 → old j q ≡ has_pair log last j q) → (j q : ℕ) → j < 4294967295 → q < 4294967296
+      → new j q ≡ has_pair after last_too j q
+  pair_late old new here_too others all j q low few = elim (alike j i) [
     | inl column ↦ elim (alike q r) [
       | inl same ↦ (λ d. new (column d) (same d)) ∙ here_too ∙ sym ((λ d. has_pair after last_too (column d) (same d)) ∙ own_pair)
-      | inr apart ↦ others j q few (λ _ tie. apart tie) ∙ all j q few ∙ sym (row_apart j q apart)
+      | inr apart ↦ others j q few (λ _ tie. apart tie) ∙ all j q low few ∙ sym (row_apart j q apart)
     ]
-    | inr other ↦ others j q few (λ tie _. other tie) ∙ all j q few ∙ sym (other_column j q other)
+    | inr other ↦ others j q few (λ tie _. other tie) ∙ all j q low few ∙ sym (other_column j q other)
   ]
 
 opened : (after : Option ℕ) (n q : ℕ) → after ≡ Some n → after ≡ Some q → q ≡ n
@@ -78,7 +79,7 @@ module _ (log : LogEntries) (last row : ℕ → ℕ) (stamps : List ℕ) (open_r
     (stamp_here : slice_index stamps_too r ≡ suc i) (stamp_there : (q : ℕ) → (q ≡ r → ⊥) → slice_index stamps_too q ≡ slice_index stamps q)
     (open_row_too open_column_too : Option ℕ) (row_opened : IsOpened open_row open_row_too r (slice_index stamps r ≡ 0))
     (column_opened : IsOpened open_column open_column_too i (last i ≡ 0)) (pairs_too : Option (BTreeSet ℕ))
-    (put : IfSome pairs_too (λ set. (j q : ℕ) → q < 4294967296 → in_pairs set j q ≡ has_pair (logged log (last i) (r, v)) last_too j q)) where
+    (put : IfSome pairs_too (λ set. (j q : ℕ) → j < 4294967295 → q < 4294967296 → in_pairs set j q ≡ has_pair (logged log (last i) (r, v)) last_too j q)) where
   abbrev late : ℕ → ℕ → Bool
   late = has_pair (logged log (last i) (r, v)) last_too
 

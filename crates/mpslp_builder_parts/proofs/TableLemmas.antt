@@ -120,7 +120,7 @@ known_none log known is stamps row column pairs =
       by_row = λ r at i had. absurd (cc);
       by_column = λ i at r had. absurd (cc);
       columns = record { numbers = []; chained = record { len = refl; links = λ i below. absurd (omega (arith, below)); lasts = λ n. refl } };
-      pairs = subst (λ (o : Option (BTreeSet ℕ)). IfSome o (λ set. (i r : ℕ) → r < 4294967296 → in_pairs set i r ≡ false)) (sym pairs) tt;
+      pairs = subst (λ (o : Option (BTreeSet ℕ)). IfSome o (λ set. (i r : ℕ) → i < 4294967295 → r < 4294967296 → in_pairs set i r ≡ false)) (sym pairs) tt;
     })
 
 -- one more coefficient, step by step: a pair is put, the coefficient is logged, the stamps are set, and then its column
@@ -140,13 +140,13 @@ module _ (es later : List (List ℕ × StoredColumn)) (log logged_too : LogEntri
   here = last_here i place r es later h ∙ place_is
 
   all_put : (old new : Option (BTreeSet ℕ)) → IsPutIfSome i r old new
-      → IfSome old (λ set. (j q : ℕ) → q < 4294967296 → in_pairs set j q ≡ has_pair log (last_of es) j q)
-      → IfSome new (λ set. (j q : ℕ) → q < 4294967296 → in_pairs set j q ≡ has_pair (logged log (last_of es i) (r, v)) (last_of later) j q)
+      → IfSome old (λ set. (j q : ℕ) → j < 4294967295 → q < 4294967296 → in_pairs set j q ≡ has_pair log (last_of es) j q)
+      → IfSome new (λ set. (j q : ℕ) → j < 4294967295 → q < 4294967296 → in_pairs set j q ≡ has_pair (logged log (last_of es i) (r, v)) (last_of later) j q)
   all_put None None done all = all
   all_put None (Some new) done all = absurd done
   all_put (Some old) None done all = absurd done
-  all_put (Some old) (Some new) done all = λ j q few. pair_late log (last_of es) is.log is.within i r v (last_of later) here
-      (last_there i place r es later h) (in_pairs old) (in_pairs new) done.here done.others all j q few
+  all_put (Some old) (Some new) done all = λ j q low few. pair_late log (last_of es) is.log is.within i r v (last_of later) here
+      (last_there i place r es later h) (in_pairs old) (in_pairs new) done.here done.others all j q low few
 
   pub known_put : IsKnown later logged_too noted
   known_put = subst (λ l. AreKnown l (last_of later) (last_row_of later) noted.stamps.items noted.open_row noted.open_column noted.pairs) (sym log_is)
@@ -155,7 +155,7 @@ module _ (es later : List (List ℕ × StoredColumn)) (log logged_too : LogEntri
       stamp_here (λ q apart. stamp_there q apart ∙ ap (λ xs. slice_index xs q) stamps_same) noted.open_row noted.open_column
       (subst (λ (p : Option ℕ × List ℕ). IsOpened p.0 noted.open_row r (slice_index p.1 r ≡ 0)) (λ d. (row_same d, stamps_same d)) row_opened)
       (subst (λ (p : Option ℕ × ℕ). IsOpened p.0 noted.open_column i (p.1 ≡ 0)) (λ d. (column_same d, last_is d)) column_opened)
-      noted.pairs (subst (λ (o : Option (BTreeSet ℕ)). IfSome o (λ set. (j q : ℕ) → q < 4294967296 → in_pairs set j q
+      noted.pairs (subst (λ (o : Option (BTreeSet ℕ)). IfSome o (λ set. (j q : ℕ) → j < 4294967295 → q < 4294967296 → in_pairs set j q
       ≡ has_pair (logged log (last_of es i) (r, v)) (last_of later) j q)) (sym pairs_kept) (all_put known.pairs put.pairs pairs_put is.pairs)))
 
   -- its column has the coefficient, and the others are as they were

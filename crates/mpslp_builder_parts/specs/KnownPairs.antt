@@ -48,7 +48,7 @@ pub record AreKnown (all : LogEntries) (last row : ℕ → ℕ) (stamps : List �
   pub by_row : (r : ℕ) → open_row ≡ Some r → (i : ℕ) → has_pair all last i r ≡ true → row i ≡ r
   pub by_column : (i : ℕ) → open_column ≡ Some i → (r : ℕ) → has_pair all last i r ≡ true → slice_index stamps r ≡ suc i
   pub columns : HaveNumbers all.earlier last
-  pub pairs : IfSome set (λ pairs. (i r : ℕ) → r < 4294967296 → in_pairs pairs i r ≡ has_pair all last i r)
+  pub pairs : IfSome set (λ pairs. (i r : ℕ) → i < 4294967295 → r < 4294967296 → in_pairs pairs i r ≡ has_pair all last i r)
 
 -- how an open row or column is chosen: it stays, or it had no coefficient before, or there is none
 abbrev pub IsOpened : Option ℕ → Option ℕ → ℕ → Type 0 → Type 0

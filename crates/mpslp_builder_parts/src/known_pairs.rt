@@ -184,19 +184,16 @@ pub(crate) fn last_of(columns: &Columns, column: usize) -> u32
     }
 }
 
-/// All pairs.
+/// All pairs of the columns that may have coefficients.
 fn pairs_of(
     alloc: Global,
     columns: &Columns,
     log: &CoefficientLog,
 ) -> Result<BTreeSet<u64>, AllocError>
     requires { (i : ℕ) → last_of columns.now.entries i ≤ length log.now.cells }
-    ensures { IfOk result (λ pairs. (i r : ℕ) → r < 4294967296 → in_pairs pairs i r ≡ has_pair log.now (last_of columns.now.entries) i r) }
+    ensures { IfOk result (λ pairs. (i r : ℕ) → i < 4294967295 → r < 4294967296 → in_pairs pairs i r ≡ has_pair log.now (last_of columns.now.entries) i r) }
 {
-    let count = columns.len();
-    if count > MOST_COLUMNS {
-        return Err(AllocError);
-    }
+    let count = columns.len().min(MOST_COLUMNS);
     let mut pairs = BTreeSet::new(alloc);
     for column in 0..count {
         add_chain(&mut pairs, log, column as u32, last_of(columns, column))?;

@@ -26,8 +26,8 @@ use Rattle.mpslp_builder.proofs.DraftEntries.{row_named, row_sides, column_named
 use Rattle.mpslp_builder.proofs.BoundsLemmas.{is_integer_kind, is_semi_kind}
 use Rattle.mpslp_canonical_lp.proofs.RankedSlots.{new-from_others, Section, joined-once, AreOther, other-from_sorted, slots-append}
 use Rattle.mpslp_canonical_lp.proofs.RankedSlots.{slots-flat}
-use Rattle.mpslp_jobs.specs.declared.jobs.FileFormat.{FileFormat, TheVariants.{Mps, Lp}}
-use Rattle.mpslp_run_jobs.specs.Performed.{declares_in, text_in}
+use Rattle.mpslp_jobs.specs.declared.jobs.Form.{Form, TheVariants.{Mps, Lp}}
+use Rattle.mpslp_convert.specs.Performed.{declares_in, text_in}
 use Rattle.mpslp_c.specs.Arrays.{RepresentsNumber, RepresentsLimit, RepresentsSide, RepresentsName, RepresentsRow, RepresentsRows}
 use Rattle.mpslp_c.specs.Arrays.{RepresentsElement, RepresentsColumn, RepresentsModel, column_len, kind_number, sense_number}
 use Rattle.mpslp_c.specs.Stored.{Step, fails, step_declared, steps_with, bytes_at, sense_steps, objective_steps, row_steps, kind_steps}
@@ -649,11 +649,11 @@ arrays-define m arrays sound represents = let given = items-stated m arrays soun
 
 -- ---- a loaded model that is stored again has the canonical text of what was loaded
 
-declared-sound : (from : FileFormat) (bytes : List ℕ) (m : LinearModel) → declares_in from bytes m → IsSound m
+declared-sound : (from : Form) (bytes : List ℕ) (m : LinearModel) → declares_in from bytes m → IsSound m
 declared-sound Mps bytes m declares = declares.means.meant.sound
 declared-sound Lp bytes m declares = declares.means.meant.sound
 
-declared-once : (from : FileFormat) (bytes : List ℕ) (m n : LinearModel) → declares_in from bytes m → declares_in from bytes n → m ≡ n
+declared-once : (from : Form) (bytes : List ℕ) (m n : LinearModel) → declares_in from bytes m → declares_in from bytes n → m ≡ n
 declared-once Mps bytes m n one other = one.means.meant.model ∙ sym other.means.meant.model
 declared-once Lp bytes m n one other = one.means.meant.model ∙ sym other.means.meant.model
 

@@ -4,13 +4,13 @@ use Rattle.std.specs.declared.alloc.Global.{Global}
 use Rattle.mpslp_model_core.specs.Model.{LinearModel}
 use Rattle.mpslp_types.specs.declared.faults.Fault.{Fault}
 use Rattle.mpslp_types.specs.declared.faults.NameAt.{NameAt}
-use Rattle.mpslp_jobs.specs.declared.jobs.FileFormat.{FileFormat}
-use Rattle.mpslp_jobs.specs.declared.jobs.FileFormat.TheVariants.{Mps, Lp}
-use Rattle.mpslp_convert.specs.Laws.{Declares, Unfit, TextOf}
-use Rattle.mpslp_convert.specs.Conversions.{HasFirstFault, IsConversion, IsComparison, IsTestOfText}
-use Rattle.mpslp_run_jobs.specs.Performed.{declares_in, first_fault_in, unfit_in, text_in}
-use Rattle.mpslp_convert.specs.declared.faults.ConvertFault.{ConvertFault}
-use Rattle.mpslp_convert.specs.declared.faults.ConvertFault.TheVariants.{First, Second, NotLp, OutOfMemory}
+use Rattle.mpslp_jobs.specs.declared.jobs.Form.{Form}
+use Rattle.mpslp_jobs.specs.declared.jobs.Form.TheVariants.{Mps, Lp}
+use Rattle.mpslp_conversions.specs.Laws.{Declares, Unfit, TextOf}
+use Rattle.mpslp_conversions.specs.Conversions.{HasFirstFault, IsConversion, IsComparison, IsTestOfText}
+use Rattle.mpslp_convert.specs.Performed.{declares_in, first_fault_in, unfit_in, text_in}
+use Rattle.mpslp_conversions.specs.declared.faults.ConvertFault.{ConvertFault}
+use Rattle.mpslp_conversions.specs.declared.faults.ConvertFault.TheVariants.{First, Second, NotLp, OutOfMemory}
 use Rattle.mpslp_c.specs.Arrays.{RepresentsModel}
 use Rattle.mpslp_builder.specs.Declaration.{Draft, empty_draft}
 use Rattle.mpslp_builder.specs.FileFault.{file_fault}
@@ -24,7 +24,7 @@ use Rattle.mpslp_c.specs.declared.faults.StoreFault.{StoreFault}
 use Rattle.mpslp_c.specs.declared.faults.StoreFault.TheVariants as stored
 
 -- the format of a number
-abbrev pub format_of : ℕ → Option FileFormat
+abbrev pub format_of : ℕ → Option Form
 format_of zero = Some Mps
 format_of (suc zero) = Some Lp
 format_of (suc (suc n)) = None
@@ -89,7 +89,7 @@ pub record IsConverted (declares : Declares) (first_fault : HasFirstFault) (unfi
   pub refuses : (first : Fault) → first_fault bytes first → IsUnless REFUSED status
   pub cannot_express : (m : LinearModel) (place : NameAt) → declares bytes m → unfit m ≡ Some place → IsUnless NOT_LP status
 
-abbrev pub IsCanonicalAnswer : Option FileFormat → Option FileFormat → List ℕ → ℕ → MpslpText → MpslpText → MpslpFault → MpslpFault → Type 0
+abbrev pub IsCanonicalAnswer : Option Form → Option Form → List ℕ → ℕ → MpslpText → MpslpText → MpslpFault → MpslpFault → Type 0
 IsCanonicalAnswer (Some from) (Some to) bytes status out out' fault fault' =
     IsConverted (declares_in from) (first_fault_in from) (unfit_in to) (text_in to) bytes status out out' fault fault'
 IsCanonicalAnswer _ _ bytes status out out' fault fault' = (status ≡ UNKNOWN_FORMAT) × (out' ≡ out) × (fault' ≡ fault)
@@ -104,7 +104,7 @@ pub record IsCompared (declares : Declares) (first_fault : HasFirstFault) (decla
   pub refuses : (found : Fault) → first_fault first found → IsUnless REFUSED status
   pub refuses_second : (m : LinearModel) (found : Fault) → declares first m → first_fault' second found → IsUnless SECOND_REFUSED status
 
-abbrev pub IsSameAnswer : Option FileFormat → Option FileFormat → List ℕ → List ℕ → ℕ → MpslpFault → MpslpFault → Type 0
+abbrev pub IsSameAnswer : Option Form → Option Form → List ℕ → List ℕ → ℕ → MpslpFault → MpslpFault → Type 0
 IsSameAnswer (Some one) (Some other) first second status fault fault' =
     IsCompared (declares_in one) (first_fault_in one) (declares_in other) (first_fault_in other) first second status fault fault'
 IsSameAnswer _ _ first second status fault fault' = (status ≡ UNKNOWN_FORMAT) × (fault' ≡ fault)
@@ -118,7 +118,7 @@ pub record IsTested (declares : Declares) (first_fault : HasFirstFault) (text : 
   pub accepts : (m : LinearModel) → declares bytes m → IsTruthUnless status
   pub refuses : (found : Fault) → first_fault bytes found → IsUnless REFUSED status
 
-abbrev pub IsTestAnswer : Option FileFormat → List ℕ → ℕ → MpslpFault → MpslpFault → Type 0
+abbrev pub IsTestAnswer : Option Form → List ℕ → ℕ → MpslpFault → MpslpFault → Type 0
 IsTestAnswer (Some file_format) bytes status fault fault' =
     IsTested (declares_in file_format) (first_fault_in file_format) (text_in file_format) bytes status fault fault'
 IsTestAnswer None bytes status fault fault' = (status ≡ UNKNOWN_FORMAT) × (fault' ≡ fault)
@@ -132,7 +132,7 @@ pub record IsLoaded (declares : Declares) (first_fault : HasFirstFault) (bytes :
   pub accepts : (m : LinearModel) → declares bytes m → IsUnless OK status
   pub refuses : (found : Fault) → first_fault bytes found → IsUnless REFUSED status
 
-abbrev pub IsLoadAnswer : Option FileFormat → List ℕ → ℕ → MpslpModel → MpslpModel → MpslpFault → MpslpFault → Type 0
+abbrev pub IsLoadAnswer : Option Form → List ℕ → ℕ → MpslpModel → MpslpModel → MpslpFault → MpslpFault → Type 0
 IsLoadAnswer (Some file_format) bytes status out out' fault fault' =
     IsLoaded (declares_in file_format) (first_fault_in file_format) bytes status out out' fault fault'
 IsLoadAnswer None bytes status out out' fault fault' = (status ≡ UNKNOWN_FORMAT) × (out' ≡ out) × (fault' ≡ fault)
@@ -192,7 +192,7 @@ pub record IsStored (unfit : Unfit) (text : TextOf) (arrays : MpslpModel) (statu
   pub refuses : (why : StoreFault) → HasFault arrays why → IsUnless REFUSED status
   pub cannot_express : (m : LinearModel) (place : NameAt) → Defines arrays m → unfit m ≡ Some place → IsUnless NOT_LP status
 
-abbrev pub IsStoreAnswer : Option FileFormat → MpslpModel → ℕ → MpslpText → MpslpText → MpslpFault → MpslpFault → Type 0
+abbrev pub IsStoreAnswer : Option Form → MpslpModel → ℕ → MpslpText → MpslpText → MpslpFault → MpslpFault → Type 0
 IsStoreAnswer (Some to) arrays status out out' fault fault' = IsStored (unfit_in to) (text_in to) arrays status out out' fault fault'
 IsStoreAnswer None arrays status out out' fault fault' = (status ≡ UNKNOWN_FORMAT) × (out' ≡ out) × (fault' ≡ fault)
 

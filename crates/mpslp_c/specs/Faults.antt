@@ -4,8 +4,8 @@ use Rattle.mpslp_types.specs.FaultName.{kind_name}
 use Rattle.mpslp_types.specs.declared.faults.Fault.{Fault}
 use Rattle.mpslp_types.specs.declared.faults.NameAt.{NameAt}
 use Rattle.mpslp_types.specs.declared.faults.NameAt.TheVariants.{Objective, Row, Column}
-use Rattle.mpslp_convert.specs.declared.faults.ConvertFault.{ConvertFault}
-use Rattle.mpslp_convert.specs.declared.faults.ConvertFault.TheVariants.{First, Second, NotLp, OutOfMemory}
+use Rattle.mpslp_conversions.specs.declared.faults.ConvertFault.{ConvertFault}
+use Rattle.mpslp_conversions.specs.declared.faults.ConvertFault.TheVariants.{First, Second, NotLp, OutOfMemory}
 use Rattle.mpslp_c.specs.declared.faults.ItemFault.{ItemFault}
 use Rattle.mpslp_c.specs.declared.faults.MpslpFault.{MpslpFault}
 use Rattle.mpslp_c.specs.declared.faults.StoreFault.{StoreFault}

@@ -2,8 +2,8 @@
 use Rattle.std.specs.Prelude.{◌≡◌, ℕ, List, Vec, Ok}
 use Rattle.std.specs.declared.alloc.Global.{Global}
 use Rattle.mpslp_model_core.specs.Model.{LinearModel, IsSound}
-use Rattle.mpslp_jobs.specs.declared.jobs.FileFormat.{FileFormat}
-use Rattle.mpslp_run_jobs.specs.Performed.{declares_in, first_fault_in, unfit_in, text_in}
+use Rattle.mpslp_jobs.specs.declared.jobs.Form.{Form}
+use Rattle.mpslp_convert.specs.Performed.{declares_in, first_fault_in, unfit_in, text_in}
 use Rattle.mpslp_c.specs.Arrays.{RepresentsModel}
 use Rattle.mpslp_c.specs.Stored.{Defines}
 use Rattle.mpslp_c.specs.Answers.{IsLoading, IsStoring}
@@ -16,5 +16,5 @@ DefineTheirModels = (m : LinearModel) (arrays : MpslpModel) → IsSound m → Re
 -- What is loaded from bytes and stored in a format is the canonical text of the model that the bytes declare.
 abbrev pub AreStoredAsTheirTexts : Type 0
 AreStoredAsTheirTexts =
-    (from to : FileFormat) (bytes : List ℕ) (m : LinearModel) (arrays : MpslpModel) (text : Vec ℕ Global) → declares_in from bytes m → IsLoading (declares_in from) (first_fault_in from) bytes (Ok arrays)
+    (from to : Form) (bytes : List ℕ) (m : LinearModel) (arrays : MpslpModel) (text : Vec ℕ Global) → declares_in from bytes m → IsLoading (declares_in from) (first_fault_in from) bytes (Ok arrays)
     → IsStoring (unfit_in to) (text_in to) arrays (Ok text) → text.items ≡ text_in to m

@@ -3,7 +3,7 @@
 ghost use Rattle.std.specs.Prelude.{◌≡◌};
 ghost use Rattle.mpslp_c.specs.Answers.{fault_status, truth_status};
 
-use mpslp_convert::ConvertFault;
+use mpslp_conversions::ConvertFault;
 
 /// Done; or yes.
 pub(crate) const OK: u32 = 0;

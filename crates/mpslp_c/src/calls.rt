@@ -7,7 +7,7 @@ ghost use Rattle.mpslp_c.specs.Answers.{format_of, IsCanonicalAnswer, IsSameAnsw
 use crate::answers::{OK, UNKNOWN_FORMAT, fault_status, truth_status};
 use crate::faults::{MpslpFault, set_fault};
 use crate::texts::{canonical_for_c, format_of, is_canonical_for_c, same_for_c};
-use mpslp_convert::ConvertFault;
+use mpslp_conversions::ConvertFault;
 use mpslp_model::HashSeed;
 use std::alloc::Global;
 

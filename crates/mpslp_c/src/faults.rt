@@ -3,7 +3,7 @@
 ghost use Rattle.std.specs.Prelude.{◌≡◌, ◌++◌, [], length, drop, codes};
 ghost use Rattle.mpslp_c.specs.Faults.{HasFields, RepresentsFault, RepresentsPlace, RepresentsItem, IsFaultSet, IsStoreFaultSet};
 
-use mpslp_convert::ConvertFault;
+use mpslp_conversions::ConvertFault;
 use mpslp_model::laws::each_name_is_legal;
 use mpslp_model::{Fault, FaultKind, MAX_NAME_LEN, Name, NameAt};
 

@@ -3,18 +3,18 @@
 ghost use Rattle.std.specs.Prelude.{◌≡◌, IsOkUnless};
 ghost use Rattle.mpslp_model_core.specs.Model.{LinearModel};
 ghost use Rattle.mpslp_types.specs.declared.faults.Fault.{Fault};
-ghost use Rattle.mpslp_convert.specs.Conversions.{IsErrUnless};
-ghost use Rattle.mpslp_run_jobs.specs.Performed.{declares_in, first_fault_in};
+ghost use Rattle.mpslp_conversions.specs.Conversions.{IsErrUnless};
+ghost use Rattle.mpslp_convert.specs.Performed.{declares_in, first_fault_in};
 ghost use Rattle.mpslp_c.specs.Answers.{format_of, IsLoading, IsModelReturned, IsLoadAnswer};
 
 use crate::answers::{OK, UNKNOWN_FORMAT, fault_status};
 use crate::arrays::{MpslpModel, c_model};
 use crate::faults::{MpslpFault, set_fault};
 use crate::texts::format_of;
-use mpslp_convert::{ConvertFault, model_of};
-use mpslp_formats::{Lp, Mps};
-use mpslp_jobs::FileFormat;
+use mpslp_conversions::{ConvertFault, model_of};
+use mpslp_jobs::Form;
 use mpslp_model::{Format, HashSeed};
+use mpslp_write::{Lp, Mps};
 use std::alloc::Global;
 
 /// The arrays of the model that the bytes define.
@@ -39,7 +39,7 @@ fn arrays_of<A: Format>(
 fn arrays_in(
     alloc: Global,
     seed: HashSeed,
-    file_format: FileFormat,
+    file_format: Form,
     bytes: &[u8],
 ) -> Result<MpslpModel, ConvertFault>
     ensures answer { IsLoading (declares_in file_format) (first_fault_in file_format) bytes.now result }
@@ -48,8 +48,8 @@ fn arrays_in(
         → IsErrUnless result (ConvertFault.First fault) ConvertFault.OutOfMemory }
 {
     match file_format {
-        FileFormat::Mps => arrays_of::<Mps>(alloc, seed, bytes),
-        FileFormat::Lp => arrays_of::<Lp>(alloc, seed, bytes),
+        Form::Mps => arrays_of::<Mps>(alloc, seed, bytes),
+        Form::Lp => arrays_of::<Lp>(alloc, seed, bytes),
     }
 }
 

@@ -4,8 +4,8 @@ ghost use Rattle.std.specs.Prelude.{◌≡◌, ◌+◌, ◌<◌, ◌≤◌, None
 ghost use Rattle.mpslp_model_core.specs.Model.{LinearModel};
 ghost use Rattle.mpslp_types.specs.declared.faults.NameAt.{NameAt};
 ghost use Rattle.mpslp_builder.specs.Declaration.{Draft};
-ghost use Rattle.mpslp_convert.specs.Conversions.{IsErrUnless};
-ghost use Rattle.mpslp_run_jobs.specs.Performed.{unfit_in, text_in};
+ghost use Rattle.mpslp_conversions.specs.Conversions.{IsErrUnless};
+ghost use Rattle.mpslp_convert.specs.Performed.{unfit_in, text_in};
 ghost use Rattle.mpslp_c.specs.Stored.{TakesSteps, placed, row_items, element_items, own_items, elements_end, column_items, first_column_steps, items, Defines};
 ghost use Rattle.mpslp_c.specs.Answers.{format_of, TakesItems, HasFault, IsStoredModel, IsStoring, IsStoreReturned, IsStoreAnswer, store_status};
 
@@ -20,12 +20,12 @@ use crate::stored_items::{
     declare_stored_row,
 };
 use crate::texts::format_of;
-use mpslp_convert::{ConvertFault, text_of};
-use mpslp_formats::{Lp, Mps};
-use mpslp_jobs::FileFormat;
+use mpslp_conversions::{ConvertFault, text_of};
+use mpslp_jobs::Form;
 use mpslp_lines::LineError;
 use mpslp_model::laws::each_builder_is_made;
 use mpslp_model::{Builder, FaultKind, Format, HashSeed, Model, ReadFault};
+use mpslp_write::{Lp, Mps};
 use std::alloc::Global;
 
 /// The result of an item, with its place if it has an error.
@@ -193,7 +193,7 @@ pub(crate) fn stored_model(
     ensures accepts { (m : LinearModel) → Defines model.now m → IsOkUnless result StoreFault.OutOfMemory }
     ensures refuses { (why : StoreFault) → HasFault model.now why → IsErrUnless result why StoreFault.OutOfMemory }
 {
-    let mut builder = Builder::new(alloc, seed);
+    let mut builder = Builder::new_seeded(alloc, seed);
     declare_items(alloc, model, &mut builder)?;
     each_builder_is_made(&builder);
     match builder.finish() {
@@ -228,7 +228,7 @@ fn stored_text<B: Format>(
 fn stored_text_in(
     alloc: Global,
     seed: HashSeed,
-    to: FileFormat,
+    to: Form,
     model: &MpslpModel,
 ) -> Result<Vec<u8>, StoreFault>
     ensures answer { IsStoring (unfit_in to) (text_in to) model.now result }
@@ -238,8 +238,8 @@ fn stored_text_in(
         → IsErrUnless result (StoreFault.NotLp place) StoreFault.OutOfMemory }
 {
     match to {
-        FileFormat::Mps => stored_text::<Mps>(alloc, seed, model),
-        FileFormat::Lp => stored_text::<Lp>(alloc, seed, model),
+        Form::Mps => stored_text::<Mps>(alloc, seed, model),
+        Form::Lp => stored_text::<Lp>(alloc, seed, model),
     }
 }
 

@@ -4,23 +4,23 @@ ghost use Rattle.std.specs.Prelude.{◌≡◌, None, Some, IsOkUnless};
 ghost use Rattle.mpslp_model_core.specs.Model.{LinearModel};
 ghost use Rattle.mpslp_types.specs.declared.faults.Fault.{Fault};
 ghost use Rattle.mpslp_types.specs.declared.faults.NameAt.{NameAt};
-ghost use Rattle.mpslp_convert.specs.Conversions.{IsConversion, IsComparison, IsTestOfText, IsErrUnless};
-ghost use Rattle.mpslp_run_jobs.specs.Performed.{declares_in, first_fault_in, unfit_in, text_in};
+ghost use Rattle.mpslp_conversions.specs.Conversions.{IsConversion, IsComparison, IsTestOfText, IsErrUnless};
+ghost use Rattle.mpslp_convert.specs.Performed.{declares_in, first_fault_in, unfit_in, text_in};
 ghost use Rattle.mpslp_c.specs.Answers.{format_of};
 
-use mpslp_convert::{ConvertFault, canonical, is_canonical, same_model};
-use mpslp_formats::{Lp, Mps};
-use mpslp_jobs::FileFormat;
+use mpslp_conversions::{ConvertFault, canonical_seeded, is_canonical_seeded, same_model_seeded};
+use mpslp_jobs::Form;
 use mpslp_model::HashSeed;
+use mpslp_write::{Lp, Mps};
 use std::alloc::Global;
 
 /// The format of a number.
-pub(crate) fn format_of(number: u32) -> Option<FileFormat>
+pub(crate) fn format_of(number: u32) -> Option<Form>
     ensures { result ≡ format_of number }
 {
     match number {
-        0 => Some(FileFormat::Mps),
-        1 => Some(FileFormat::Lp),
+        0 => Some(Form::Mps),
+        1 => Some(Form::Lp),
         _ => None,
     }
 }
@@ -29,8 +29,8 @@ pub(crate) fn format_of(number: u32) -> Option<FileFormat>
 pub(crate) fn canonical_for_c(
     alloc: Global,
     seed: HashSeed,
-    from: FileFormat,
-    to: FileFormat,
+    from: Form,
+    to: Form,
     bytes: &[u8],
 ) -> Result<Vec<u8>, ConvertFault>
     ensures answer { IsConversion (declares_in from) (first_fault_in from) (unfit_in to) (text_in to) bytes.now result }
@@ -42,10 +42,10 @@ pub(crate) fn canonical_for_c(
         → IsErrUnless result (ConvertFault.NotLp place) ConvertFault.OutOfMemory }
 {
     match (from, to) {
-        (FileFormat::Mps, FileFormat::Mps) => canonical::<Mps, Mps>(alloc, seed, bytes),
-        (FileFormat::Mps, FileFormat::Lp) => canonical::<Mps, Lp>(alloc, seed, bytes),
-        (FileFormat::Lp, FileFormat::Mps) => canonical::<Lp, Mps>(alloc, seed, bytes),
-        (FileFormat::Lp, FileFormat::Lp) => canonical::<Lp, Lp>(alloc, seed, bytes),
+        (Form::Mps, Form::Mps) => canonical_seeded::<Mps, Mps>(alloc, seed, bytes),
+        (Form::Mps, Form::Lp) => canonical_seeded::<Mps, Lp>(alloc, seed, bytes),
+        (Form::Lp, Form::Mps) => canonical_seeded::<Lp, Mps>(alloc, seed, bytes),
+        (Form::Lp, Form::Lp) => canonical_seeded::<Lp, Lp>(alloc, seed, bytes),
     }
 }
 
@@ -53,9 +53,9 @@ pub(crate) fn canonical_for_c(
 pub(crate) fn same_for_c(
     alloc: Global,
     seed: HashSeed,
-    first_file_format: FileFormat,
+    first_file_format: Form,
     first: &[u8],
-    second_file_format: FileFormat,
+    second_file_format: Form,
     second: &[u8],
 ) -> Result<bool, ConvertFault>
     ensures answer { IsComparison (declares_in first_file_format) (first_fault_in first_file_format)
@@ -68,10 +68,10 @@ pub(crate) fn same_for_c(
         → IsErrUnless result (ConvertFault.Second fault) ConvertFault.OutOfMemory }
 {
     match (first_file_format, second_file_format) {
-        (FileFormat::Mps, FileFormat::Mps) => same_model::<Mps, Mps>(alloc, seed, first, second),
-        (FileFormat::Mps, FileFormat::Lp) => same_model::<Mps, Lp>(alloc, seed, first, second),
-        (FileFormat::Lp, FileFormat::Mps) => same_model::<Lp, Mps>(alloc, seed, first, second),
-        (FileFormat::Lp, FileFormat::Lp) => same_model::<Lp, Lp>(alloc, seed, first, second),
+        (Form::Mps, Form::Mps) => same_model_seeded::<Mps, Mps>(alloc, seed, first, second),
+        (Form::Mps, Form::Lp) => same_model_seeded::<Mps, Lp>(alloc, seed, first, second),
+        (Form::Lp, Form::Mps) => same_model_seeded::<Lp, Mps>(alloc, seed, first, second),
+        (Form::Lp, Form::Lp) => same_model_seeded::<Lp, Lp>(alloc, seed, first, second),
     }
 }
 
@@ -79,7 +79,7 @@ pub(crate) fn same_for_c(
 pub(crate) fn is_canonical_for_c(
     alloc: Global,
     seed: HashSeed,
-    file_format: FileFormat,
+    file_format: Form,
     bytes: &[u8],
 ) -> Result<bool, ConvertFault>
     ensures answer { IsTestOfText (declares_in file_format) (first_fault_in file_format) (text_in file_format) bytes.now result }
@@ -88,7 +88,7 @@ pub(crate) fn is_canonical_for_c(
         → IsErrUnless result (ConvertFault.First fault) ConvertFault.OutOfMemory }
 {
     match file_format {
-        FileFormat::Mps => is_canonical::<Mps>(alloc, seed, bytes),
-        FileFormat::Lp => is_canonical::<Lp>(alloc, seed, bytes),
+        Form::Mps => is_canonical_seeded::<Mps>(alloc, seed, bytes),
+        Form::Lp => is_canonical_seeded::<Lp>(alloc, seed, bytes),
     }
 }

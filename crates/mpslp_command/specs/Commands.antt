@@ -1,20 +1,20 @@
 -- The commands, as arguments.
 use Rattle.std.specs.Prelude.{◌≡◌, ℕ, Bool, false, not, ◌||◌, ◌&&◌, ◌==◌, if◌then◌else◌, List, [], ◌∷◌, Option, Some, None, codes}
 use Rattle.std.specs.Str.{bytes_eq}
-use Rattle.mpslp_jobs.specs.declared.jobs.FileFormat.{FileFormat}
-use Rattle.mpslp_jobs.specs.declared.jobs.FileFormat.TheVariants.{Mps, Lp}
+use Rattle.mpslp_jobs.specs.declared.jobs.Form.{Form}
+use Rattle.mpslp_jobs.specs.declared.jobs.Form.TheVariants.{Mps, Lp}
 use Rattle.mpslp_jobs.specs.declared.jobs.Job.{Job}
 use Rattle.mpslp_jobs.specs.declared.jobs.Job.TheVariants.{Canon, Same, Show}
 use Rattle.mpslp_jobs.specs.declared.jobs.JobFault.{JobFault}
 use Rattle.mpslp_jobs.specs.declared.jobs.JobFault.TheVariants.{Help, Usage, UnknownFormat, BothInputs, OutOfMemory}
 
 -- the name of a format
-abbrev pub format_text : FileFormat → List ℕ
+abbrev pub format_text : Form → List ℕ
 format_text Mps = codes "mps"
 format_text Lp = codes "lp"
 
 -- the format with this name
-abbrev pub format_of : List ℕ → Option FileFormat
+abbrev pub format_of : List ℕ → Option Form
 format_of word = if bytes_eq word (codes "mps") then Some Mps else (if bytes_eq word (codes "lp") then Some Lp else None)
 
 -- the command of a job

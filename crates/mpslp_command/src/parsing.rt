@@ -7,7 +7,7 @@ ghost use Rattle.mpslp_command.specs.Commands.{format_text, format_of, words_of,
 use crate::usage::command;
 use clap::error::ErrorKind;
 use clap::{ArgMatches, Error};
-use mpslp_jobs::{FileFormat, Job, JobFault, OwnedText};
+use mpslp_jobs::{Form, Job, JobFault, Word};
 use std::alloc::Global;
 
 /// Returns the job of the arguments after the program's name.
@@ -51,7 +51,7 @@ fn refusal(alloc: Global, error: Error) -> JobFault
         return JobFault::OutOfMemory;
     }
     let text = match error.to_string(alloc) {
-        Ok(text) => OwnedText::of(text),
+        Ok(text) => Word::of(text),
         Err(_) => return JobFault::OutOfMemory,
     };
     if error.use_stderr() {
@@ -65,7 +65,7 @@ fn refusal(alloc: Global, error: Error) -> JobFault
 fn unlike(alloc: Global) -> JobFault
     ensures { IsNamedRightly result }
 {
-    match OwnedText::new(alloc, "error: not a command of mpslp\n") {
+    match Word::new(alloc, "error: not a command of mpslp\n") {
         Ok(text) => JobFault::Usage(text),
         Err(fault) => fault,
     }
@@ -118,42 +118,42 @@ fn text_at<'a>(words: &ArgMatches<'a>, id: &str) -> &'a str {
     words.get_str(id).unwrap_or("")
 }
 
-fn word_at(alloc: Global, words: &ArgMatches<'_>, id: &str) -> Result<OwnedText, JobFault>
+fn word_at(alloc: Global, words: &ArgMatches<'_>, id: &str) -> Result<Word, JobFault>
     ensures { IfErr result IsNamedRightly }
 {
-    OwnedText::new(alloc, text_at(words, id))
+    Word::new(alloc, text_at(words, id))
 }
 
-fn format_at(alloc: Global, words: &ArgMatches<'_>, id: &str) -> Result<FileFormat, JobFault>
+fn format_at(alloc: Global, words: &ArgMatches<'_>, id: &str) -> Result<Form, JobFault>
     ensures { IfErr result IsNamedRightly }
 {
     let word = text_at(words, id);
     match format_named(word) {
         Some(format) => Ok(format),
-        None => Err(JobFault::UnknownFormat(OwnedText::new(alloc, word)?)),
+        None => Err(JobFault::UnknownFormat(Word::new(alloc, word)?)),
     }
 }
 
 /// The format with this name.
-fn format_named(word: &str) -> Option<FileFormat>
+fn format_named(word: &str) -> Option<Form>
     ensures { result ≡ format_of word.now }
 {
     if word == "mps" {
-        Some(FileFormat::Mps)
+        Some(Form::Mps)
     } else if word == "lp" {
-        Some(FileFormat::Lp)
+        Some(Form::Lp)
     } else {
         None
     }
 }
 
 /// The name of a format.
-fn name_of(format: FileFormat) -> &'static str
+fn name_of(format: Form) -> &'static str
     ensures { result.now ≡ format_text format }
 {
     match format {
-        FileFormat::Mps => "mps",
-        FileFormat::Lp => "lp",
+        Form::Mps => "mps",
+        Form::Lp => "lp",
     }
 }
 

@@ -1,27 +1,21 @@
-//! Conversions between any two formats of model files, apart from the formats so that they are proved beside the readers.
+//! Conversions between MPS and LP, and the jobs of the program.
 //!
-//! Everything is generic over the traits of formats, sources and sinks, and proved once for all that meet their contracts:
-//! [`canonical`], [`same_model`] and [`is_canonical`] for bytes in memory; [`load`], [`run`] and [`show`] between a source and a
-//! sink, [`read_text`] for a source of which only the model is wanted, with [`report`] and [`line_of`] for errors. The crate knows
-//! no format and no device.
+//! [`canonical`], [`same_model`] and [`is_canonical`] are for bytes in memory; [`load`], [`run`] and [`show`] are between a source
+//! and a sink, with [`report`] and [`line_of`] for errors. They are for any two formats, such as `Mps` and `Lp` of mpslp_write.
+//! [`job`] makes a job of the program's arguments, and [`perform`] does it.
+//!
+//! Each call that needs a seed for the hashes of names has a form with a seed, such as [`canonical_seeded`]. This crate re-exports
+//! what users need of the crates below it.
 #![tactic(auto)]
 
-mod collecting_sink;
-mod comparing_sink;
-mod conversion;
-mod counting_sink;
-mod fault_line;
-mod faults;
-mod fed_model;
+mod job_end;
+mod job_runner;
 pub mod laws;
-mod shown_source;
-mod shown_text;
-mod shown_words;
-mod source_to_sink;
 
-pub use conversion::{canonical, is_canonical, model_of, same_model, text_of};
-pub use fault_line::{Line, line_of, report};
-pub use faults::{ConvertFault, RunFault};
-pub use fed_model::read_text;
-pub use shown_source::show;
-pub use source_to_sink::{load, run};
+pub use job_runner::{perform, perform_seeded};
+pub use mpslp_command::job;
+pub use mpslp_conversions::{
+    ConvertFault, Line, RunFault, canonical, canonical_seeded, is_canonical, is_canonical_seeded,
+    line_of, load, report, run, run_seeded, same_model, same_model_seeded, show, show_seeded,
+};
+pub use mpslp_jobs::{Form, Job, JobFault, Word};

@@ -1,10 +1,10 @@
 //! Jobs, and why arguments give none.
 
-use crate::owned_text::OwnedText;
+use crate::words::Word;
 
 /// A format of model files, as the command line names it: `mps` or `lp`.
 #[derive(Clone, Copy, Debug, PartialEq, Eq)]
-pub enum FileFormat {
+pub enum Form {
     Mps,
     Lp,
 }
@@ -15,22 +15,22 @@ pub enum Job {
     /// Write the canonical text of a file in a format.
     Canon {
         /// The format of the file.
-        from: FileFormat,
+        from: Form,
         /// The format of the text.
-        to: FileFormat,
-        path: OwnedText,
+        to: Form,
+        path: Word,
     },
     /// Compare two files: whether they declare the same model. At most one of them is standard input.
     Same {
-        first_format: FileFormat,
-        first: OwnedText,
-        second_format: FileFormat,
-        second: OwnedText,
+        first_format: Form,
+        first: Word,
+        second_format: Form,
+        second: Word,
     },
     /// Show the model of a file.
     Show {
-        from: FileFormat,
-        path: OwnedText,
+        from: Form,
+        path: Word,
     },
 }
 
@@ -39,11 +39,11 @@ pub enum Job {
 #[derive(Debug, Drop)]
 pub enum JobFault {
     /// Help or the version was requested: this is its text.
-    Help(OwnedText),
+    Help(Word),
     /// The arguments are not a command: this text says why.
-    Usage(OwnedText),
+    Usage(Word),
     /// This argument is not the name of a format.
-    UnknownFormat(OwnedText),
+    UnknownFormat(Word),
     /// Both files of a comparison are standard input.
     BothInputs,
     /// An allocation failed.

@@ -5,7 +5,7 @@
 #![tactic(auto)]
 
 mod jobs;
-mod owned_text;
+mod words;
 
-pub use jobs::{FileFormat, Job, JobFault};
-pub use owned_text::OwnedText;
+pub use jobs::{Form, Job, JobFault};
+pub use words::Word;

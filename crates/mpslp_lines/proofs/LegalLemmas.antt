@@ -11,14 +11,14 @@ bit_of b = cond b 1 0
 abbrev pub lanes_by : (ℕ → ℕ → Bool) → List ℕ → ℕ → ℕ → ℕ
 lanes_by t text at y = mask_l (map (λ x. t x y) (chunk at 16 text))
 
-pub lane-bit : (t : ℕ → ℕ → Bool) (text : List ℕ) (at y k : ℕ) → at + 16 ≤ length text → k < 16
+lane-bit : (t : ℕ → ℕ → Bool) (text : List ℕ) (at y k : ℕ) → at + 16 ≤ length text → k < 16
     → bit_at (lanes_by t text at y) k ≡ bit_of (t (slice_index text (at + k)) y)
 lane-bit t text at y k within below =
     bit_mask_l _ k
     ∙ ap bit_of (get_or-map (λ x. t x y) _ k 0 false (omega (arith, length-chunk at 16 text within))
     ∙ ap (λ x. t x y) (get_or-chunk at 16 text k 0 below))
 
-pub same-bits : (a b : Bool) → bit_of a ≡ bit_of b → a ≡ b
+same-bits : (a b : Bool) → bit_of a ≡ bit_of b → a ≡ b
 same-bits = grind arith
 
 legal-byte : (byte : ℕ) → leb byte 126 ≡ true → ltb byte 32 ≡ eqb byte 9 → is_legal_byte byte ≡ true

@@ -1,6 +1,5 @@
 pub mod FaultTests
 pub mod LegalLanes
-pub mod LineFeeds
 pub mod Declaring
 pub mod ErrorOf
 pub mod LineAnswer

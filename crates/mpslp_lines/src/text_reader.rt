@@ -41,7 +41,7 @@ impl<L: ReadLines> ModelReader for TextReader<L> {
 
     ghost early_fault = { IsFaultOfComplete L.lines_fault };
 
-    fn new(alloc: Global, seed: HashSeed) -> TextReader<L> {
+    fn new_seeded(alloc: Global, seed: HashSeed) -> TextReader<L> {
         TextReader {
             pieces: Some(PieceReader::new(alloc, seed)),
             alloc,

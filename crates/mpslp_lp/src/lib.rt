@@ -24,4 +24,4 @@ mod reading;
 pub use mpslp_lines::MAX_LINE_LEN;
 pub use mpslp_lp_tokens::{Section, Token, TokenKind, Tokens, next_token, tokens_of};
 pub use reader::LpReader;
-pub use reading::read_lp;
+pub use reading::{read_lp, read_lp_seeded};

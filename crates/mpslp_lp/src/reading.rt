@@ -3,7 +3,7 @@
 ghost use Rattle.mpslp_lp.specs.ReadAnswer.{ReadsLp};
 
 use crate::reader::LpReader;
-use mpslp_model::{HashSeed, Model, ReadFault, read_whole};
+use mpslp_model::{FIXED_SEED, HashSeed, Model, ReadFault, read_whole_seeded};
 use std::alloc::Global;
 
 /// Reads the model that an LP text declares.
@@ -18,8 +18,15 @@ use std::alloc::Global;
 /// lines and tokens have wherever they are come first, the least in the order of [`FaultKind`]; then the first token that
 /// causes an error decides. If no line has an error, the error is `MissingEnd`, or that of [`Builder::finish`] for the whole
 /// file, on line 0. `OutOfMemory` if an allocation fails. Never `Failed`.
-pub fn read_lp(alloc: Global, seed: HashSeed, text: &[u8]) -> Result<Model, ReadFault>
+pub fn read_lp(alloc: Global, text: &[u8]) -> Result<Model, ReadFault>
     ensures { ReadsLp text.now result }
 {
-    read_whole::<LpReader>(alloc, seed, text)
+    read_lp_seeded(alloc, FIXED_SEED, text)
+}
+
+/// As [`read_lp`], with a seed for the hashes of names. Only the time of the call depends on the seed.
+pub fn read_lp_seeded(alloc: Global, seed: HashSeed, text: &[u8]) -> Result<Model, ReadFault>
+    ensures { ReadsLp text.now result }
+{
+    read_whole_seeded::<LpReader>(alloc, seed, text)
 }

@@ -95,7 +95,7 @@ impl LpBuilder {
             alloc,
             seed,
             builder: ReaderBuilder {
-                draft: Builder::new(alloc, seed),
+                draft: Builder::new_seeded(alloc, seed),
             },
             rows: 0,
             spare: None,
@@ -227,7 +227,8 @@ impl LpBuilder {
         requires { IsMpsName column.now }
         ensures { Declares self.old (term_declared row.now (column.now, value)) result self.new }
     {
-        self.builder.row_term(row, column, value)?;
+        let name = self.copied(column)?;
+        self.builder.row_term(row, name, value)?;
         Ok(())
     }
 

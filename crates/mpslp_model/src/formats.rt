@@ -9,7 +9,7 @@ ghost use Rattle.mpslp_types.specs.declared.faults.NameAt.{NameAt};
 use crate::readers::ModelReader;
 use mpslp_io::Sink;
 use mpslp_model_core::Model;
-use mpslp_types::{HashSeed, ReadFault, WriteFault};
+use mpslp_types::{FIXED_SEED, HashSeed, ReadFault, WriteFault};
 use std::alloc::{AllocError, Global};
 
 /// A format of model files: how its bytes are read, how a model is written, and the laws that connect both. What is proved
@@ -30,12 +30,19 @@ pub trait Format {
     /// The reader that takes a text in pieces.
     type Reader: ModelReader;
 
-    /// Returns the model that the bytes declare. Only the time of the call depends on the seed.
+    /// Returns the model that the bytes declare.
     ///
     /// # Errors
     ///
     /// `File` with the first error of bytes that declare no model; `OutOfMemory`. Never [`Failed`](ReadFault::Failed).
-    fn read(alloc: Global, seed: HashSeed, bytes: &[u8]) -> Result<Model, ReadFault>
+    fn read(alloc: Global, bytes: &[u8]) -> Result<Model, ReadFault>
+        ensures { IsAnswerTo declares first_fault bytes.now result }
+    {
+        Self::read_seeded(alloc, FIXED_SEED, bytes)
+    }
+
+    /// As [`read`](Format::read), with a seed for the hashes of names. Only the time of the call depends on the seed.
+    fn read_seeded(alloc: Global, seed: HashSeed, bytes: &[u8]) -> Result<Model, ReadFault>
         ensures { IsAnswerTo declares first_fault bytes.now result };
 
     /// Whether all names of the model are legal in the format.

@@ -22,4 +22,4 @@ pub use mpslp_types::{
     BuildFault, FIXED_SEED, Fault, FaultKind, HashSeed, Kind, Limit, MAX_NAME_LEN, Name, NameAt,
     NameFault, ReadFault, RowType, Sense, WriteFault,
 };
-pub use readers::{ModelReader, read_whole};
+pub use readers::{ModelReader, read_whole_seeded};

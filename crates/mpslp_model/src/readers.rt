@@ -7,7 +7,7 @@ ghost use Rattle.mpslp_model.specs.Readers.{IsFedBy};
 ghost use Rattle.mpslp_types.specs.declared.faults.Fault.{Fault};
 
 use mpslp_model_core::Model;
-use mpslp_types::{HashSeed, ReadFault};
+use mpslp_types::{FIXED_SEED, HashSeed, ReadFault};
 use std::alloc::Global;
 
 /// A reader that takes the bytes of a text in pieces of any length, and does not keep bytes that it has read. How the text is
@@ -28,8 +28,17 @@ pub trait ModelReader: Drop {
     /// The complete lines of these bytes have an error, and this is the first one.
     ghost early_fault: { List ℕ → Fault → Type 0 };
 
-    /// A reader without input. Allocates nothing. Only the time of its calls depends on the seed.
-    fn new(alloc: Global, seed: HashSeed) -> Self
+    /// A reader without input. Allocates nothing.
+    fn new(alloc: Global) -> Self
+    where
+        Self: Sized,
+        ensures { after result [] }
+    {
+        Self::new_seeded(alloc, FIXED_SEED)
+    }
+
+    /// As [`new`](ModelReader::new), with a seed for the hashes of names. Only the time of the reader's calls depends on the seed.
+    fn new_seeded(alloc: Global, seed: HashSeed) -> Self
         ensures { after result [] };
 
     /// Reads the next piece of the text.
@@ -74,19 +83,20 @@ pub trait ModelReader: Drop {
     ghost early_is_first: { (bytes more : List ℕ) (fault : Fault) → early_fault bytes fault → first_fault (bytes ++ more) fault };
 }
 
-/// Returns the model that a whole text declares, or its first error. The text is read as one piece.
+/// Returns the model that a whole text declares, or its first error. The text is read as one piece. Only the time of the call
+/// depends on the seed.
 ///
 /// # Errors
 ///
 /// `File` with the first error; `OutOfMemory` if an allocation fails. Never `Failed`.
-pub fn read_whole<P: ModelReader>(
+pub fn read_whole_seeded<P: ModelReader>(
     alloc: Global,
     seed: HashSeed,
     bytes: &[u8],
 ) -> Result<Model, ReadFault>
     ensures { IsAnswerTo P.declares P.first_fault bytes.now result }
 {
-    let mut reader = P::new(alloc, seed);
+    let mut reader = P::new_seeded(alloc, seed);
     reader.feed(bytes)?;
     reader.finish()
 }

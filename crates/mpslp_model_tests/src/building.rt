@@ -14,7 +14,7 @@ use calls::{built, first_other_answer, named};
 use mpslp_builder::Builder;
 use mpslp_decimal::{Decimal, DecimalText};
 use mpslp_model_core::Model;
-use mpslp_types::{BuildFault, FIXED_SEED, Fault, FaultKind, Kind, Limit, ReadFault, Sense};
+use mpslp_types::{BuildFault, Fault, FaultKind, Kind, Limit, ReadFault, Sense};
 use std::alloc::{AllocError, Global};
 use std::cmp::Ordering;
 use std::test::Fail;
@@ -319,7 +319,7 @@ marked z";
 
 /// The first of these calls of one builder with another result, or whose query has another one.
 fn first_other_answer_of<'a>(alloc: Global, lines: &'a str) -> Option<&'a str> {
-    let mut builder = Builder::new(alloc, FIXED_SEED);
+    let mut builder = Builder::new(alloc);
     first_other_answer(&mut builder, alloc, lines)
 }
 
@@ -334,7 +334,7 @@ fn knows_its_names(builder: &mut Builder) -> bool {
 /// What a builder returns for the calls of `ANSWERS`: whether it has an objective before them, the first of them with another
 /// result, and whether it knows their names after them.
 fn outcome_of_answers(alloc: Global) -> (bool, Option<&'static str>, bool) {
-    let mut builder = Builder::new(alloc, FIXED_SEED);
+    let mut builder = Builder::new(alloc);
     let had_objective = builder.has_objective();
     let other = first_other_answer(&mut builder, alloc, ANSWERS);
     (had_objective, other, knows_its_names(&mut builder))

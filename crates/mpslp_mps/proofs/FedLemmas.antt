@@ -12,10 +12,14 @@ use Prelude.{current_section, data_lines, context_of, changed_under, next_part, 
 use Prelude.{with_declarations-append, read_lines, declared_at, lines_in_context_after, declarations_of, first_line_fault, whole_mps_fault}
 use Prelude.{first_mps_fault, lines, whole_fault, file_fault, MissingEnd, has_end, subst, ◌^◌, min, length, length-append, list_any-append}
 use Prelude.{if◌then◌else◌, without_names, kept_context, context_from, lines_fault, LedTo, Result, LinearModel, Finishes, ReadFault}
-use Prelude.{RefusesLines, IsErrorOf, IsFaultOn, LineError, ReadsMps, HasRead, IsFaultOfLines, LineReader}
+use Prelude.{HasLastColumn, ReadsLine, Ok, is_comment, skipped, header, data_line, section_named, header_declared}
+use Prelude.{data_declared, has_column, RefusesLines, IsErrorOf, IsFaultOn, LineError, ReadsMps, HasRead, IsFaultOfLines, LineReader}
 use Rattle.std.proofs.Common.{◌-◌}
-use Rattle.mpslp_mps.proofs.OrderLemmas.{item-form, or_false, has-more, last_or-append, current_section-push, said_after-push, data_lines-push}
-use Rattle.mpslp_mps.proofs.{SideLemmas.sides-kept, ColumnLine.item-rising, ModelOrFault.finished-reads}
+use Rattle.mpslp_mps.proofs.OrderLemmas.{item-form, or_false, has-more, last_or-append, current_section-push, said_after-push}
+use Rattle.mpslp_mps.proofs.OrderLemmas.{data_lines-push, column-after, declares-itself}
+use Rattle.mpslp_mps.proofs.SideLemmas.{sides-kept}
+use Rattle.mpslp_mps.proofs.LineFaults.{item-rising}
+use Rattle.mpslp_mps.proofs.ModelOrFault.{finished-reads}
 use Rattle.mpslp_lines.specs.declared.errors.LineError.TheVariants as errors
 
 -- ---- a line after those before it: its error by its length, its bytes and its content, and what holds after it if it
@@ -43,11 +47,36 @@ pub line-legal : (context : Context) (earlier : Draft) (line : List ℕ) → has
 line-legal context earlier line = legal-first line (outside_comment line) (item_tests context earlier (content_of line)) earlier
     (line_declares context earlier (content_of line))
 
+-- outside a comment all bytes are tested
+pub line-outside : (line : List ℕ) → is_comment line ≡ false → list_all is_legal_byte (outside_comment line) ≡ list_all is_legal_byte line
+line-outside line h = ap (λ b. list_all is_legal_byte (cond b [] line)) h
+
+-- a comment has no error, and means nothing
+pub line-comment : (context : Context) (earlier : Draft) (line : List ℕ) → has_legal_length line ≡ true → is_comment line ≡ true
+    → ReadsLine context earlier line (Ok tt) context earlier
+line-comment = grind (arith, line-legal, append-nil)
+
 -- ---- what holds after every line
 
 pub sides-next : (line : List ℕ) (context : Context) (earlier later : Draft) → HasMpsSides earlier
     → line_fault (placed_in context earlier line) ≡ None → later ≡ draft_after context earlier line → HasMpsSides later
 sides-next = grind (arith, sides-kept, no-item)
+
+last_column-kept : (context : Context) (earlier : Draft) (item : LineContent) → HasLastColumn context earlier
+    → HasLastColumn (next_context context item) (with_declarations earlier (line_declares context earlier item))
+last_column-kept context earlier skipped declared = declared
+last_column-kept context earlier (header keyword more) declared = λ name is. column-after
+    (header_declared context earlier more (section_named keyword)) earlier name (declared name is)
+last_column-kept context earlier (data_line fields) declared = λ name is. by context.section name is
+  where
+    by : (section : Option Section) (name : List ℕ)
+        → cond (is_section Columns section) (line_column fields) context.last_column ≡ Some name
+        → has_column (with_declarations earlier (data_declared context earlier fields section)) name ≡ true
+    by = grind (arith, column-after, declares-itself, declared)
+
+pub last_column-next : (line : List ℕ) (context : Context) (earlier : Draft) → HasLastColumn context earlier
+    → HasLastColumn (context_after context line) (draft_after context earlier line)
+last_column-next line context earlier = last_column-kept context earlier (content_of line)
 
 -- ---- the lines up to that of ENDATA, one after another
 
@@ -97,7 +126,8 @@ pub named-lines_to_end : (text : List (List ℕ)) (n : ℕ) (context : Context) 
     → fault_from n context earlier (lines_to_end text) ≡ None → list_any is_end text ≡ true
     → is_some (draft_from context earlier (lines_to_end text)).objective ≡ true
 named-lines_to_end [] n context earlier named none ended = cc
-named-lines_to_end (line ∷ more) n context earlier named none ended = by (is_end line) refl ended (λ kept h. named-lines_to_end more _ _ _ kept h)
+named-lines_to_end (line ∷ more) n context earlier named none ended =
+    by (is_end line) refl ended (λ kept h. named-lines_to_end more _ _ _ kept h)
   where
     fault_is : Option FaultKind
     fault_is = line_fault (placed_in context earlier line)
@@ -107,12 +137,14 @@ named-lines_to_end (line ∷ more) n context earlier named none ended = by (is_e
         (draft_after context earlier line) (lines_to_end more) ≡ None → list_any is_end more ≡ true
         → is_some (draft_from (context_after context line) (draft_after context earlier line) (lines_to_end more)).objective ≡ true)
         → is_some (draft_from context earlier (lines_to_end (line ∷ more))).objective ≡ true
-    by true e h later = let last = up_to_end-last line more e in
+    by true e h later =
+        let last = up_to_end-last line more e in
         let only : fault_from n context earlier (line ∷ []) ≡ None = ap (fault_from n context earlier) (sym last) ∙ none in
         let item = no-item context earlier line (first_none n fault_is None only) in
         ap (λ text. is_some (draft_from context earlier text).objective) last ∙ named-after
         (line_declares context earlier (content_of line)) earlier (named (ended_columns context earlier (content_of line) item e))
-    by false e h later = let next = up_to_end-more line more e in
+    by false e h later =
+        let next = up_to_end-more line more e in
         let both : fault_from n context earlier (line ∷ lines_to_end more) ≡ None = ap (fault_from n context earlier) (sym next) ∙ none in
         let rest = fault_from (n + 1) (context_after context line) (draft_after context earlier line) (lines_to_end more) in
         let item = no-item context earlier line (first_none n fault_is rest both) in
@@ -137,7 +169,8 @@ part_reading : (lines : List Fields) (fields : Fields)
     ≡ next_part fields (option_map_or (same_bytes opening_word) (last_or None (filter_map marker_word lines)) false)
 part_reading = grind (arith, filter_map-append, last_or-append)
 
-column_reading : (lines : List Fields) (fields : Fields) → option_map_or line_column (last_or None (lines ++ fields ∷ [])) None ≡ line_column fields
+column_reading : (lines : List Fields) (fields : Fields)
+    → option_map_or line_column (last_or None (lines ++ fields ∷ [])) None ≡ line_column fields
 column_reading lines fields = ap (λ o. option_map_or line_column o None) (last_or-append None lines _)
 
 first-said : {X : Type 0} (xs : List X) (o : Option X) → head_of (xs ++ cons_option o []) ≡ option_or (head_of xs) o
@@ -151,10 +184,12 @@ set_reading set_of lines fields = ap head_of (filter_map-append set_of lines _) 
 
 pub objname-push : (before : List LineContent) (item : LineContent)
     → objname (before ++ item ∷ []) ≡ option_or (objname before) (objname_word (current_section before) item)
-objname-push before item = let says : Option Section → LineContent → List (List ℕ) = λ current line. cons_option (objname_word current line) [] in
+objname-push before item =
+    let says : Option Section → LineContent → List (List ℕ) = λ current line. cons_option (objname_word current line) [] in
     ap head_of (said_after-push says None before item) ∙ first-said _ _
 
-pub context-push : (before : List LineContent) (item : LineContent) → context_of (before ++ item ∷ []) ≡ next_context (context_of before) item
+pub context-push : (before : List LineContent) (item : LineContent) → context_of (before ++ item ∷ [])
+    ≡ next_context (context_of before) item
 context-push before item = λ i. record {
   section = current_section-push before item i;
   sections_seen = filter_map-append section_of_header before (item ∷ []) i;
@@ -173,14 +208,16 @@ context-push before item = λ i. record {
 pub fault_from-is : (lines : List (List ℕ)) (n : ℕ) (before : List LineContent) (earlier : Draft)
     → first_line_fault n (lines_in_context_after before earlier lines) ≡ fault_from n (context_of before) earlier lines
 fault_from-is [] n before earlier = refl
-fault_from-is (line ∷ lines) n before earlier = let next = with_declarations earlier (line_declares (context_of before) earlier (content_of line)) in
+fault_from-is (line ∷ lines) n before earlier =
+    let next = with_declarations earlier (line_declares (context_of before) earlier (content_of line)) in
     ap (option_or (option_map (fault_on_line n) (line_fault (placed_in (context_of before) earlier line)))) (fault_from-is lines (n + 1)
     (before ++ content_of line ∷ []) next ∙ ap (λ context. fault_from (n + 1) context next lines) (context-push before _))
 
 pub draft_from-is : (lines : List (List ℕ)) (before : List LineContent) (earlier : Draft) → with_declarations earlier
     (flat_map declared_at (lines_in_context_after before earlier lines)) ≡ draft_from (context_of before) earlier lines
 draft_from-is [] before earlier = refl
-draft_from-is (line ∷ lines) before earlier = let here = line_declares (context_of before) earlier (content_of line) in
+draft_from-is (line ∷ lines) before earlier =
+    let here = line_declares (context_of before) earlier (content_of line) in
     let next = with_declarations earlier here in
     with_declarations-append here (flat_map declared_at (lines_in_context_after (before ++ content_of line ∷ []) next lines)) earlier
     ∙ draft_from-is lines (before ++ content_of line ∷ []) next ∙ ap (λ context. draft_from context next lines) (context-push before _)
@@ -221,14 +258,20 @@ or-after : (a b c : Option Fault) → option_or (option_or a b) c ≡ option_or 
 or-after = grind arith
 
 fault_from-append : (xs ys : List (List ℕ)) (n : ℕ) (context : Context) (earlier : Draft) → fault_from n context earlier (xs ++ ys)
-    ≡ option_or (fault_from n context earlier xs) (fault_from (n + length xs) (context_from context xs) (draft_from context earlier xs) ys)
+    ≡ option_or (fault_from n context earlier xs)
+    (fault_from (n + length xs) (context_from context xs) (draft_from context earlier xs) ys)
 fault_from-append [] ys n context earlier = let e : n ≡ n + 0 = omega arith in ap (λ m. fault_from m context earlier ys) e
-fault_from-append (line ∷ xs) ys n context earlier = let own = option_map (fault_on_line n) (line_fault (placed_in context earlier line)) in
-    let next = context_after context line in let later = draft_after context earlier line in
+fault_from-append (line ∷ xs) ys n context earlier =
+    let own = option_map (fault_on_line n) (line_fault (placed_in context earlier line)) in
+    let next = context_after context line in
+    let later = draft_after context earlier line in
     let e : n + 1 + length xs ≡ n + length (line ∷ xs) = omega arith in ap (option_or own) (fault_from-append xs ys (n + 1) next later)
-    ∙ sym (or-after own _ _) ∙ ap (λ m. option_or (option_or own (fault_from (n + 1) next later xs)) (fault_from m (context_from next xs) (draft_from next later xs) ys)) e
+    ∙ sym (or-after own _ _)
+    ∙ ap (λ m. option_or (option_or own (fault_from (n + 1) next later xs))
+    (fault_from m (context_from next xs) (draft_from next later xs) ys)) e
 
-context_from-append : (xs ys : List (List ℕ)) (context : Context) → context_from context (xs ++ ys) ≡ context_from (context_from context xs) ys
+context_from-append : (xs ys : List (List ℕ)) (context : Context) → context_from context (xs ++ ys)
+    ≡ context_from (context_from context xs) ys
 context_from-append [] ys context = refl
 context_from-append (line ∷ xs) ys context = context_from-append xs ys (context_after context line)
 
@@ -262,13 +305,16 @@ one-read = grind arith
 pub lines_fault-is : (text : List (List ℕ)) → lines_fault text ≡ fault_from 1 (context_of []) empty_draft (lines_to_end text)
 lines_fault-is text = fault_from-is (lines_to_end text) 1 [] empty_draft
 
+-- ---- what holds after all lines
+
 sides-none : HasMpsSides empty_draft
 sides-none = record { known = λ row h. cc; limited = λ row h. cc; constant = refl }
 
 sides-from : (text : List (List ℕ)) (n : ℕ) (context : Context) (earlier : Draft) → HasMpsSides earlier
     → fault_from n context earlier text ≡ None → HasMpsSides (draft_from context earlier text)
 sides-from [] n context earlier sides h = sides
-sides-from (line ∷ text) n context earlier sides h = let own = line_fault (placed_in context earlier line) in
+sides-from (line ∷ text) n context earlier sides h =
+    let own = line_fault (placed_in context earlier line) in
     let rest = fault_from (n + 1) (context_after context line) (draft_after context earlier line) text in
     sides-from text (n + 1) (context_after context line) (draft_after context earlier line)
     (sides-next line context earlier _ sides (own_none own rest h) refl) (later_none own rest h)
@@ -280,6 +326,15 @@ sides-from (line ∷ text) n context earlier sides h = let own = line_fault (pla
     later_none : (own : Option FaultKind) (rest : Option Fault) → option_or (option_map (fault_on_line n) own) rest ≡ None → rest ≡ None
     later_none None rest h = h
     later_none (Some kind) rest h = cc
+
+last_column-none : HasLastColumn (context_of []) empty_draft
+last_column-none = λ name is. cc
+
+last_column-from : (text : List (List ℕ)) (context : Context) (earlier : Draft) → HasLastColumn context earlier
+    → HasLastColumn (context_from context text) (draft_from context earlier text)
+last_column-from [] context earlier declared = declared
+last_column-from (line ∷ text) context earlier declared =
+    last_column-from text (context_after context line) (draft_after context earlier line) (last_column-next line context earlier declared)
 
 -- ---- names are dropped at the end, when no line is compared with them
 
@@ -315,8 +370,11 @@ module _ (text : List (List ℕ)) (context : Context) (earlier : Draft) (number 
 
     -- its error is the first one
     fault_next : (line : List ℕ) → lines_fault (text ++ line ∷ []) ≡ fault_from (1 + length text) context earlier (line ∷ [])
-    fault_next line = lines_fault-is (text ++ line ∷ []) ∙ ap (fault_from 1 (context_of []) empty_draft) (read_on line) ∙ fault_from-append
-        text _ 1 _ empty_draft ∙ (λ i. option_or (clean_here i) (fault_from (1 + length text) (context_here i) (draft_here i) (line ∷ [])))
+    fault_next line = lines_fault-is (text ++ line ∷ [])
+        ∙ ap (fault_from 1 (context_of []) empty_draft) (read_on line) ∙ fault_from-append
+        text _ 1 _ empty_draft
+        ∙ (λ i. option_or (clean_here i)
+        (fault_from (1 + length text) (context_here i) (draft_here i) (line ∷ [])))
 
     pub led-fault : (line : List ℕ) (kind : FaultKind) → line_fault (placed_in context earlier line) ≡ Some kind
         → lines_fault (text ++ line ∷ []) ≡ Some (record { kind = kind; line = number; name = None })
@@ -343,11 +401,19 @@ module _ (text : List (List ℕ)) (context : Context) (earlier : Draft) (number 
           ∙ omega (arith, length-append text (line ∷ []));
     }
 
+    -- the column of the last line is declared
+    pub led-last_column : HasLastColumn context earlier
+    led-last_column = subst (λ (c : Context). HasLastColumn c earlier) context_here
+        (subst (HasLastColumn (context_from (context_of []) text)) draft_here
+        (last_column-from text (context_of []) empty_draft last_column-none))
+
   -- ---- what is known of a reader
 
   -- right-hand sides are as lines declare them
   pub led-sides : HasMpsSides earlier
-  led-sides = subst HasMpsSides (sym led.draft) (sides-from (lines_to_end text) 1 (context_of []) empty_draft sides-none (sym (lines_fault-is text) ∙ led.clean))
+  led-sides = subst HasMpsSides (sym led.draft)
+      (sides-from (lines_to_end text) 1 (context_of []) empty_draft sides-none
+      (sym (lines_fault-is text) ∙ led.clean))
 
   -- after the line of ENDATA the objective has a name
   pub led-named : is_section EndData context.section ≡ true → is_some earlier.objective ≡ true
@@ -357,9 +423,11 @@ module _ (text : List (List ℕ)) (context : Context) (earlier : Draft) (number 
 
 -- the next line is rejected
 pub refuses-line : (reader : LineReader) (line : List ℕ) (error : LineError) (answer : ReadFault)
-    → is_section EndData reader.context.section ≡ false → IsErrorOf (line_fault (placed_in reader.context reader.builder.draft line)) error
+    → is_section EndData reader.context.section ≡ false
+    → IsErrorOf (line_fault (placed_in reader.context reader.builder.draft line)) error
     → IsFaultOn reader.number error answer → RefusesLines HasRead IsFaultOfLines reader (line ∷ []) answer
-refuses-line reader line (errors.Fault kind) answer unended fault_is answer_is = subst (RefusesLines HasRead IsFaultOfLines reader (line ∷ []))
+refuses-line reader line (errors.Fault kind) answer unended fault_is answer_is =
+    subst (RefusesLines HasRead IsFaultOfLines reader (line ∷ []))
     (sym answer_is) (λ before led. led-fault before reader.context reader.builder.draft reader.number led unended line kind fault_is)
 refuses-line reader line errors.OutOfMemory answer unended fault_is answer_is =
     subst (RefusesLines HasRead IsFaultOfLines reader (line ∷ [])) (sym answer_is) tt

@@ -4,6 +4,9 @@ pub mod WorkedFiles
 pub mod OrderLemmas
 pub mod ModelOrFault
 pub mod FedLemmas
+pub mod ContextSteps
+pub mod FrontFields
+pub mod LineFaults
+pub mod ColumnFaults
 pub mod UsualLines
-pub mod ColumnLine
 pub mod SideLemmas

@@ -56,7 +56,8 @@ good-rest before earlier item items h = second_so _ _ h
 no-rows-later : (items before : List LineContent) (earlier : Draft) → are_well_formed before earlier items ≡ true → Past Rows before
     → has_section before Columns ≡ true → no_rows (declared_items before earlier items) ≡ true
 no-rows-later [] before earlier h past columns = refl
-no-rows-later (item ∷ items) before earlier h past columns = let here = line_declares (context_of before) earlier item in
+no-rows-later (item ∷ items) before earlier h past columns =
+    let here = line_declares (context_of before) earlier item in
     let good = good-first before earlier item items h in list_all-append _ here (declared_items (before ++ item ∷ [])
     (with_declarations earlier here) items) ∙ both_so _ _ (no-rows-line before earlier item good past columns)
     (no-rows-later items (before ++ item ∷ []) (with_declarations earlier here) (good-rest before earlier item items h)
@@ -65,9 +66,11 @@ no-rows-later (item ∷ items) before earlier h past columns = let here = line_d
 no-columns-later : (items before : List LineContent) (earlier : Draft) → are_well_formed before earlier items ≡ true → Past Columns before
     → no_columns (declared_items before earlier items) ≡ true
 no-columns-later [] before earlier h past = refl
-no-columns-later (item ∷ items) before earlier h past = let here = line_declares (context_of before) earlier item in
+no-columns-later (item ∷ items) before earlier h past =
+    let here = line_declares (context_of before) earlier item in
     let good = good-first before earlier item items h in list_all-append _ here (declared_items (before ++ item ∷ [])
-    (with_declarations earlier here) items) ∙ both_so _ _ (no-columns-line before earlier item past) (no-columns-later items (before ++ item
+    (with_declarations earlier here) items) ∙ both_so _ _ (no-columns-line before earlier item past)
+    (no-columns-later items (before ++ item
     ∷ []) (with_declarations earlier here) (good-rest before earlier item items h) (past-columns before earlier item good past))
 
 -- ---- what a line names, among the rows and columns of a later draft, is declared before
@@ -83,7 +86,8 @@ abbrev AreKnown : Draft → Declarations → Type 0
 AreKnown final ds = list_all (is_known final) ds ≡ true
 
 cells-known : (final before : Draft) (column : List ℕ) (pairs : List Pair) → HasRowsOf final before → has_column before column ≡ true
-    → AreKnown final (flat_map (coefficient_declared column) pairs) → are_known_in_turn before (flat_map (coefficient_declared column) pairs) ≡ true
+    → AreKnown final (flat_map (coefficient_declared column) pairs)
+    → are_known_in_turn before (flat_map (coefficient_declared column) pairs) ≡ true
 cells-known final before column [] rows c h = refl
 cells-known final before column (pair ∷ pairs) rows c h =
     let d : Declaration = declare_coefficient (record { row = pair.row; column = column }) (value_of pair.literal) in
@@ -94,9 +98,11 @@ pub column-there : (before : Draft) (column : List ℕ) → has_column (with_dec
 column-there before column = has-put column column tt before.columns ∙ or_left _ _ (itself_named column)
 
 column-line-known : (final before : Draft) (marked : Bool) (line : ValuesLine) → HasRowsOf final before → AreKnown final (declare_column
-    line.name ∷ (when marked (declare_marked line.name) ++ flat_map (coefficient_declared line.name) line.pairs)) → are_known_in_turn before
+    line.name ∷ (when marked (declare_marked line.name) ++ flat_map (coefficient_declared line.name) line.pairs))
+    → are_known_in_turn before
     (declare_column line.name ∷ (when marked (declare_marked line.name) ++ flat_map (coefficient_declared line.name) line.pairs)) ≡ true
-column-line-known final before true line rows h = let next = with_declaration before (declare_column line.name) in
+column-line-known final before true line rows h =
+    let next = with_declaration before (declare_column line.name) in
     let c = column-there before line.name in both_so _ _ c (cells-known final _ line.name line.pairs rows c (second_so _ _ h))
 column-line-known final before false line rows h = cells-known final _ line.name line.pairs rows (column-there before line.name) h
 
@@ -134,7 +140,8 @@ ranges-known : (final before : Draft) (pairs : List Pair) → HasRowsOf final be
     → AreKnown final (ranges_declared (record { name = []; pairs = pairs }))
     → are_known_in_turn before (ranges_declared (record { name = []; pairs = pairs })) ≡ true
 ranges-known final before [] rows h = refl
-ranges-known final before (pair ∷ pairs) rows h = let more = ranges_declared (record { name = []; pairs = pairs }) in
+ranges-known final before (pair ∷ pairs) rows h =
+    let more = ranges_declared (record { name = []; pairs = pairs }) in
     let d : Declaration = declare_range pair.row (value_of pair.literal) in
     both_so _ _ (rows pair.row (first_so _ _ h)) (ranges-known final (with_declaration before d) pairs rows (second_so _ _ h))
 
@@ -183,7 +190,8 @@ header-known : (context : Context) (earlier : Draft) (more : Fields) (o : Option
     → are_known_in_turn earlier (header_declared context earlier more o) ≡ true
 header-known = grind arith
 
-data-known : (context : Context) (final earlier : Draft) (fields : Fields) (o : Option Section) → (is_rowed o ≡ true → HasRowsOf final earlier) → (is_section Bounds o ≡ true → HasColumnsOf final earlier)
+data-known : (context : Context) (final earlier : Draft) (fields : Fields) (o : Option Section)
+    → (is_rowed o ≡ true → HasRowsOf final earlier) → (is_section Bounds o ≡ true → HasColumnsOf final earlier)
     → AreKnown final (data_declared context earlier fields o) → are_known_in_turn earlier (data_declared context earlier fields o) ≡ true
 data-known context final earlier fields None rows columns h = refl
 data-known context final earlier fields (Some Name) rows columns h = refl
@@ -211,7 +219,14 @@ data-known context final earlier fields (Some EndData) rows columns h = refl
 known-append : (before : Draft) (xs ys : Declarations) → are_known_in_turn before xs ≡ true
     → are_known_in_turn (with_declarations before xs) ys ≡ true → are_known_in_turn before (xs ++ ys) ≡ true
 known-append before [] ys h k = k
-known-append before (d ∷ ds) ys h k = grind (arith, both_so, are_known_in_turn, known-append (with_declaration before d) ds ys (second_so (is_known before d) (are_known_in_turn (with_declaration before d) ds) h) k)
+known-append before (d ∷ ds) ys h k =
+    grind (
+      arith,
+      both_so,
+      are_known_in_turn,
+      known-append (with_declaration before d) ds ys
+          (second_so (is_known before d) (are_known_in_turn (with_declaration before d) ds) h) k,
+    )
 
 -- what is declared from a line on leaves rows and columns unchanged, after their sections
 same-rows : (before : List LineContent) (earlier : Draft) (items : List LineContent) → are_well_formed before earlier items ≡ true → Past
@@ -230,7 +245,8 @@ rowed-late = grind arith
 bounds-late : (o : Option Section) → is_section Bounds o ≡ true → (is_late o ≡ true) × (is_section Columns o ≡ false)
 bounds-late = grind arith
 
-line-known : (before : List LineContent) (earlier : Draft) (item : LineContent) (items : List LineContent) → are_well_formed before earlier
+line-known : (before : List LineContent) (earlier : Draft) (item : LineContent) (items : List LineContent)
+    → are_well_formed before earlier
     (item ∷ items) ≡ true → Ordered before → AreKnown (with_declarations earlier (declared_items before earlier (item ∷ items)))
     (line_declares (context_of before) earlier item) → are_known_in_turn earlier (line_declares (context_of before) earlier item) ≡ true
 line-known before earlier skipped items h o known = refl
@@ -240,12 +256,15 @@ line-known before earlier (data_line fields) items h o known = data-known (conte
   where
     rows : is_rowed (current_section before) ≡ true
         → HasRowsOf (with_declarations earlier (declared_items before earlier (data_line fields ∷ items))) earlier
-    rows rowed = let late = rowed-late _ rowed in let begun = o.columns late.0 in
+    rows rowed =
+        let late = rowed-late _ rowed in
+        let begun = o.columns late.0 in
         same-rows before earlier (data_line fields ∷ items) h (record { begun = o.rows begun; left = late.1 }) begun
 
     columns : is_section Bounds (current_section before) ≡ true
         → HasColumnsOf (with_declarations earlier (declared_items before earlier (data_line fields ∷ items))) earlier
-    columns bound = let late = bounds-late _ bound in
+    columns bound =
+        let late = bounds-late _ bound in
         same-columns before earlier (data_line fields ∷ items) h (record { begun = o.columns late.0; left = late.1 })
 
 -- Each row and column that the lines name, and that is declared somewhere, is declared before.
@@ -253,9 +272,11 @@ pub known-lines : (items before : List LineContent) (earlier : Draft) → are_we
     → AreKnown (with_declarations earlier (declared_items before earlier items)) (declared_items before earlier items)
     → are_known_in_turn earlier (declared_items before earlier items) ≡ true
 known-lines [] before earlier h o known = refl
-known-lines (item ∷ items) before earlier h o known = let here = line_declares (context_of before) earlier item in
+known-lines (item ∷ items) before earlier h o known =
+    let here = line_declares (context_of before) earlier item in
     let more = declared_items (before ++ item ∷ []) (with_declarations earlier here) items in
-    let final = with_declarations earlier (here ++ more) in let parts = sym (list_all-append _ here more) ∙ known in
+    let final = with_declarations earlier (here ++ more) in
+    let parts = sym (list_all-append _ here more) ∙ known in
     let same : final ≡ with_declarations (with_declarations earlier here) more = with_declarations-append here more earlier in
     known-append earlier here more (line-known before earlier item items h o (first_so _ _ parts))
     (known-lines items (before ++ item ∷ []) (with_declarations earlier here) (good-rest before earlier item items h) (ordered-push before
@@ -283,7 +304,8 @@ columns-legal : (context : Context) (earlier : Draft) (fields : Fields) → thos
     → list_all is_legal (columns_line_declared context fields) ≡ true
 columns-legal = grind (arith, column-legal)
 
-sides-legal : (earlier : Draft) (fields : Fields) → list_all is_legal (declared_if_some (rhs_line_declared earlier) (vector_shape fields)) ≡ true
+sides-legal : (earlier : Draft) (fields : Fields)
+    → list_all is_legal (declared_if_some (rhs_line_declared earlier) (vector_shape fields)) ≡ true
 sides-legal earlier fields = each-declared is_legal (rhs_line_declared earlier) (vector_shape fields) (λ line. each-flat is_legal
     (λ (pair : Pair). rhs_declared earlier pair.row (value_of pair.literal)) line.pairs (λ pair. one pair (is_free_row earlier pair.row)))
   where
@@ -311,7 +333,8 @@ header-legal : (context : Context) (earlier : Draft) (more : Fields) (o : Option
     → list_all is_legal (header_declared context earlier more o) ≡ true
 header-legal = grind arith
 
-data-legal : (context : Context) (earlier : Draft) (fields : Fields) (o : Option Section) → those_of (data_tests context earlier fields o) ≡ []
+data-legal : (context : Context) (earlier : Draft) (fields : Fields) (o : Option Section)
+    → those_of (data_tests context earlier fields o) ≡ []
     → list_all is_legal (data_declared context earlier fields o) ≡ true
 data-legal context earlier fields None h = refl
 data-legal context earlier fields (Some Name) h = refl
@@ -333,7 +356,8 @@ line-legal before earlier (data_line fields) h = data-legal (context_of before) 
 pub lines-legal : (items before : List LineContent) (earlier : Draft) → are_well_formed before earlier items ≡ true
     → list_all is_legal (declared_items before earlier items) ≡ true
 lines-legal [] before earlier h = refl
-lines-legal (item ∷ items) before earlier h = let here = line_declares (context_of before) earlier item in
+lines-legal (item ∷ items) before earlier h =
+    let here = line_declares (context_of before) earlier item in
     let more = declared_items (before ++ item ∷ []) (with_declarations earlier here) items in list_all-append is_legal here more
     ∙ both_so _ _ (line-legal before earlier item (good-first before earlier item items h))
     (lines-legal items (before ++ item ∷ []) (with_declarations earlier here) (good-rest before earlier item items h))
@@ -371,7 +395,8 @@ named-lines (line ∷ lines) before earlier h g named =
     → is_some (with_declarations earlier (here ++ more)).objective ≡ true) [
       | true ↦ λ e _. named-after (here ++ more) earlier (named (at_end item e (good-first before earlier item (map content_of lines) g)))
       | false ↦ λ _ k. ap (λ all. is_some all.objective) (with_declarations-append here more earlier)
-          ∙ named-lines lines (before ++ item ∷ []) (with_declarations earlier here) k (good-rest before earlier item (map content_of lines)
+          ∙ named-lines lines (before ++ item ∷ []) (with_declarations earlier here) k
+          (good-rest before earlier item (map content_of lines)
           g) (named-push before earlier item (good-first before earlier item (map content_of lines) g) named)
     ] refl h
   where
@@ -434,7 +459,8 @@ whole-faultless : (bytes : List ℕ) → whole_mps_fault bytes ≡ None → IsWh
 whole-faultless = grind arith
 
 -- Bytes without a first error declare the model of what their lines declare.
-pub declares-from_no_fault : (bytes : List ℕ) → first_mps_fault bytes ≡ None → DeclaresMps bytes (model_of (draft_of (declarations_of bytes)))
+pub declares-from_no_fault : (bytes : List ℕ) → first_mps_fault bytes ≡ None
+    → DeclaresMps bytes (model_of (draft_of (declarations_of bytes)))
 declares-from_no_fault bytes h =
     let items = map content_of (read_lines bytes) in
     let parts = or-none _ _ h in
@@ -463,22 +489,30 @@ lines-no_fault : (n : ℕ) (lines : List (List ℕ)) (before : List LineContent)
     (lines_in_context_after before earlier lines)) ≡ [] → first_line_fault n (lines_in_context_after before earlier lines) ≡ None
 lines-no_fault n [] before earlier good none = refl
 lines-no_fault n (line ∷ lines) before earlier good none =
-    let placed : LineInContext = record { context = context_of before; earlier = earlier; line = line } in let here = declared_at placed in
-    let next = with_declarations earlier here in let later = lines_in_context_after (before ++ content_of line ∷ []) next lines in
-    let more = flat_map declared_at later in let parts = sym (refusals_in_turn-append here more earlier) ∙ none in
-    let form = no_faults _ (first_so _ _ good) in let fine = no_fault (tests_at placed) earlier here form (left_none _ _ parts) in
+    let placed : LineInContext = record { context = context_of before; earlier = earlier; line = line } in
+    let here = declared_at placed in
+    let next = with_declarations earlier here in
+    let later = lines_in_context_after (before ++ content_of line ∷ []) next lines in
+    let more = flat_map declared_at later in
+    let parts = sym (refusals_in_turn-append here more earlier) ∙ none in
+    let form = no_faults _ (first_so _ _ good) in
+    let fine = no_fault (tests_at placed) earlier here form (left_none _ _ parts) in
     ap (λ o. option_or (option_map (fault_on_line n) o) (first_line_fault (n + 1) later)) fine
     ∙ lines-no_fault (n + 1) lines (before ++ content_of line ∷ []) next (second_so _ _ good) (right_none _ _ parts)
 
 pub no_fault-from_declares : (bytes : List ℕ) (m : LinearModel) → DeclaresMps bytes m → first_mps_fault bytes ≡ None
-no_fault-from_declares bytes m declares = let items = map content_of (read_lines bytes) in
-    let same = lines-declare [] empty_draft (read_lines bytes) in let formed = second_so (has_end bytes) _ declares.text in
+no_fault-from_declares bytes m declares =
+    let items = map content_of (read_lines bytes) in
+    let same = lines-declare [] empty_draft (read_lines bytes) in
+    let formed = second_so (has_end bytes) _ declares.text in
     let good : are_well_formed [] empty_draft items ≡ true = items-good [] empty_draft (read_lines bytes) formed in
     let means : Means (declared_items [] empty_draft items) m = subst (λ ds. Means ds m) same declares.means in
     let known = known-lines items [] empty_draft good ordered-nil means.consistent.known in
     let none = none-from_means _ m (lines-legal items [] empty_draft good) known means in (λ i. option_or
-    (lines-no_fault 1 (read_lines bytes) [] empty_draft formed (ap (refusals_in_turn empty_draft) same ∙ none.0) i) (whole_mps_fault bytes))
-    ∙ rw (first_so (has_end bytes) (list_all is_well_formed (lines_in_context bytes)) declares.text) (ap (λ ds. file_fault (draft_of ds)) same ∙ none.1)
+    (lines-no_fault 1 (read_lines bytes) [] empty_draft formed (ap (refusals_in_turn empty_draft) same ∙ none.0) i)
+    (whole_mps_fault bytes))
+    ∙ rw (first_so (has_end bytes) (list_all is_well_formed (lines_in_context bytes)) declares.text)
+    (ap (λ ds. file_fault (draft_of ds)) same ∙ none.1)
 
 pub model-or_fault : DeclareOrFail
 model-or_fault = one_of_both DeclaresMps first_mps_fault no_fault-from_declares

@@ -13,7 +13,8 @@ use Prelude.{lacks_objective, section_tests, header_tests, cond, Ok, Err, list_a
 use Prelude.{declare_marked, declare_integer, declare_semi, is_integer, is_semi, IsMade, refusals, declared_names-from_made, when, Limit}
 use Prelude.{is_kind_clash, has_kind_clash, says_no_kind, no-clash, ValuesLine, column_shape, is_marker_line, BoundLine, bound_type}
 use Prelude.{bound_shape, BoundType, ObjSense, coefficient_declared, column_declared, bound_declared, bound_value, bound_line_declared}
-use Prelude.{data_declared, header_declared, named_values, column_clash, type_clash, bound_clash}
+use Prelude.{data_declared, header_declared, named_values, column_clash, type_clash, bound_clash, columns_line_declared, line_column}
+use Prelude.{has-put, itself_named, more_entries}
 use Rattle.mpslp_types.specs.declared.faults.FaultKind.TheVariants as kinds
 use Rattle.mpslp_types.specs.declared.faults.BuildFault.TheVariants as builds
 
@@ -57,10 +58,12 @@ section_after-cons : (current : Option Section) (x : LineContent) (before : List
 section_after-cons = grind arith
 
 -- what lines give where they are, including this one
-pub said_after-push : {X : Type 0} (says : Option Section → LineContent → List X) (current : Option Section) (before : List LineContent) (item : LineContent)
+pub said_after-push : {X : Type 0} (says : Option Section → LineContent → List X) (current : Option Section)
+    (before : List LineContent) (item : LineContent)
     → said_after says current (before ++ item ∷ []) ≡ said_after says current before ++ says (section_after current before) item
 said_after-push says current [] item = append-nil (says current item)
-said_after-push {X} says current (x ∷ before) item = let next = option_or (section_of_header x) current in
+said_after-push {X} says current (x ∷ before) item =
+    let next = option_or (section_of_header x) current in
     ap (λ more. says current x ++ more) (said_after-push says next before item ∙ ap (λ c. said_after says next before ++ says c item)
     (sym (section_after-cons current x before))) ∙ sym (append_assoc (says current x) (said_after says next before) _)
 
@@ -94,7 +97,8 @@ no_faults = grind arith
 pub lines-declare : (before : List LineContent) (earlier : Draft) (lines : List (List ℕ))
     → flat_map declared_at (lines_in_context_after before earlier lines) ≡ declared_items before earlier (map content_of lines)
 lines-declare before earlier [] = refl
-lines-declare before earlier (line ∷ lines) = let here = line_declares (context_of before) earlier (content_of line) in
+lines-declare before earlier (line ∷ lines) =
+    let here = line_declares (context_of before) earlier (content_of line) in
     ap (λ more. here ++ more) (lines-declare (before ++ content_of line ∷ []) (with_declarations earlier here) lines)
 
 abbrev are_good : List LineContent → Draft → List (List ℕ) → Bool
@@ -108,9 +112,11 @@ item-form context earlier line h = grind (arith, later_tests)
 pub items-good : (before : List LineContent) (earlier : Draft) (lines : List (List ℕ)) → are_good before earlier lines ≡ true
     → are_well_formed before earlier (map content_of lines) ≡ true
 items-good before earlier [] h = refl
-items-good before earlier (line ∷ lines) h = let item = content_of line in
+items-good before earlier (line ∷ lines) h =
+    let item = content_of line in
     let next = with_declarations earlier (line_declares (context_of before) earlier item) in
-    let forms = those_of (line_tests (context_of before) earlier line) in let more = are_good (before ++ item ∷ []) next lines in
+    let forms = those_of (line_tests (context_of before) earlier line) in
+    let more = are_good (before ++ item ∷ []) next lines in
     both_so _ _ (ap (λ faults. not (is_nonempty faults)) (item-form _ earlier line (no_faults forms (first_so _ _ h))))
     (items-good (before ++ item ∷ []) next lines (second_so _ _ h))
 
@@ -118,11 +124,15 @@ items-good before earlier (line ∷ lines) h = let item = content_of line in
 pub lines-good : (before : List LineContent) (earlier : Draft) (lines : List (List ℕ)) → list_all is_legal_line lines ≡ true
     → are_well_formed before earlier (map content_of lines) ≡ true → are_good before earlier lines ≡ true
 lines-good before earlier [] legal h = refl
-lines-good before earlier (line ∷ lines) legal h = let item = content_of line in
+lines-good before earlier (line ∷ lines) legal h =
+    let item = content_of line in
     let next = with_declarations earlier (line_declares (context_of before) earlier item) in
-    let forms = form_faults (context_of before) earlier item in let more = are_well_formed (before ++ item ∷ []) next (map content_of lines) in
-    let here = first_so _ _ legal in let only = legal-only line (outside_comment line) (item_tests (context_of before) earlier item)
-    (first_so _ _ here) (second_so (has_legal_length line) _ here) in both_so _ _ (ap (λ faults. not (is_nonempty faults)) only
+    let forms = form_faults (context_of before) earlier item in
+    let more = are_well_formed (before ++ item ∷ []) next (map content_of lines) in
+    let here = first_so _ _ legal in
+    let only = legal-only line (outside_comment line) (item_tests (context_of before) earlier item)
+    (first_so _ _ here) (second_so (has_legal_length line) _ here) in
+    both_so _ _ (ap (λ faults. not (is_nonempty faults)) only
     ∙ first_so _ more h) (lines-good (before ++ item ∷ []) next lines (second_so _ _ legal) (second_so _ _ h))
 
 -- ---- the order of sections in well-formed lines, and so the lines in which rows and columns are declared
@@ -130,7 +140,8 @@ lines-good before earlier (line ∷ lines) legal h = let item = content_of line 
 -- ---- well-formed headers
 
 abbrev tests_of_fields : Context → Draft → Fields → Section → FaultTests
-tests_of_fields context earlier more section = (not (may_follow section more), kinds.FieldCount) ∷ section_tests context earlier section more
+tests_of_fields context earlier more section = (not (may_follow section more), kinds.FieldCount)
+    ∷ section_tests context earlier section more
 
 abbrev tests_after_order : Context → Draft → Fields → Section → FaultTests
 tests_after_order context earlier more section =
@@ -166,7 +177,8 @@ rows-again : (context : Context) (earlier : Draft) (keyword : List ℕ) (more : 
 rows-again = grind arith
 
 columns-again : (context : Context) (earlier : Draft) (keyword : List ℕ) (more : Fields) (o : Option Section)
-    → those_of (header_tests context earlier keyword more o) ≡ [] → is_section Columns o ≡ true → has context.sections_seen Columns ≡ false
+    → those_of (header_tests context earlier keyword more o) ≡ [] → is_section Columns o ≡ true
+    → has context.sections_seen Columns ≡ false
 columns-again = grind arith
 
 stays-left : (section : Section) (o current : Option Section) → (is_section section o ≡ true → ⊥) → is_section section current ≡ false
@@ -243,12 +255,29 @@ pub rows-kept : (ds : Declarations) (all : Draft) (r : List ℕ) → no_rows ds 
 rows-kept [] all r h = refl
 rows-kept (d ∷ ds) all r h = rows-kept ds (with_declaration all d) r (second_so _ _ h) ∙ row-kept all d r (first_so _ _ h)
 
-column-kept : (all : Draft) (d : Declaration) (c : List ℕ) → not (declares_column d) ≡ true → has_column (with_declaration all d) c ≡ has_column all c
+column-kept : (all : Draft) (d : Declaration) (c : List ℕ) → not (declares_column d) ≡ true
+    → has_column (with_declaration all d) c ≡ has_column all c
 column-kept = grind arith
 
-pub columns-kept : (ds : Declarations) (all : Draft) (c : List ℕ) → no_columns ds ≡ true → has_column (with_declarations all ds) c ≡ has_column all c
+pub columns-kept : (ds : Declarations) (all : Draft) (c : List ℕ) → no_columns ds ≡ true
+    → has_column (with_declarations all ds) c ≡ has_column all c
 columns-kept [] all c h = refl
 columns-kept (d ∷ ds) all c h = columns-kept ds (with_declaration all d) c (second_so _ _ h) ∙ column-kept all d c (first_so _ _ h)
+
+-- a column that is declared stays declared
+stays-there : (all : Draft) (d : Declaration) (name : List ℕ) → has_column all name ≡ true
+    → has_column (with_declaration all d) name ≡ true
+stays-there = grind (arith, more_entries)
+
+pub column-after : (ds : Declarations) (all : Draft) (name : List ℕ) → has_column all name ≡ true
+    → has_column (with_declarations all ds) name ≡ true
+column-after [] all name h = h
+column-after (d ∷ ds) all name h = column-after ds (with_declaration all d) name (stays-there all d name h)
+
+-- a line of a column declares it
+pub declares-itself : (context : Context) (earlier : Draft) (fields : Fields) (name : List ℕ) → line_column fields ≡ Some name
+    → has_column (with_declarations earlier (columns_line_declared context fields)) name ≡ true
+declares-itself = grind (arith, column-after, has-put, or_left, itself_named)
 
 -- ---- which lines declare none
 
@@ -263,7 +292,8 @@ pub each-flat : {X : Type 0} (p : Declaration → Bool) (f : X → Declarations)
 each-flat p f [] h = refl
 each-flat p f (x ∷ xs) h = list_all-append p _ (flat_map f xs) ∙ both_so _ _ (h x) (each-flat p f xs h)
 
-pub each-mapped : {X : Type 0} (p : Declaration → Bool) (f : X → Declaration) (xs : List X) → ((x : X) → p (f x) ≡ true) → list_all p (map f xs) ≡ true
+pub each-mapped : {X : Type 0} (p : Declaration → Bool) (f : X → Declaration) (xs : List X)
+    → ((x : X) → p (f x) ≡ true) → list_all p (map f xs) ≡ true
 each-mapped p f [] h = refl
 each-mapped p f (x ∷ xs) h = both_so _ _ (h x) (each-mapped p f xs h)
 
@@ -274,13 +304,16 @@ sense-passes p h fields = each-declared p sense_declared (word_shape fields)
     (λ word. each-declared p (λ sense. declare_sense sense ∷ []) (sense_of word) (λ s. both_so _ _ (h s) refl))
 
 -- right-hand sides and ranges that are declared
-pub sides-passes : (p : Declaration → Bool) → ((r : List ℕ) (v : Number) → p (declare_rhs r v) ≡ true) → (earlier : Draft) (fields : Fields)
+pub sides-passes : (p : Declaration → Bool) → ((r : List ℕ) (v : Number) → p (declare_rhs r v) ≡ true)
+    → (earlier : Draft) (fields : Fields)
     → list_all p (declared_if_some (rhs_line_declared earlier) (vector_shape fields)) ≡ true
 sides-passes = grind arith
 
 pub ranges-passes : (p : Declaration → Bool) → ((r : List ℕ) (v : Number) → p (declare_range r v) ≡ true) → (fields : Fields)
     → list_all p (declared_if_some ranges_declared (vector_shape fields)) ≡ true
-ranges-passes p h fields = each-declared p ranges_declared _ (λ line. each-mapped p _ line.pairs (λ pair. h pair.row (value_of pair.literal)))
+ranges-passes p h fields =
+    each-declared p ranges_declared _
+    (λ line. each-mapped p _ line.pairs (λ pair. h pair.row (value_of pair.literal)))
 
 -- ---- lines that would make a column both integer and semi-continuous: the first error of their form, and of no other
 -- line
@@ -296,7 +329,8 @@ stated_so : (known other : Bool) → (other ≡ true → known ≡ true)
     → is_clash_answer (first_refusal (those_of ((not known, builds.UnknownColumn) ∷ (other, builds.SemiContinuous) ∷ []))) ≡ other
 stated_so = grind arith
 
-pub integer-answered : (all : Draft) (c : List ℕ) (answer : Answer) → IsMade all → answer ≡ first_refusal (refusals all (declare_integer c))
+pub integer-answered : (all : Draft) (c : List ℕ) (answer : Answer) → IsMade all
+    → answer ≡ first_refusal (refusals all (declare_integer c))
     → is_clash_answer answer ≡ is_semi all c
 integer-answered all c answer made is = ap is_clash_answer is ∙ stated_so _ _ ((declared_names-from_made all made).semis c)
 
@@ -307,7 +341,9 @@ semi-answered all c answer made is = ap is_clash_answer is ∙ stated_so _ _ ((d
 -- ---- what a line declares
 
 -- declaring the type of a column clashes if the column is of the other type
-kind_clash : (unknown other : Bool) → list_any is_kind_clash (those_of ((unknown, builds.UnknownColumn) ∷ (other, builds.SemiContinuous) ∷ [])) ≡ other
+kind_clash : (unknown other : Bool)
+    → list_any is_kind_clash (those_of ((unknown, builds.UnknownColumn) ∷ (other, builds.SemiContinuous) ∷ []))
+    ≡ other
 kind_clash = grind arith
 
 then_none : (earlier : Draft) (d : Declaration) (more : Declarations) (other : Bool) → list_any is_kind_clash (refusals earlier d) ≡ other
@@ -323,7 +359,8 @@ pub column-clashes : (context : Context) (earlier : Draft) (fields : Fields) →
 column-clashes context earlier fields plain = ap (λ b. has_kind_clash earlier
     (cond b [] (declared_if_some (column_declared context) (column_shape fields)))) plain ∙ of (column_shape fields)
   where
-    front : (line : ValuesLine) (marked : Bool) → has_kind_clash earlier (declare_column line.name ∷ (when marked (declare_marked line.name)
+    front : (line : ValuesLine) (marked : Bool)
+        → has_kind_clash earlier (declare_column line.name ∷ (when marked (declare_marked line.name)
         ++ flat_map (coefficient_declared line.name) line.pairs)) ≡ (marked && is_semi earlier line.name)
     front = grind (arith, then_none, kind_clash, each-flat, says_no_kind, or_false, no-clash)
 
@@ -347,7 +384,8 @@ pub bound-clashes : (earlier : Draft) (fields : Fields) → has_kind_clash earli
 bound-clashes earlier [] = refl
 bound-clashes earlier (letters ∷ more) = typed (bound_type letters)
   where
-    lined : (type : BoundType) (o : Option BoundLine) → has_kind_clash earlier (declared_if_some (λ (line : BoundLine). bound_declared type
+    lined : (type : BoundType) (o : Option BoundLine)
+        → has_kind_clash earlier (declared_if_some (λ (line : BoundLine). bound_declared type
         line.column (bound_value line)) o) ≡ option_map_or (λ line. type_clash earlier type line.column) o false
     lined type None = refl
     lined type (Some line) = type-clashes earlier type line.column _

@@ -21,7 +21,7 @@ pub use Rattle.mpslp_types.specs.declared.kinds.{Limit.Limit, RowType.{RowType, 
 pub use Rattle.mpslp_model_core.specs.Model.{CoefficientKey, key_cmp, LinearModel}
 pub use Rattle.mpslp_builder.proofs.{MeaningFromNoFault.{means-from_none, none-from_means}, MadeDrafts.column_is_legal}
 pub use Rattle.mpslp_builder.proofs.MadeDrafts.{with_declarations-append, declared_names-from_made, refusals_in_turn-append}
-pub use Rattle.mpslp_builder.proofs.SlotLemmas.{itself_named, objective_is, has-put_key, has-put, at-put, same_name}
+pub use Rattle.mpslp_builder.proofs.SlotLemmas.{itself_named, objective_is, more_entries, has-put, at-put, same_name}
 pub use Rattle.mpslp_builder.proofs.RefusalLemmas.{are_known_in_turn, join_none, left_none, right_none}
 pub use Rattle.mpslp_builder.specs.{Answer.{Answers, first_refusal, Answer}, Bounds.{zero_limit, one_limit}}
 pub use Rattle.mpslp_builder.specs.{ColumnLine.{column_line, TakesLine}, Consistency.{is_known, has_objective}}
@@ -55,7 +55,7 @@ pub use Rattle.mpslp_mps_fields.specs.Line.{begins, skipped, header, header_of, 
 pub use Rattle.mpslp_mps_fields.specs.{Line.{section_named, has, may_follow, section_of_word_due}, ObjNameHeader.header_objname}
 pub use Rattle.mpslp_mps_fields.specs.declared.{bound_types.BoundType.BoundType, sections.Section.{Section, TheVariants.ObjSense}}
 pub use Rattle.mpslp_mps_fields.specs.declared.sections.Section.TheVariants.{Rows, Columns, Rhs, Ranges, Bounds, EndData, Name, ObjName}
-pub use Rattle.mpslp_mps.specs.{ColumnDeclared.{front_declared, value_declared, has_duplicate}, Context.{Context, is_read, word_due_after}}
+pub use Rattle.mpslp_mps.specs.{ColumnDeclared.{front_declared, value_declared, HasLastColumn}, Context.{Context, is_read, word_due_after}}
 pub use Rattle.mpslp_mps.specs.Context.{word_due, said_after, objname_word, objname, marker_word, line_column, vector_set, bound_set}
 pub use Rattle.mpslp_mps.specs.Context.{first_set, current_section, data_lines, context_of, section_after, fields_under}
 pub use Rattle.mpslp_mps.specs.ContextStep.{after_header, after_objname, after_marker, after_column, after_set, after_data}
@@ -74,6 +74,6 @@ pub use Rattle.mpslp_mps.specs.LineFault.{word_tests, is_sos_marker, marker_word
 pub use Rattle.mpslp_mps.specs.{LineValues.{named_values, row_value}, MpsText.{declared_at, is_well_formed, lines_in_context_after, is_end}}
 pub use Rattle.mpslp_mps.specs.MpsText.{LineInContext, read_lines, has_end, tests_at, lines_in_context, declarations_of, DeclaresMps}
 pub use Rattle.mpslp_mps.specs.{MpsText.is_mps_text, NextContext.{changed_under, next_part, next_set, next_context, without_names}}
-pub use Rattle.mpslp_mps.specs.{NextContext.kept_context, ReadAnswer.{lines_to_end, ReadsMps}, SeenSection.has_section}
+pub use Rattle.mpslp_mps.specs.{NextContext.kept_context, ReadAnswer.{lines_to_end, ReadsLine, ReadsMps}, SeenSection.has_section}
 pub use Rattle.mpslp_mps.specs.UsualLine.{usual_declared, TakesUsual, MayPass}
 pub use Rattle.mpslp_mps.specs.{VectorDeclared.{HasMpsSides, rhs_values_declared, ranges_of}, declared.line_reader.LineReader.LineReader}

@@ -62,7 +62,8 @@ after_side all row value = with_declarations all (rhs_declared all row value)
 same_row : (all : Draft) (row : List ℕ) (value : Number) (other : List ℕ) → has_row (after_side all row value) other ≡ has_row all other
 same_row = grind arith
 
-pub same_free : (all : Draft) (row : List ℕ) (value : Number) (other : List ℕ) → is_free_row (after_side all row value) other ≡ is_free_row all other
+pub same_free : (all : Draft) (row : List ℕ) (value : Number) (other : List ℕ)
+    → is_free_row (after_side all row value) other ≡ is_free_row all other
 same_free = grind arith
 
 same_side : (all : Draft) (row : List ℕ) (value : Number) (other : List ℕ) (second : Number)
@@ -82,10 +83,12 @@ limited-after all row value sides =
     elim (is_free_row all row) as (λ b. is_free_row all row ≡ b
     → AreLimited (with_declarations all (cond b [] (declare_rhs row value ∷ [])))) [
       | true ↦ λ _. limited all sides
-      | false ↦ λ given. limited-from (with_declaration all (declare_rhs row value)) (side_limited all row value sides given) sides.constant
+      | false ↦ λ given. limited-from (with_declaration all (declare_rhs row value))
+          (side_limited all row value sides given) sides.constant
     ] refl
 
-pub sides-after : (all : Draft) (row : List ℕ) (value : Number) → HasMpsSides all → has_row all row ≡ true → HasMpsSides (after_side all row value)
+pub sides-after : (all : Draft) (row : List ℕ) (value : Number) → HasMpsSides all → has_row all row ≡ true
+    → HasMpsSides (after_side all row value)
 sides-after = grind (arith, limited, side_known, side_limited)
 
 -- ---- two right-hand sides
@@ -94,11 +97,15 @@ abbrev both : Draft → List ℕ → Number → List ℕ → Number → Option F
 both all row value other second = declared_fault all (rhs_declared all row value ++ rhs_declared all other second)
 
 both_fault : (all : Draft) (row : List ℕ) (value : Number) (other : List ℕ) (second : Number) → HasMpsSides all → both all row value other
-    second ≡ earlier_of (side_kind (has_row all row) (is_sided all row)) (side_kind (has_row all other) (is_sided (after_side all row value) other))
-both_fault all row value other second sides = let mid = after_side all row value in
+    second ≡ earlier_of (side_kind (has_row all row) (is_sided all row))
+    (side_kind (has_row all other) (is_sided (after_side all row value) other))
+both_fault all row value other second sides =
+    let mid = after_side all row value in
     declared-append (rhs_declared all row value) (rhs_declared all other second) all
-    ∙ (λ i. earlier_of (side_fault all row value (limited all sides) i) (declared_fault mid (sym (same_side all row value other second) i)))
-    ∙ (λ i. earlier_of (side_kind (has_row all row) (is_sided all row)) (side_fault mid other second (limited-after all row value sides) i))
+    ∙ (λ i. earlier_of (side_fault all row value (limited all sides) i)
+    (declared_fault mid (sym (same_side all row value other second) i)))
+    ∙ (λ i. earlier_of (side_kind (has_row all row) (is_sided all row))
+    (side_fault mid other second (limited-after all row value sides) i))
     ∙ (λ i. earlier_of (side_kind (has_row all row) (is_sided all row)) (side_kind (same_row all row value other i) (is_sided mid other)))
 
 pub row-unknown : (all : Draft) (row : List ℕ) (value : Number) (other : List ℕ) (second : Number) → HasMpsSides all
@@ -133,7 +140,8 @@ given-again = grind (arith, both_after)
 
 pub given-apart : (all : Draft) (row : List ℕ) (value : Number) (other : List ℕ) (second : Number) (answer : LineResult) → HasMpsSides all
     → declared_fault all (rhs_declared all row value) ≡ None → (same_bytes other row && not (is_free_row all row)) ≡ false → MatchResult
-    answer (λ _. declared_fault all (rhs_declared all other second) ≡ None) (IsErrorOf (declared_fault all (rhs_declared all other second)))
+    answer (λ _. declared_fault all (rhs_declared all other second) ≡ None)
+    (IsErrorOf (declared_fault all (rhs_declared all other second)))
     → MatchResult answer (λ _. both all row value other second ≡ None) (IsErrorOf (both all row value other second))
 given-apart = grind (arith, side_fault, limited, both_after)
 
@@ -173,7 +181,8 @@ bounds-stay = grind arith
 -- ---- the objective and rows
 
 -- an objective, if there is none yet
-objective-kept : (all : Draft) (name : List ℕ) → all.objective ≡ None → HasMpsSides all → HasMpsSides (with_declaration all (declare_objective name))
+objective-kept : (all : Draft) (name : List ℕ) → all.objective ≡ None → HasMpsSides all
+    → HasMpsSides (with_declaration all (declare_objective name))
 objective-kept all name none sides = grind arith
 
 -- a row of a new name
@@ -184,7 +193,8 @@ row-kept = search (rules, limited, has-put, at-put, same_name)
 none_so_mps : (o : Option (List ℕ)) → is_none o ≡ true → o ≡ None
 none_so_mps = grind arith
 
-new_row : (all : Draft) (name : List ℕ) (type : RowType) → declared_fault all (declare_row name (by_type type) ∷ []) ≡ None → has_row all name ≡ false
+new_row : (all : Draft) (name : List ℕ) (type : RowType) → declared_fault all (declare_row name (by_type type) ∷ [])
+    ≡ None → has_row all name ≡ false
 new_row = grind arith
 
 objective-or_row : (context : Context) (all : Draft) (name : List ℕ) → declared_fault all (row_of_type context all name Free) ≡ None
@@ -221,12 +231,15 @@ there_so : (there sided : Bool) → side_kind there sided ≡ None → there ≡
 there_so = grind arith
 
 -- in terms of the rows before the line, which are those after each of its right-hand sides
-pairs-kept : (pairs : List Pair) (earlier all : Draft) → ((row : List ℕ) → is_free_row all row ≡ is_free_row earlier row) → HasMpsSides all
+pairs-kept : (pairs : List Pair) (earlier all : Draft)
+    → ((row : List ℕ) → is_free_row all row ≡ is_free_row earlier row) → HasMpsSides all
     → declared_fault all (flat_map (λ (pair : Pair). rhs_declared earlier pair.row (value_of pair.literal)) pairs) ≡ None
     → HasMpsSides (with_declarations all (flat_map (λ (pair : Pair). rhs_declared earlier pair.row (value_of pair.literal)) pairs))
 pairs-kept [] earlier all free sides fault_is = sides
-pairs-kept (pair ∷ pairs) earlier all free sides fault_is = let value = value_of pair.literal in
-    let here = rhs_declared earlier pair.row value in let more = flat_map (λ pair. rhs_declared earlier pair.row _) pairs in
+pairs-kept (pair ∷ pairs) earlier all free sides fault_is =
+    let value = value_of pair.literal in
+    let here = rhs_declared earlier pair.row value in
+    let more = flat_map (λ pair. rhs_declared earlier pair.row _) pairs in
     let same : rhs_declared all pair.row value ≡ here = ap (λ b. cond b [] (declare_rhs pair.row value ∷ [])) (free pair.row) in
     let none = both_none _ (declared_fault (with_declarations all here) more) (sym (declared-append here more all) ∙ fault_is) in
     let there = there_so _ _ (sym (side_fault all pair.row value (limited all sides)) ∙ ap (declared_fault all) same ∙ none.0) in
@@ -250,16 +263,20 @@ header-kept : (context : Context) (earlier : Draft) (more : Fields) (o : Option 
     → HasMpsSides (with_declarations earlier (header_declared context earlier more o))
 header-kept context earlier more o sides = grind arith
 
-data-kept : (context : Context) (earlier : Draft) (fields : Fields) (o : Option Section) → declared_fault earlier (data_declared context earlier fields o) ≡ None → HasMpsSides earlier
+data-kept : (context : Context) (earlier : Draft) (fields : Fields) (o : Option Section)
+    → declared_fault earlier (data_declared context earlier fields o) ≡ None → HasMpsSides earlier
     → HasMpsSides (with_declarations earlier (data_declared context earlier fields o))
 data-kept context earlier fields None fault_is sides = sides
 data-kept context earlier fields (Some Name) fault_is sides = sides
-data-kept context earlier fields (Some ObjSense) fault_is sides = stays-kept (data_declared context earlier fields (Some ObjSense)) earlier (sense-stays fields) sides
+data-kept context earlier fields (Some ObjSense) fault_is sides =
+    stays-kept (data_declared context earlier fields (Some ObjSense)) earlier (sense-stays fields) sides
 data-kept context earlier fields (Some ObjName) fault_is sides = sides
 data-kept context earlier fields (Some Rows) fault_is sides = rows-kept context earlier fields fault_is sides
-data-kept context earlier fields (Some Columns) fault_is sides = stays-kept (columns_line_declared context fields) earlier (columns-stay context fields) sides
+data-kept context earlier fields (Some Columns) fault_is sides =
+    stays-kept (columns_line_declared context fields) earlier (columns-stay context fields) sides
 data-kept context earlier fields (Some Rhs) fault_is sides = rhs_values-kept earlier fields fault_is sides
-data-kept context earlier fields (Some Ranges) fault_is sides = stays-kept (declared_if_some ranges_declared (vector_shape fields)) earlier (ranges-stay fields) sides
+data-kept context earlier fields (Some Ranges) fault_is sides =
+    stays-kept (declared_if_some ranges_declared (vector_shape fields)) earlier (ranges-stay fields) sides
 data-kept context earlier fields (Some Bounds) fault_is sides = stays-kept (bound_line_declared fields) earlier (bounds-stay fields) sides
 data-kept context earlier fields (Some EndData) fault_is sides = sides
 
@@ -268,9 +285,11 @@ pub sides-kept : (context : Context) (earlier : Draft) (item : LineContent) → 
     → HasMpsSides (with_declarations earlier (line_declares context earlier item))
 sides-kept context earlier skipped fault_is sides = sides
 sides-kept context earlier (header keyword more) fault_is sides = header-kept context earlier more _ sides
-sides-kept context earlier (data_line fields) fault_is sides = let faults = form_faults context earlier (data_line fields) in
+sides-kept context earlier (data_line fields) fault_is sides =
+    let faults = form_faults context earlier (data_line fields) in
     let ds = data_declared context earlier fields context.section in data-kept context earlier fields context.section
-    (both_none (least_kind faults) (declared_fault earlier ds) (sym (least-append faults (declaring_faults earlier ds)) ∙ fault_is)).1 sides
+    (both_none (least_kind faults) (declared_fault earlier ds)
+    (sym (least-append faults (declaring_faults earlier ds)) ∙ fault_is)).1 sides
 
 -- ---- the first error of the ranges of a line
 
@@ -311,12 +330,15 @@ second-range = grind (arith, ranges-apart, earlier_of)
 
 -- two ranges of the same row
 pub ranges-of_one : (all : Draft) (row : List ℕ) (value : Number) (other : List ℕ) (second : Number) → same_bytes other row ≡ true
-    → declared_fault all (declare_range row value ∷ declare_range other second ∷ []) ≡ Some (cond (has_row all row) kinds.DuplicateRange kinds.UnknownRow)
-ranges-of_one all row value other second same = let ranged = has-put other row value all.ranges ∙ ap (λ b. b || has_name all.ranges other) same in
+    → declared_fault all (declare_range row value ∷ declare_range other second ∷ [])
+    ≡ Some (cond (has_row all row) kinds.DuplicateRange kinds.UnknownRow)
+ranges-of_one all row value other second same =
+    let ranged = has-put other row value all.ranges ∙ ap (λ b. b || has_name all.ranges other) same in
     let next = with_declaration all (declare_range row value) in declared-append (declare_range row value ∷ [])
     (declare_range other second ∷ []) all ∙ (λ i. earlier_of (range_fault all row value i) (range_fault next other second i))
     ∙ (λ i. earlier_of (range_kind (has_row all row) (is_ranged all row) (has_no_sides all row) (is_infinite_size value)) (range_kind
-    (has_row all (same_name other row same i)) (ranged i || is_row_by_limits all other) (has_no_sides all other) (is_infinite_size second)))
+    (has_row all (same_name other row same i)) (ranged i || is_row_by_limits all other) (has_no_sides all other)
+    (is_infinite_size second)))
     ∙ by (has_row all row) (is_ranged all row) (has_no_sides all row) (is_infinite_size value)
   where
     by : (a b c d : Bool) → earlier_of (range_kind a b c d) (range_kind a true (has_no_sides all other) (is_infinite_size second))
@@ -356,14 +378,16 @@ pub sides-refused : (all : Draft) (column : List ℕ) (lower upper : Option Limi
 sides-refused = search (rules, sides_fault, call-refused)
 
 -- and nothing has changed
-pub sides-unchanged : (faults : List BuildFault) (fault : BuildFault) (P Q : Type 0) (answer : LineResult) → Answers faults (Err fault) P Q
+pub sides-unchanged : (faults : List BuildFault) (fault : BuildFault) (P Q : Type 0) (answer : LineResult)
+    → Answers faults (Err fault) P Q
     → IfFault answer Q
 sides-unchanged = grind arith
 
 -- bounds that are checked
 pub sides-none : (all : Draft) (column : List ℕ) (lower upper : Option Limit) → (is_some lower || is_some upper) ≡ true
     → Ok tt ≡ first_refusal (bounds_refusals all column lower upper) → declared_fault all (bounds_declared column lower upper) ≡ None
-sides-none all column lower upper h stated = sides_fault all column lower upper h ∙ tests-none (bounds_tests all column lower upper) stated
+sides-none all column lower upper h stated = sides_fault all column lower upper h
+    ∙ tests-none (bounds_tests all column lower upper) stated
 
 pub sides-error : (all : Draft) (column : List ℕ) (lower upper : Option Limit) (fault : BuildFault)
     → (is_some lower || is_some upper) ≡ true → Err fault ≡ first_refusal (bounds_refusals all column lower upper)
@@ -382,7 +406,8 @@ kind_stated = grind arith
 
 -- ---- by the type of a bound
 
-pub no-kind : (type : BoundType) (column : List ℕ) → is_integer_type type ≡ false → is_semi_type type ≡ false → kind_declared type column ≡ []
+pub no-kind : (type : BoundType) (column : List ℕ) → is_integer_type type ≡ false → is_semi_type type ≡ false
+    → kind_declared type column ≡ []
 no-kind type column h k = λ i. when (h i) (declare_integer column) ++ when (k i) (declare_semi column)
 
 -- at least one bound is given
@@ -394,7 +419,8 @@ kind_sides : (all : Draft) (d : Declaration) (column : List ℕ) (lower upper : 
     → bounds_tests (with_declaration all d) column lower upper ≡ bounds_tests all column lower upper → declared_fault all (d ∷ [])
     ≡ cond (not (has_column all column)) (Some kinds.UnknownColumn) None → (is_some lower || is_some upper) ≡ true → declared_fault all
     (d ∷ bounds_declared column lower upper) ≡ declared_fault (with_declaration all d) (bounds_declared column lower upper)
-kind_sides all d column lower upper same fault_is h = let mid = with_declaration all d in
+kind_sides all d column lower upper same fault_is h =
+    let mid = with_declaration all d in
     let sides = sides_fault mid column lower upper h ∙ ap (λ tests. first_held (kind_tests tests)) same in
     declared-append (d ∷ []) (bounds_declared column lower upper) all ∙ (λ i. earlier_of (fault_is i) (sides i))
     ∙ by (has_column all column) ((is_some lower && has_name all.lowers column) || (is_some upper && has_name all.uppers column))
@@ -427,8 +453,10 @@ pub bound-stated : (all : Draft) (type : BoundType) (column : List ℕ) (value :
     (bounds_declared column (lower_given type value) (upper_given type value))
 bound-stated all bounds.Binary column value apart =
     integer_sides all column (Some zero_limit) (Some one_limit) (nor (is_semi all column) false apart).0 refl
-bound-stated all bounds.IntegerLower column value apart = integer_sides all column (Some value) None (nor (is_semi all column) false apart).0 refl
-bound-stated all bounds.IntegerUpper column value apart = integer_sides all column None (Some value) (nor (is_semi all column) false apart).0 refl
+bound-stated all bounds.IntegerLower column value apart =
+    integer_sides all column (Some value) None (nor (is_semi all column) false apart).0 refl
+bound-stated all bounds.IntegerUpper column value apart =
+    integer_sides all column None (Some value) (nor (is_semi all column) false apart).0 refl
 bound-stated all bounds.SemiUpper column value apart =
     kind_sides all (declare_semi column) column None (Some value) refl (kind_stated all (declare_semi column) column _ refl apart) refl
 bound-stated all type column value apart = refl

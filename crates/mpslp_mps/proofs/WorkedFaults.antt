@@ -21,7 +21,8 @@ of_name kind name = Some (whole_fault kind (Some (codes name)))
 -- ---- a file of 13 lines, and changes of it
 
 abbrev base : List (List ℕ)
-base = lines_of "NAME\nROWS\n N  C\n L  R\nCOLUMNS\n    X  C  1\n    X  R  1\n    Y  C  1\nRHS\n    A  R  1\nBOUNDS" ++ lines_of " UP  B  X  4\nENDATA"
+base = lines_of "NAME\nROWS\n N  C\n L  R\nCOLUMNS\n    X  C  1\n    X  R  1\n    Y  C  1\nRHS\n    A  R  1\nBOUNDS"
+    ++ lines_of " UP  B  X  4\nENDATA"
 
 -- the line with this number, counted from 1, is replaced
 abbrev with_line : ℕ → String → List ℕ
@@ -92,13 +93,16 @@ with_sides sides = text (lines_of "NAME          SMALL\nROWS\n N  COST\n L  LIM1
     ++ lines_of "    Y  COST  2  MYG  1.50\nRHS" ++ (lines_of sides ++ lines_of "ENDATA"))
 
 abbrev files_with_sides : List (List ℕ × Option Fault)
-files_with_sides = (with_sides "    RHS  LIM1  -1e20  MYG  1", of_name InfiniteLimit "LIM1") ∷ (with_sides "    RHS  LIM1  1e20  MYG  1", None)
+files_with_sides = (with_sides "    RHS  LIM1  -1e20  MYG  1", of_name InfiniteLimit "LIM1")
+    ∷ (with_sides "    RHS  LIM1  1e20  MYG  1", None)
     ∷ (with_sides "    RHS  LIM1  4  MYG  9e19\nRANGES\n    R  MYG  9e19", of_name LimitTooLarge "MYG") ∷ []
 
 -- ---- an objective named by OBJNAME
 
 abbrev objective_lines : String → List ℕ
-objective_lines names = text (codes "NAME" ∷ (lines_of names ++ lines_of "ROWS\n N  C\n L  R\n N  S\nCOLUMNS\n    X  C  1  R  1\n    X  S  2\nENDATA"))
+objective_lines names =
+    text (codes "NAME" ∷ (lines_of names
+    ++ lines_of "ROWS\n N  C\n L  R\n N  S\nCOLUMNS\n    X  C  1  R  1\n    X  S  2\nENDATA"))
 
 abbrev files_with_objectives : List (List ℕ × Option Fault)
 files_with_objectives = (objective_lines "OBJNAME R", on_line 7 UnknownRow) ∷ (objective_lines "OBJNAME\n    Q", on_line 8 UnknownRow)
@@ -110,7 +114,8 @@ files_with_objectives = (objective_lines "OBJNAME R", on_line 7 UnknownRow) ∷ 
     ∷ (objective_lines "OBJNAME S C", on_line 2 FieldCount) ∷ (objective_lines "OBJNAME\n    S C", on_line 3 FieldCount)
     ∷ (codes "OBJNAME obj\nROWS\n L  R\nCOLUMNS\n    X  R  1\nENDATA\n", on_line 4 UnknownRow)
     ∷ (codes "OBJNAME S\nROWS\n L  obj\nCOLUMNS\n    X  obj  1\nENDATA\n", on_line 4 UnknownRow)
-    ∷ (codes "OBJNAME S\nROWS\nCOLUMNS X\n", on_line 3 FieldCount) ∷ (codes "OBJNAME S\nROWS\n N  S\n N  S\n", on_line 4 DuplicateRow) ∷ []
+    ∷ (codes "OBJNAME S\nROWS\nCOLUMNS X\n", on_line 3 FieldCount)
+    ∷ (codes "OBJNAME S\nROWS\n N  S\n N  S\n", on_line 4 DuplicateRow) ∷ []
 
 -- ---- all of them
 

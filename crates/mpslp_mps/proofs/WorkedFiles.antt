@@ -32,14 +32,33 @@ pub record Passes (bytes : List ℕ) : Type 0 where
   pub no_fault : file_fault (draft_in bytes) ≡ None
 
 pub declares-from_passes : (bytes : List ℕ) → Passes bytes → DeclaresMps bytes (model_of (draft_in bytes))
-declares-from_passes bytes h = record { text = h.is_text; means = means-from_none (declarations_of bytes) h.objective h.legal h.unrefused h.no_fault }
+declares-from_passes bytes h =
+    record {
+      text = h.is_text;
+      means = means-from_none (declarations_of bytes) h.objective h.legal h.unrefused
+          h.no_fault;
+    }
 
 abbrev pub tests : List ℕ → Bool × Bool × Bool × List BuildFault × Option Fault
-tests bytes = let declared = declarations_of bytes in
-    (is_mps_text bytes, has_objective declared, list_all is_legal declared, refusals_in_turn empty_draft declared, file_fault (draft_of declared))
+tests bytes =
+    let declared = declarations_of bytes in (
+      is_mps_text bytes,
+      has_objective declared,
+      list_all is_legal declared,
+      refusals_in_turn empty_draft declared,
+      file_fault (draft_of declared),
+    )
 
 pub passes-from_tests : (bytes : List ℕ) → tests bytes ≡ (true, true, true, [], None) → Passes bytes
-passes-from_tests bytes h = record { is_text = ap (λ t. t.0) h; objective = ap (λ t. t.1) h; legal = ap (λ t. t.2) h; unrefused = ap (λ t. t.3) h; no_fault = ap (λ t. t.4) h }
+passes-from_tests bytes h =
+    record {
+      is_text = ap (λ t. t.0) h;
+      objective = ap (λ t. t.1) h;
+      legal = ap (λ t. t.2) h;
+      unrefused =
+          ap (λ t. t.3) h;
+      no_fault = ap (λ t. t.4) h;
+    }
 
 -- ---- a small file, and the same in other bytes
 
@@ -124,7 +143,8 @@ empty_column = text empty_column_lines
 -- ---- integer columns that are fixed and without an upper bound
 
 abbrev pub integer_bounds_lines : List (List ℕ)
-integer_bounds_lines = lines_of "NAME\nROWS\n N  obj\nCOLUMNS\n    y  obj  1\n    MARKER  'MARKER'  'INTORG'\n    x  obj  1\n    z  obj  0"
+integer_bounds_lines =
+    lines_of "NAME\nROWS\n N  obj\nCOLUMNS\n    y  obj  1\n    MARKER  'MARKER'  'INTORG'\n    x  obj  1\n    z  obj  0"
     ++ lines_of "    MARKER  'MARKER'  'INTEND'\nBOUNDS\n FX  BND  x  1\n PL  BND  z\nENDATA"
 
 abbrev pub integer_bounds : List ℕ
@@ -171,7 +191,8 @@ not_maximized = text (take 1 maximized_lines ++ drop 3 maximized_lines)
 
 abbrev pub usual_layout_lines : List (List ℕ)
 usual_layout_lines = lines_of "* a comment\nNAME          TEST\nROWS\n N  COST\n E  BAL\n G  DEM\nCOLUMNS" ++ lines_of
-    "    MARKER                 'MARKER'                 'INTORG'" ++ lines_of "    A         COST         3.0000000000   BAL          1.0000000000"
+    "    MARKER                 'MARKER'                 'INTORG'"
+    ++ lines_of "    A         COST         3.0000000000   BAL          1.0000000000"
     ++ lines_of "    A         DEM          1.0000000000\n    MARKER                 'MARKER'                 'INTEND'"
     ++ lines_of "    B         COST         1e+00          BAL         -1\nRHS\n    RHS       DEM          2.5\nBOUNDS"
     ++ lines_of " UP BND       A            10\n UP BND       B            4.0000000000\nENDATA"

@@ -1,6 +1,6 @@
 -- What the code returns for the content of a line.
 use Rattle.std.specs.Prelude.{◌≡◌, Bool, true, false, Option, Some, None, Result, Ok, Err, MatchResult}
-use Rattle.mpslp_builder.specs.Declaration.{Declarations, Draft, with_declarations}
+use Rattle.mpslp_builder.specs.Declaration.{Draft, with_declarations}
 use Rattle.mpslp_types.specs.declared.faults.FaultKind.{FaultKind}
 use Rattle.mpslp_lines.specs.Declaring.{first_fault}
 use Rattle.mpslp_lines.specs.LineAnswer.{IsErrorOf, LineResult}
@@ -19,10 +19,6 @@ ReturnsFault first_fault answer = MatchResult answer (λ _. first_fault ≡ None
 -- A value of which this holds is returned if there is no error, otherwise the first error.
 abbrev pub ReturnsUnless : {X : Type 0} → Option FaultKind → Result X FaultKind → (X → Type 0) → Type 0
 ReturnsUnless first_fault answer Claim = MatchResult answer (λ value. (first_fault ≡ None) × Claim value) (λ kind. first_fault ≡ Some kind)
-
--- The declarations are made, unless an allocation failed.
-abbrev pub DeclaresUnlessOutOfMemory : Draft → Declarations → LineResult → Draft → Type 0
-DeclaresUnlessOutOfMemory earlier declarations answer later = MatchResult answer (λ _. later ≡ with_declarations earlier declarations) (λ error. error ≡ OutOfMemory)
 
 -- the error of a line of legal bytes with this content
 abbrev pub item_fault : Context → Draft → LineContent → Option FaultKind

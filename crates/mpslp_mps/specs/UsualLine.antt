@@ -1,6 +1,5 @@
 -- What the code declares for a line of COLUMNS without an error.
 use Rattle.std.specs.Prelude.{◌≡◌, ◌≢◌, ℕ, Bool, true, false, List, [], ◌++◌, Option, None, Result, Ok, Err}
-use Rattle.std.specs.Option.{ForSome}
 use Rattle.std.specs.List.{flat_map}
 use Rattle.mpslp_decimal.specs.Decimal.{Number}
 use Rattle.mpslp_types.specs.Name.{is_mps_name}
@@ -42,10 +41,9 @@ abbrev pub LeavesFirst : Draft → Bool → List ℕ → List (List ℕ × Numbe
 LeavesFirst earlier marked column values answer =
     answer ≡ Ok false → name_refusal column ≡ None → has_column earlier column ≡ false → refusals_in_turn earlier (usual_declared marked column values) ≢ []
 
--- A line that is left has an error, if the column of the line before is declared.
+-- A line that is left has an error.
 abbrev pub LeavesFaulty : Context → Draft → LineContent → Result Bool LineError → Type 0
-LeavesFaulty context earlier item answer =
-    answer ≡ Ok false → ForSome context.last_column (λ name. has_column earlier name ≡ true) → item_fault context earlier item ≢ None
+LeavesFaulty context earlier item answer = answer ≡ Ok false → item_fault context earlier item ≢ None
 
 -- The line is read, and nothing is against it; or nothing is done; or an allocation failed.
 abbrev pub MayPass : Context → Draft → List ℕ → List (List ℕ × Number) → Result Bool LineError → Context → Draft → Type 0

@@ -151,7 +151,7 @@ impl LineContext {
         ensures { result ≡ option_map_or (same_bytes name.now) self.now.objname true }
     {
         match &self.objname {
-            Some(word_due) => name == word_due.as_slice(),
+            Some(objname) => name == objname.as_slice(),
             None => true,
         }
     }
@@ -282,17 +282,6 @@ impl LineContext {
         self.word_due = None;
         self.in_integer_part = opens;
         self.last_column = None;
-    }
-
-    /// Updates the context after a line of a column. Allocates only if the last line is of another column.
-    pub(crate) fn pass_column(&mut self, column: &[u8]) -> Result<(), AllocError>
-        ensures { OnOk result (self.new ≡ after_column self.old column.now) }
-    {
-        self.word_due = None;
-        if !is_name(&self.last_column, column) {
-            self.last_column = Some(column.to_vec(self.alloc)?);
-        }
-        Ok(())
     }
 
     /// Updates the context after a line of a column that is not the last one. The memory of the last name is used again.

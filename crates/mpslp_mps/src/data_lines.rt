@@ -120,40 +120,34 @@ pub(crate) fn check_vector<'a>(
     Ok((set, values))
 }
 
-/// Checks the name of a column, unless the line before has the same name.
-fn check_column_name(
-    context: &LineContext,
-    builder: &Builder,
-    column: &[u8],
-) -> Result<(), NameFault>
-    ensures { result_err result ≡ name_refusal column.now }
+/// Checks the name of a column.
+fn check_column_name(column: &[u8]) -> Result<(), FaultKind>
+    ensures { let first_fault = first_held (name_tests column.now) in
+        MatchResult result (λ _. first_fault ≡ None) (λ kind. first_fault ≡ Some kind) }
 {
-    if context.is_last_column(column) && builder.has_column(column) {
-        each_builder_is_made(builder);
-        return Ok(());
+    match Name::check(column) {
+        Ok(()) => Ok(()),
+        Err(NameFault::NameLength) => Err(FaultKind::NameLength),
+        Err(NameFault::NameByte) => Err(FaultKind::NameByte),
+        // A check allocates nothing.
+        Err(NameFault::NameMarker | NameFault::OutOfMemory) => Err(FaultKind::NameMarker),
     }
-    Name::check(column)
 }
 
-/// The column and the values of a line of COLUMNS that is not a marker line. It is not checked here whether the lines of the
-/// column are contiguous.
-pub(crate) fn check_column<'a>(
-    context: &LineContext,
-    builder: &Builder,
-    fields: &[&'a [u8]],
-) -> Result<(&'a [u8], RowValues<'a>), LineError>
+/// The column and the values of a line of COLUMNS that is not a marker line. Only the form of the line is checked.
+pub(crate) fn check_column<'a>(fields: &[&'a [u8]]) -> Result<(&'a [u8], RowValues<'a>), FaultKind>
     ensures { let parts = column_shape (map (λ field. field.now) fields.now) in
         let first_fault = first_held (judged_by (λ line. name_tests line.name ++ number_tests (literals_of line.pairs)) parts) in
-        MatchResult result (λ line. (first_fault ≡ None) × (option_map named_values parts ≡ Some (line.0.now, line.1))) (IsErrorOf first_fault) }
+        MatchResult result (λ line. (first_fault ≡ None) × (option_map named_values parts ≡ Some (line.0.now, line.1))) (λ kind. first_fault ≡ Some kind) }
 {
     let Some(line) = column_shape(fields) else {
-        return Err(LineError::Fault(FaultKind::FieldCount));
+        return Err(FaultKind::FieldCount);
     };
     let ValuesLine {
         name: column,
         pairs,
     } = line;
-    check_column_name(context, builder, column)?;
+    check_column_name(column)?;
     let values = values_of(pairs)?;
     Ok((column, values))
 }

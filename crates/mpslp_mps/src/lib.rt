@@ -24,4 +24,4 @@ mod vectors;
 pub use mpslp_lines::MAX_LINE_LEN;
 pub use mpslp_mps_fields::{BoundType, Section};
 pub use reader::MpsReader;
-pub use reading::read_mps;
+pub use reading::{read_mps, read_mps_seeded};

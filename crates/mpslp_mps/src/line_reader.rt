@@ -40,7 +40,7 @@ impl ReadLines for LineReader {
             alloc,
             context: LineContext::new(alloc),
             builder: ReaderBuilder {
-                draft: Builder::new(alloc, seed),
+                draft: Builder::new_seeded(alloc, seed),
             },
             number: 1,
         }

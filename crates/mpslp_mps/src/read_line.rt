@@ -1,13 +1,12 @@
 //! Reads lines: each is checked, and then its declarations are passed to the builder.
 
-ghost use Rattle.std.specs.Prelude.{◌≡◌, Some, map};
-ghost use Rattle.std.specs.List.{list_all};
+ghost use Rattle.std.specs.Prelude.{◌≡◌, Some, false, map};
 ghost use Rattle.mpslp_builder.specs.Declaration.{Draft};
 ghost use Rattle.mpslp_mps_fields.specs.declared.sections.Section.{Section};
-ghost use Rattle.mpslp_mps_fields.specs.Line.{data_line, header_of, content_of, outside_comment};
+ghost use Rattle.mpslp_mps_fields.specs.Line.{data_line, header_of, content_of, is_comment};
 ghost use Rattle.mpslp_mps.specs.LineDeclarations.{is_new_objective, row_of_type};
-ghost use Rattle.mpslp_lines.specs.FaultTests.{is_legal_byte};
 ghost use Rattle.mpslp_lines.specs.LineAnswer.{AreDeclared, IfFault};
+ghost use Rattle.mpslp_mps.specs.ColumnDeclared.{HasLastColumn};
 ghost use Rattle.mpslp_mps.specs.LineAnswer.{ReadsContent};
 ghost use Rattle.mpslp_mps.specs.ReadAnswer.{ReadsLine};
 ghost use Rattle.mpslp_mps.specs.VectorDeclared.{HasMpsSides};
@@ -102,7 +101,8 @@ fn read_data(
     alloc: Global,
     fields: &[&[u8]],
 ) -> Result<(), LineError>
-    requires { HasMpsSides builder.old.draft }
+    requires sides { HasMpsSides builder.old.draft }
+    requires column { HasLastColumn context.old builder.old.draft }
     ensures answers { ReadsContent context.old builder.old.draft (data_line (map (λ field. field.now) fields.now)) result context.new builder.new.draft }
     ensures unchanged { IfFault result ((context.new ≡ context.old) × (builder.new.draft ≡ builder.old.draft)) }
 {
@@ -128,7 +128,6 @@ fn read_keyword(
     alloc: Global,
     fields: &[&[u8]],
 ) -> Result<(), LineError>
-    requires { HasMpsSides builder.old.draft }
     ensures answers { ReadsContent context.old builder.old.draft (header_of (map (λ field. field.now) fields.now)) result context.new builder.new.draft }
     ensures unchanged { IfFault result ((context.new ≡ context.old) × (builder.new.draft ≡ builder.old.draft)) }
 {
@@ -139,20 +138,19 @@ fn read_keyword(
     }
 }
 
-/// Reads a line of legal length and bytes.
+/// Reads a line of legal length and bytes that is not a comment.
 fn read_content(
     context: &mut LineContext,
     builder: &mut ReaderBuilder,
     alloc: Global,
     line: &[u8],
 ) -> Result<(), LineError>
-    requires { HasMpsSides builder.old.draft }
+    requires content { is_comment line.now ≡ false }
+    requires sides { HasMpsSides builder.old.draft }
+    requires column { HasLastColumn context.old builder.old.draft }
     ensures answers { ReadsContent context.old builder.old.draft (content_of line.now) result context.new builder.new.draft }
     ensures unchanged { IfFault result ((context.new ≡ context.old) × (builder.new.draft ≡ builder.old.draft)) }
 {
-    if is_comment(line) {
-        return Ok(());
-    }
     let fields = front_fields(line);
     // Only spaces and tabs.
     if fields.is_empty() {
@@ -165,13 +163,6 @@ fn read_content(
     }
 }
 
-/// Whether all bytes of the line are legal. A comment may have any bytes.
-fn has_legal_bytes(line: &[u8]) -> bool
-    ensures { result ≡ list_all is_legal_byte (outside_comment line.now) }
-{
-    is_comment(line) || are_legal_bytes(line)
-}
-
 /// Reads a line.
 pub(crate) fn read_line(
     context: &mut LineContext,
@@ -179,14 +170,19 @@ pub(crate) fn read_line(
     alloc: Global,
     line: &[u8],
 ) -> Result<(), LineError>
-    requires { HasMpsSides builder.old.draft }
+    requires sides { HasMpsSides builder.old.draft }
+    requires column { HasLastColumn context.old builder.old.draft }
     ensures answers { ReadsLine context.old builder.old.draft line.now result context.new builder.new.draft }
     ensures unchanged { IfFault result ((context.new ≡ context.old) × (builder.new.draft ≡ builder.old.draft)) }
 {
     if !has_legal_length(line) {
         return Err(LineError::Fault(FaultKind::LineTooLong));
     }
-    if !has_legal_bytes(line) {
+    // A comment may have any bytes.
+    if is_comment(line) {
+        return Ok(());
+    }
+    if !are_legal_bytes(line) {
         return Err(LineError::Fault(FaultKind::BadByte));
     }
     read_content(context, builder, alloc, line)

@@ -3,7 +3,7 @@
 ghost use Rattle.mpslp_mps.specs.ReadAnswer.{ReadsMps};
 
 use crate::reader::MpsReader;
-use mpslp_model::{HashSeed, Model, ReadFault, read_whole};
+use mpslp_model::{FIXED_SEED, HashSeed, Model, ReadFault, read_whole_seeded};
 use std::alloc::Global;
 
 /// Reads the model that an MPS text declares.
@@ -19,8 +19,15 @@ use std::alloc::Global;
 /// line, the one whose kind comes first in [`FaultKind`](mpslp_model::FaultKind) is reported. If no line has an error, the
 /// error is `MissingEnd`, or that of [`Builder::finish`](mpslp_model::Builder::finish) for the whole file, on line 0.
 /// `OutOfMemory` if an allocation fails. Never `Failed`.
-pub fn read_mps(alloc: Global, seed: HashSeed, text: &[u8]) -> Result<Model, ReadFault>
+pub fn read_mps(alloc: Global, text: &[u8]) -> Result<Model, ReadFault>
     ensures { ReadsMps text.now result }
 {
-    read_whole::<MpsReader>(alloc, seed, text)
+    read_mps_seeded(alloc, FIXED_SEED, text)
+}
+
+/// As [`read_mps`], with a seed for the hashes of names. Only the time of the call depends on the seed.
+pub fn read_mps_seeded(alloc: Global, seed: HashSeed, text: &[u8]) -> Result<Model, ReadFault>
+    ensures { ReadsMps text.now result }
+{
+    read_whole_seeded::<MpsReader>(alloc, seed, text)
 }

@@ -8,6 +8,7 @@ ghost use Rattle.mpslp_builder.specs.ColumnLine.{pair_of, listed};
 ghost use Rattle.mpslp_builder.specs.Declaration.{has_column};
 ghost use Rattle.mpslp_builder.specs.Refusal.{refusals_in_turn};
 ghost use Rattle.mpslp_lines.specs.FaultTests.{judged_by, first_held, number_tests};
+ghost use Rattle.mpslp_mps.specs.ColumnDeclared.{HasLastColumn};
 ghost use Rattle.mpslp_mps.specs.LineFault.{literals_of};
 ghost use Rattle.mpslp_mps.specs.LineAnswer.{item_fault, MayRead};
 ghost use Rattle.mpslp_mps.specs.LineValues.{named_values};
@@ -36,6 +37,9 @@ fn entry_of<'a>(value: &RowValue<'a>) -> Entry<'a>
 }
 
 /// The rows and values of a line, as the builder takes them.
+///
+/// A caller takes the struct apart and makes it again in the call: the prover does not cover a call that is passed a struct of
+/// another crate which a function has returned.
 fn entries_of<'a>(values: &RowValues<'a>) -> Entries<'a>
     ensures { listed result ≡ values.now }
 {
@@ -155,6 +159,7 @@ pub(crate) fn read_usual(
     fields: &[&[u8]],
 ) -> Result<bool, LineError>
     requires section { context.old.section ≡ Some Section.Columns }
+    requires column { HasLastColumn context.old builder.old.draft }
     requires plain { is_marker_line (map (λ field. field.now) fields.now) ≡ false }
     ensures read { MayRead context.old builder.old.draft (data_line (map (λ field. field.now) fields.now)) result context.new builder.new.draft }
     ensures refused { LeavesFaulty context.old builder.old.draft (data_line (map (λ field. field.now) fields.now)) result }

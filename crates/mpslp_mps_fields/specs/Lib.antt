@@ -1,4 +1,3 @@
-pub mod Blanks
 pub mod Line
 pub mod ObjNameHeader
 pub mod DataLine

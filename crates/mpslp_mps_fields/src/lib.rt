@@ -11,7 +11,6 @@
 #![tactic(auto)]
 
 mod after_keyword;
-mod blanks;
 mod bound_types;
 mod fields;
 mod line;

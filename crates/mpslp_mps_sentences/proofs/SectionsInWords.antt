@@ -12,7 +12,7 @@ use Prelude.{data_lines, objname_word, objname, data_declared, header_declared, 
 use Prelude.{header-complete, data_lines-push, objname-push, is_free_row_named, has_free_row, has_named_objective, ◌&&◌, RowType, Free}
 use Prelude.{named-after, RowLine, row_type, fields_under, data_lines_after, declared_if_some, row_declared, is_free, rules}
 use Prelude.{list_all-append, first_so, same_name, opening_word, closing_word, marker_word, alternate, is_one_set, map, map-append}
-use Prelude.{is_nonempty, so_not, has_column, more_entries, itself_named, has-put, line_column, last_column, columns_line_declared}
+use Prelude.{is_nonempty, so_not, has_column, column-after, declares-itself, line_column, last_column}
 use Prelude.{is_split, same_column, entries_after, are_together, append_assoc, section_after}
 use Rattle.mpslp_mps_sentences.proofs.FieldsInWords.{section-is, next_draft, AreOrdered, rows-there, is_other_set, column-continues_column}
 use Rattle.mpslp_mps_sentences.proofs.FieldsInWords.{Keeps}
@@ -60,23 +60,23 @@ pub data Stage : Type 0 where
 
 -- what the lines give for the section: its words, whether it has begun, the current section, and whose word is missing
 abbrev pub IsAt : Section → (List ℕ → Bool) → Stage → List Fields → Bool → Option Section → Option Section → Type 0
-IsAt section test missing words begun current awaited = (words ≡ []) × (begun ≡ false) × (is_section section current ≡ false)
-IsAt section test without_word words begun current awaited =
-    (words ≡ [] ∷ []) × (begun ≡ true) × (is_section section current ≡ true) × (is_some awaited ≡ true)
-IsAt section test with_word words begun current awaited =
-    (is_one_word test words ≡ true) × (begun ≡ true) × (is_section section current ≡ true → is_some awaited ≡ false)
+IsAt section test missing words begun current due = (words ≡ []) × (begun ≡ false) × (is_section section current ≡ false)
+IsAt section test without_word words begun current due =
+    (words ≡ [] ∷ []) × (begun ≡ true) × (is_section section current ≡ true) × (is_some due ≡ true)
+IsAt section test with_word words begun current due =
+    (is_one_word test words ≡ true) × (begun ≡ true) × (is_section section current ≡ true → is_some due ≡ false)
 
 -- at one of the three stages
 abbrev pub IsSome : Section → (List ℕ → Bool) → List Fields → Bool → Option Section → Option Section → Type 0
-IsSome section test words begun current awaited = (stage : Stage) × IsAt section test stage words begun current awaited
+IsSome section test words begun current due = (stage : Stage) × IsAt section test stage words begun current due
 
 abbrev pub IsUnderway : Section → (List ℕ → Bool) → List LineContent → Type 0
 IsUnderway section test before = IsSome section test (words_in section before) (has_section before section) (current_section before) (word_due before)
 
 -- replaces parts by equal ones
 carried : (section : Section) (test : List ℕ → Bool) (words words2 : List Fields) (begun begun2 : Bool)
-    (current current2 awaited wanted2 : Option Section) → words2 ≡ words → begun2 ≡ begun → current2 ≡ current → wanted2 ≡ awaited
-    → IsSome section test words begun current awaited → IsSome section test words2 begun2 current2 wanted2
+    (current current2 due due2 : Option Section) → words2 ≡ words → begun2 ≡ begun → current2 ≡ current → due2 ≡ due
+    → IsSome section test words begun current due → IsSome section test words2 begun2 current2 due2
 carried = grind arith
 
 -- ---- one more line
@@ -85,26 +85,26 @@ or_false : (b : Bool) → (b || false) ≡ b
 or_false = grind arith
 
 -- a line that does not concern the section, and does not come before a missing word of it
-passed : (section : Section) (test : List ℕ → Bool) (words : List Fields) (begun : Bool) (current awaited next later : Option Section)
-    → IsSome section test words begun current awaited → is_some awaited ≡ false → is_section section next ≡ false
+passed : (section : Section) (test : List ℕ → Bool) (words : List Fields) (begun : Bool) (current due next later : Option Section)
+    → IsSome section test words begun current due → is_some due ≡ false → is_section section next ≡ false
     → IsSome section test (words ++ []) (begun || false) next later
 passed = grind arith
 
 -- the header of the section
 begun-now : (section : Section) (test : List ℕ → Bool) → IsOfOneWord section test → (words : List Fields) (begun : Bool)
-    (current awaited : Option Section) (more : Fields) → IsSome section test words begun current awaited → begun ≡ false → fits_word test
+    (current due : Option Section) (more : Fields) → IsSome section test words begun current due → begun ≡ false → fits_word test
     more ≡ true → IsSome section test (words ++ more ∷ []) (begun || true) (Some section) (section_of_word_due section more)
 begun-now = grind arith
 
 -- the data line with the word
-word-now : (section : Section) (test : List ℕ → Bool) (words : List Fields) (begun : Bool) (current awaited : Option Section)
-    (fields : Fields) → IsSome section test words begun current awaited → is_section section current ≡ true → is_some awaited ≡ true
+word-now : (section : Section) (test : List ℕ → Bool) (words : List Fields) (begun : Bool) (current due : Option Section)
+    (fields : Fields) → IsSome section test words begun current due → is_section section current ≡ true → is_some due ≡ true
     → is_single test fields ≡ true → IsSome section test (words ++ fields ∷ []) (begun || false) current None
 word-now = grind arith
 
 -- a data line of another section
-elsewhere : (section : Section) (test : List ℕ → Bool) (words : List Fields) (begun : Bool) (current awaited : Option Section)
-    → IsSome section test words begun current awaited → is_section section current ≡ false
+elsewhere : (section : Section) (test : List ℕ → Bool) (words : List Fields) (begun : Bool) (current due : Option Section)
+    → IsSome section test words begun current due → is_section section current ≡ false
     → IsSome section test (words ++ []) (begun || false) current None
 elsewhere = grind arith
 
@@ -591,13 +591,6 @@ together-more x (c ∷ columns) h k = both_so _ _ (so_not _ (after-more c x colu
 
 -- ---- the columns of a draft
 
-stays-there : (all : Draft) (d : Declaration) (name : List ℕ) → has_column all name ≡ true → has_column (with_declaration all d) name ≡ true
-stays-there = grind (arith, more_entries)
-
-pub column-after : (ds : Declarations) (all : Draft) (name : List ℕ) → has_column all name ≡ true → has_column (with_declarations all ds) name ≡ true
-column-after [] all name h = h
-column-after (d ∷ ds) all name h = column-after ds (with_declaration all d) name (stays-there all d name h)
-
 -- the columns of these lines
 abbrev pub columns_of : List LineContent → List Column
 columns_of before = map line_column (data_lines Columns before)
@@ -605,10 +598,6 @@ columns_of before = map line_column (data_lines Columns before)
 -- each of them exists
 abbrev pub AreThere : List LineContent → Draft → Type 0
 AreThere before earlier = (name : List ℕ) → list_any (same_column (Some name)) (columns_of before) ≡ true → has_column earlier name ≡ true
-
-declares-itself : (context : Context) (earlier : Draft) (fields : Fields) (name : List ℕ) → line_column fields ≡ Some name
-    → has_column (with_declarations earlier (columns_line_declared context fields)) name ≡ true
-declares-itself = grind (arith, column-after, has-put, or_left, itself_named)
 
 pub there-push : Keeps AreThere
 there-push before earlier item there name h = search (rules, data_lines-push, column-after, append-nil, map-append, list_any-append, declares-itself, one_column, section-is)

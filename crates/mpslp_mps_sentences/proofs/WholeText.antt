@@ -16,7 +16,7 @@ use Prelude.{is_vector_line, is_bound_line, alternate, are_together, is_one_set,
 use Prelude.{list_any-append, flat_map, or_left, or_right, declare_marked, has_column, has-put, Fields, ValuesLine, Context, line_column}
 use Prelude.{coefficient_declared, columns_line_declared, data_declared, header_declared, is_split, declares_column, no_columns}
 use Prelude.{columns-kept, each-flat, data_lines-push, same_column, ap, ◌∙◌, filter_map-append, is_some, option_map_or, same_bytes, when}
-use Prelude.{head_of, data_line, Name, said_after, fields_under, word_due, data_tests, IsGood, never, strays, takes_data, words_in}
+use Prelude.{head_of, data_line, Name, said_after, fields_under, word_due, data_tests, IsGood, never, takes_data, words_in}
 use Prelude.{has_word_at_most, is_none, are_distinct, both_false, nor, not_so, header, has, section_named, section_of_header, may_follow}
 use Prelude.{sense_of, data_lines_after, objname_word, objname, has_section, may_begin, lacks_objective, section_tests, header_tests}
 use Prelude.{in_order, same_section, are_good_sections, may_have_more, word_fields, is_free_row_named, has_free_row, has_named_objective}
@@ -32,7 +32,6 @@ use Rattle.mpslp_mps_sentences.proofs.SectionsInWords.{no-more-words, not-left, 
 use Rattle.mpslp_mps_sentences.proofs.SectionsInWords.{columns_of, there-push, together-kept, fields-kept, set-kept, markers-kept, last_of}
 use Rattle.mpslp_mps_sentences.proofs.SectionsInWords.{comes_again, last-line, said_after-append, data-occurs, passes-all, set-fits}
 use Rattle.mpslp_mps_sentences.proofs.SectionsInWords.{marker-follows, together-apart}
-use Rattle.mpslp_types.specs.declared.faults.FaultKind.TheVariants as kinds
 
 -- ---- what well-formed lines are together
 

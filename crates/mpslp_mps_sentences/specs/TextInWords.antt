@@ -7,7 +7,7 @@ use Rattle.mpslp_types.specs.Name.{same_bytes, is_mps_name}
 use Rattle.mpslp_types.specs.declared.kinds.RowType.{RowType}
 use Rattle.mpslp_types.specs.declared.kinds.RowType.TheVariants.{Free}
 use Rattle.mpslp_types.specs.Lists.{are_distinct, is_nonempty, when}
-use Rattle.mpslp_mps_fields.specs.Line.{Fields, LineContent, skipped, header, data_line, content_of, section_named, is_section, has}
+use Rattle.mpslp_mps_fields.specs.Line.{Fields, LineContent, skipped, header, data_line, content_of, section_named, is_section}
 use Rattle.mpslp_mps.specs.LegalLine.{is_legal_line}
 use Rattle.mpslp_mps_fields.specs.DataLine.{Pair, sense_of, RowLine, row_shape, row_type, column_shape, is_marker_line, marker_shape, opening_word, closing_word, vector_shape, bound_type, bound_shape}
 use Rattle.mpslp_mps.specs.Context.{seen_sections, said_after, data_lines, marker_word, line_column, vector_set, bound_set}

@@ -1,8 +1,8 @@
 //! A small model in both formats, and texts of results.
 
 use mpslp_convert::{RunFault, report};
-use mpslp_formats::Mps;
 use mpslp_model::{Format, Model, ReadFault, Sink, ToWrite};
+use mpslp_write::Mps;
 use std::alloc::Global;
 
 /// A limit above the length of every input here.

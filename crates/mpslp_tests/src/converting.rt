@@ -7,9 +7,9 @@ use crate::answers::{MUCH, SMALL, SMALL_CANONICAL, SMALL_CANONICAL_LP, SMALL_LP,
 use mpslp_convert::{
     ConvertFault, RunFault, canonical, is_canonical, laws, load, run, same_model, show,
 };
-use mpslp_formats::{Lp, Mps};
-use mpslp_model::{FIXED_SEED, FaultKind, Format, FromRead, NameAt, Sink, Source, ToWrite};
+use mpslp_model::{FaultKind, Format, FromRead, NameAt, Sink, Source, ToWrite};
 use mpslp_test_devices::{FailingReader, FailingWriter};
+use mpslp_write::{Lp, Mps};
 use std::alloc::{AllocError, Global};
 use std::io;
 use std::io::Read;
@@ -25,13 +25,13 @@ fn run_in_memory<A: Format, B: Format>(
 {
     let mut source = FromRead::new(bytes);
     let mut sink = ToWrite::new(Vec::new(alloc));
-    run::<A, B, _, _>(alloc, FIXED_SEED, max_bytes, &mut source, &mut sink)?;
+    run::<A, B, _, _>(alloc, max_bytes, &mut source, &mut sink)?;
     Ok(sink.into_inner())
 }
 
 /// Whether a text is converted to the expected one, in memory and by a run.
 fn becomes<A: Format, B: Format>(alloc: Global, text: &str, wanted: &str) -> bool {
-    let converted = canonical::<A, B>(alloc, FIXED_SEED, text.as_bytes());
+    let converted = canonical::<A, B>(alloc, text.as_bytes());
     let ran = run_in_memory::<A, B>(alloc, MUCH, text.as_bytes());
     let is_converted = matches!(&converted, Ok(found) if found.as_slice() == wanted.as_bytes());
     let is_run = matches!(&ran, Ok(found) if found.as_slice() == wanted.as_bytes());
@@ -67,7 +67,7 @@ fn is_fault(fault: &ConvertFault, line: u64, kind: FaultKind) -> bool {
 
 /// Whether an MPS text is not converted to LP because a name at this place is not legal in LP.
 fn is_stopped(alloc: Global, text: &str, place: NameAt) -> bool {
-    match canonical::<Mps, Lp>(alloc, FIXED_SEED, text.as_bytes()) {
+    match canonical::<Mps, Lp>(alloc, text.as_bytes()) {
         Ok(_) => false,
         Err(fault) => is_illegal_name(&fault, place),
     }
@@ -75,7 +75,7 @@ fn is_stopped(alloc: Global, text: &str, place: NameAt) -> bool {
 
 /// Whether an LP text is not converted because of this error in this line of it.
 fn is_refused(alloc: Global, text: &str, line: u64, kind: FaultKind) -> bool {
-    match canonical::<Lp, Mps>(alloc, FIXED_SEED, text.as_bytes()) {
+    match canonical::<Lp, Mps>(alloc, text.as_bytes()) {
         Ok(_) => false,
         Err(fault) => is_fault(&fault, line, kind),
     }
@@ -93,7 +93,7 @@ fn what_is_not_converted_is_reported(rt: HostRuntime) {
 
 /// Whether a text is canonical, or `None` for an error.
 fn is_known<A: Format>(alloc: Global, text: &[u8]) -> Option<bool> {
-    match is_canonical::<A>(alloc, FIXED_SEED, text) {
+    match is_canonical::<A>(alloc, text) {
         Ok(is_canonical) => Some(is_canonical),
         Err(_) => None,
     }
@@ -101,7 +101,7 @@ fn is_known<A: Format>(alloc: Global, text: &[u8]) -> Option<bool> {
 
 /// Whether it is not known if an MPS text is canonical, because of this error in this line of it.
 fn is_unknown(alloc: Global, text: &[u8], line: u64, kind: FaultKind) -> bool {
-    match is_canonical::<Mps>(alloc, FIXED_SEED, text) {
+    match is_canonical::<Mps>(alloc, text) {
         Ok(_) => false,
         Err(fault) => is_fault(&fault, line, kind),
     }
@@ -132,7 +132,7 @@ fn canonical_texts_are_known(rt: HostRuntime) {
 
 /// Whether two texts declare the same model, or `None` for an error.
 fn are_same<A: Format, B: Format>(alloc: Global, first: &[u8], second: &[u8]) -> Option<bool> {
-    match same_model::<A, B>(alloc, FIXED_SEED, first, second) {
+    match same_model::<A, B>(alloc, first, second) {
         Ok(are_same) => Some(are_same),
         Err(_) => None,
     }
@@ -149,7 +149,7 @@ fn fault_lines(fault: &ConvertFault) -> (Option<u64>, Option<u64>) {
 
 /// The line of the error in the first or in the second of two MPS texts, because of which they are not compared.
 fn lines_refused(alloc: Global, first: &[u8], second: &[u8]) -> (Option<u64>, Option<u64>) {
-    match same_model::<Mps, Mps>(alloc, FIXED_SEED, first, second) {
+    match same_model::<Mps, Mps>(alloc, first, second) {
         Ok(_) => (None, None),
         Err(fault) => fault_lines(&fault),
     }
@@ -185,7 +185,7 @@ entry 1 1 1.5
 fn shown(alloc: Global, text: &str, wanted: &str) -> (bool, u64) {
     let mut source = FromRead::new(text.as_bytes());
     let mut sink = ToWrite::new(Vec::new(alloc));
-    let answer = show::<Lp, _, _>(alloc, FIXED_SEED, MUCH, &mut source, &mut sink);
+    let answer = show::<Lp, _, _>(alloc, MUCH, &mut source, &mut sink);
     let calls = sink.calls();
     let found = text_of_run(answer, sink.into_inner());
     (found.as_slice() == wanted.as_bytes(), calls)
@@ -271,13 +271,7 @@ fn run_with_calls(
 ) -> Result<(bool, [u64; 2]), AllocError> {
     let mut source = FromRead::new(text.as_bytes());
     let mut sink = FailingWriter::new(alloc, room)?;
-    let answer = run::<Mps, Mps, _, _>(
-        alloc,
-        FIXED_SEED,
-        text.len() as u64,
-        &mut source,
-        &mut sink,
-    );
+    let answer = run::<Mps, Mps, _, _>(alloc, text.len() as u64, &mut source, &mut sink);
     let is_run = matches!(&answer, Ok(())) && sink.bytes() == wanted.as_bytes();
     Ok((is_run, [source.calls(), sink.calls()]))
 }
@@ -296,7 +290,7 @@ const FAULTY: &str = "NAME\nROWS\n X  C\n L  R\nCOLUMNS\n    X  C  1\nENDATA\n";
 fn failing_is(alloc: Global, max_bytes: u64, text: &str, fail_at: u64, wanted: &str) -> bool {
     let mut source = FailingReader::new(text.as_bytes(), 1, fail_at);
     let mut sink = ToWrite::new(Vec::new(alloc));
-    let answer = run::<Mps, Mps, _, _>(alloc, FIXED_SEED, max_bytes, &mut source, &mut sink);
+    let answer = run::<Mps, Mps, _, _>(alloc, max_bytes, &mut source, &mut sink);
     text_of_run(answer, sink.into_inner()).as_slice() == wanted.as_bytes()
 }
 

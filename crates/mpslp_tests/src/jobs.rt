@@ -1,8 +1,8 @@
 //! Tests of jobs between inputs and outputs in memory: what is printed, the line of the error, and the exit status.
 
 use crate::answers::{MUCH, SMALL, SMALL_CANONICAL, SMALL_CANONICAL_LP, SMALL_LP};
-use mpslp_model::{FIXED_SEED, FromRead, ToWrite};
-use mpslp_run_jobs::{FileFormat, Job, JobFault, OwnedText, perform};
+use mpslp_convert::{Form, Job, JobFault, Word, perform};
+use mpslp_model::{FromRead, ToWrite};
 use mpslp_test_devices::{FailingReader, FailingWriter};
 use std::alloc::{AllocError, Global};
 use std::test::Fail;
@@ -44,11 +44,11 @@ fn file(name: &str) -> &'static str {
 }
 
 /// The format of a file, by the end of its name.
-fn format_of(name: &str) -> FileFormat {
+fn format_of(name: &str) -> Form {
     if name.ends_with("lp") {
-        FileFormat::Lp
+        Form::Lp
     } else {
-        FileFormat::Mps
+        Form::Mps
     }
 }
 
@@ -86,7 +86,6 @@ fn performed(alloc: Global, job: &Result<Job, JobFault>, first: &str, second: &s
     let mut err = Vec::new(alloc);
     let status = perform(
         alloc,
-        FIXED_SEED,
         MUCH,
         job,
         &mut FromRead::new(first.as_bytes()),
@@ -97,31 +96,27 @@ fn performed(alloc: Global, job: &Result<Job, JobFault>, first: &str, second: &s
     Ended { status, out, err }
 }
 
-fn canon(alloc: Global, from: FileFormat, to: FileFormat) -> Result<Job, JobFault> {
+fn canon(alloc: Global, from: Form, to: Form) -> Result<Job, JobFault> {
     Ok(Job::Canon {
         from,
         to,
-        path: OwnedText::new(alloc, "-")?,
+        path: Word::new(alloc, "-")?,
     })
 }
 
-fn show(alloc: Global, from: FileFormat) -> Result<Job, JobFault> {
+fn show(alloc: Global, from: Form) -> Result<Job, JobFault> {
     Ok(Job::Show {
         from,
-        path: OwnedText::new(alloc, "-")?,
+        path: Word::new(alloc, "-")?,
     })
 }
 
-fn same(
-    alloc: Global,
-    first_format: FileFormat,
-    second_format: FileFormat,
-) -> Result<Job, JobFault> {
+fn same(alloc: Global, first_format: Form, second_format: Form) -> Result<Job, JobFault> {
     Ok(Job::Same {
         first_format,
-        first: OwnedText::new(alloc, "a")?,
+        first: Word::new(alloc, "a")?,
         second_format,
-        second: OwnedText::new(alloc, "b")?,
+        second: Word::new(alloc, "b")?,
     })
 }
 
@@ -205,7 +200,7 @@ fn two_files_are_compared(rt: HostRuntime) {
 
 /// Whether the model of an LP text is shown as this text.
 fn is_shown(alloc: Global, text: &str, wanted: &str) -> bool {
-    let job = show(alloc, FileFormat::Lp);
+    let job = show(alloc, Form::Lp);
     performed(alloc, &job, text, "").is(0, wanted, "")
 }
 
@@ -251,8 +246,8 @@ fn refusals_are_reported(rt: HostRuntime) -> Result<(), Fail> {
     Ok(())
 }
 
-fn word(alloc: Global, text: &str) -> Result<OwnedText, AllocError> {
-    match OwnedText::new(alloc, text) {
+fn word(alloc: Global, text: &str) -> Result<Word, AllocError> {
+    match Word::new(alloc, text) {
         Ok(word) => Ok(word),
         Err(_) => Err(AllocError),
     }
@@ -273,9 +268,8 @@ fn ends_with_room(alloc: Global, room: usize, wanted: u8, line: &str) -> Result<
     let mut err = Vec::new(alloc);
     let status = perform(
         alloc,
-        FIXED_SEED,
         MUCH,
-        &same(alloc, FileFormat::Mps, FileFormat::Mps),
+        &same(alloc, Form::Mps, Form::Mps),
         &mut FromRead::new(SMALL.as_bytes()),
         &mut FromRead::new(SMALL.as_bytes()),
         &mut out,
@@ -304,9 +298,8 @@ fn ended_with_error_room(alloc: Global, room: usize) -> Result<(u8, usize, bool)
     let mut err = FailingWriter::new(alloc, room)?;
     let status = perform(
         alloc,
-        FIXED_SEED,
         MUCH,
-        &same(alloc, FileFormat::Mps, FileFormat::Mps),
+        &same(alloc, Form::Mps, Form::Mps),
         &mut FromRead::new(b"ROWS\n".as_slice()),
         &mut FromRead::new(SMALL.as_bytes()),
         &mut ToWrite::new(&mut out),
@@ -331,9 +324,8 @@ fn ended_without_second(alloc: Global, wanted: &str) -> (u8, bool, bool) {
     let mut err = Vec::new(alloc);
     let status = perform(
         alloc,
-        FIXED_SEED,
         MUCH,
-        &same(alloc, FileFormat::Mps, FileFormat::Mps),
+        &same(alloc, Form::Mps, Form::Mps),
         &mut FromRead::new(SMALL.as_bytes()),
         &mut FailingReader::new(b"", 1, 1),
         &mut ToWrite::new(&mut out),

@@ -2,7 +2,7 @@
 
 use crate::answers::{SMALL, SMALL_CANONICAL, SMALL_LP, text_of_read};
 use mpslp_lp::{LpReader, read_lp};
-use mpslp_model::{FIXED_SEED, FaultKind, Model, ModelReader, ReadFault};
+use mpslp_model::{FaultKind, Model, ModelReader, ReadFault};
 use mpslp_mps::{MpsReader, read_mps};
 use std::alloc::Global;
 
@@ -13,12 +13,12 @@ fn has_text(alloc: Global, answer: Result<Model, ReadFault>, wanted: &str) -> bo
 
 /// Whether an MPS text has this canonical text, or this line of its error.
 fn mps_is(alloc: Global, text: &str, wanted: &str) -> bool {
-    has_text(alloc, read_mps(alloc, FIXED_SEED, text.as_bytes()), wanted)
+    has_text(alloc, read_mps(alloc, text.as_bytes()), wanted)
 }
 
 /// Whether an LP text has this canonical text, or this line of its error.
 fn lp_is(alloc: Global, text: &str, wanted: &str) -> bool {
-    has_text(alloc, read_lp(alloc, FIXED_SEED, text.as_bytes()), wanted)
+    has_text(alloc, read_lp(alloc, text.as_bytes()), wanted)
 }
 
 /// An LP text of the same model in one line.
@@ -62,7 +62,7 @@ fn feed_all<T: ModelReader>(reader: &mut T, pieces: &[&[u8]]) -> Result<(), Read
 
 /// The result of a reader for these pieces together.
 fn read_all<T: ModelReader>(alloc: Global, pieces: &[&[u8]]) -> Result<Model, ReadFault> {
-    let mut reader = T::new(alloc, FIXED_SEED);
+    let mut reader = T::new(alloc);
     feed_all(&mut reader, pieces)?;
     reader.finish()
 }
@@ -101,7 +101,7 @@ struct Refused {
 }
 
 fn answers_of<T: ModelReader>(alloc: Global, text: &[u8]) -> Refused {
-    let mut reader = T::new(alloc, FIXED_SEED);
+    let mut reader = T::new(alloc);
     let first = first_refused(&mut reader, text);
     let further = reader.feed(b"\n");
     Refused {

@@ -1,9 +1,9 @@
 //! Tests of writers: the canonical text of a worked file, a name that is not legal in LP, and a sink that fails.
 
-use mpslp_formats::{first_unfit_name, write_lp, write_mps};
-use mpslp_model::{FIXED_SEED, NameAt, Sink, ToWrite, WriteFault};
+use mpslp_model::{NameAt, Sink, ToWrite, WriteFault};
 use mpslp_mps::read_mps;
 use mpslp_test_devices::FailingWriter;
+use mpslp_write::{first_unfit_name, write_lp, write_mps};
 use std::alloc::{AllocError, Global};
 use std::test::Fail;
 
@@ -143,7 +143,7 @@ ENDATA
 
 /// The result of writing the model of a file, or `None` if the file has no model.
 fn write_file<W: Sink>(alloc: Global, file: &str, sink: &mut W) -> Option<Result<(), WriteFault>> {
-    match read_mps(alloc, FIXED_SEED, file.as_bytes()) {
+    match read_mps(alloc, file.as_bytes()) {
         Ok(model) => Some(write_mps(&model, sink)),
         Err(_) => None,
     }
@@ -155,7 +155,7 @@ fn write_lp_file<W: Sink>(
     file: &str,
     sink: &mut W,
 ) -> Option<Result<(), WriteFault>> {
-    match read_mps(alloc, FIXED_SEED, file.as_bytes()) {
+    match read_mps(alloc, file.as_bytes()) {
         Ok(model) => Some(write_lp(&model, sink)),
         Err(_) => None,
     }
@@ -191,7 +191,7 @@ fn canonical_lp_texts_are_written_in_one_call(rt: HostRuntime) {
 
 /// The place of the first name of a file's model that is not legal in LP.
 fn unfit_name_of(alloc: Global, file: &str) -> Option<NameAt> {
-    match read_mps(alloc, FIXED_SEED, file.as_bytes()) {
+    match read_mps(alloc, file.as_bytes()) {
         Ok(model) => first_unfit_name(&model),
         Err(_) => None,
     }

@@ -1,10 +1,9 @@
 //! What several commands do with words, files and texts.
 
-use mpslp_convert::{ConvertFault, RunFault};
+use mpslp_convert::{ConvertFault, Form, RunFault};
 use mpslp_lp::read_lp;
-use mpslp_model::{FIXED_SEED, Model, ReadFault};
+use mpslp_model::{Model, ReadFault};
 use mpslp_mps::read_mps;
-use mpslp_run_jobs::FileFormat;
 use std::alloc::Global;
 use std::io::Read;
 use std::rt::Files;
@@ -16,12 +15,8 @@ pub(crate) fn word_at(words: &[String], i: usize) -> &str {
 }
 
 /// The format that a word names: LP for `lp`, and MPS for any other word.
-pub(crate) fn format_named(word: &str) -> FileFormat {
-    if word == "lp" {
-        FileFormat::Lp
-    } else {
-        FileFormat::Mps
-    }
+pub(crate) fn format_named(word: &str) -> Form {
+    if word == "lp" { Form::Lp } else { Form::Mps }
 }
 
 /// The bytes of a file.
@@ -32,10 +27,10 @@ pub(crate) fn content<R: Files>(rt: &R, alloc: Global, path: &str) -> io::Result
 }
 
 /// The model of a text that is read as a whole.
-pub(crate) fn model_in(alloc: Global, format: FileFormat, text: &[u8]) -> Result<Model, ReadFault> {
+pub(crate) fn model_in(alloc: Global, format: Form, text: &[u8]) -> Result<Model, ReadFault> {
     match format {
-        FileFormat::Mps => read_mps(alloc, FIXED_SEED, text),
-        FileFormat::Lp => read_lp(alloc, FIXED_SEED, text),
+        Form::Mps => read_mps(alloc, text),
+        Form::Lp => read_lp(alloc, text),
     }
 }
 

@@ -4,7 +4,7 @@
 //!
 //! - `vectors` checks the calls on the files of `vectors/`. Run it in that directory. It prints the number of checks for each
 //!   table; the exit status is 1 if a result is unexpected or a table is missing.
-//! - `refused` makes each call once, or, if `tests/refuse.c` is loaded before the program, with each of its allocations failing
+//! - `refused` makes each call once, or, if `tests/program/refuse.c` is loaded before the program, with each of its allocations failing
 //!   in turn, and prints the results. `refused FORM PATH FORM PATH` does that with the calls on the texts of two files; a form is
 //!   `mps` or `lp`.
 //! - `read` reads the MPS text of a model from standard input, `read lp` LP text. It prints the counts of the model, or the error,

@@ -4,8 +4,8 @@
 //! reader, without that of the input, on standard error.
 
 use crate::inputs::model_in;
+use mpslp_convert::Form;
 use mpslp_model::{Fault, Model, ReadFault};
-use mpslp_run_jobs::FileFormat;
 use std::alloc::Global;
 use std::io;
 use std::io::Read;
@@ -49,7 +49,7 @@ fn put_result(rt: &impl Print, alloc: Global, read: Result<Model, ReadFault>) ->
 fn timed_reading<R: Print + Clock>(
     rt: &R,
     alloc: Global,
-    format: FileFormat,
+    format: Form,
     text: &[u8],
 ) -> io::Result<u128> {
     let start = Instant::now(rt)?;
@@ -63,7 +63,7 @@ fn timed_reading<R: Print + Clock>(
 pub(crate) fn measure_reading<R: Input + Print + Eprint + Clock + AllocGlobal>(
     rt: &R,
     alloc: Global,
-    format: FileFormat,
+    format: Form,
 ) -> io::Result<()> {
     let mut text = Vec::new(alloc);
     rt.reader().read_to_end(&mut text)?;

@@ -1,14 +1,14 @@
 //! Calls of the library that are made repeatedly, so that each of their allocations can fail in turn.
 //!
 //! A call is made with its first allocation failing, then with its second one, and so on, until its result is not out of
-//! memory. The library `tests/refuse.c`, loaded before this program, makes allocations fail; without it none fails, and each
+//! memory. The library `tests/program/refuse.c`, loaded before this program, makes allocations fail; without it none fails, and each
 //! call is made once. Without further words the calls are those that need no file: names, words, jobs, and the calls of a builder.
 //! Otherwise the words are two formats with paths, such as `mps a.mps lp b.lp`, and the calls are those on the first text, on its
 //! model if it has one, and on both texts.
 //!
 //! `call` and the name of each call are printed; then, each time that it is made, `answer`, the length of its result in bytes,
 //! and the result. For a call of a builder that is left out if there was no memory for it, `without` comes first, with what
-//! follows if it is never made. `tests/refused.py` compares them with the expected results.
+//! follows if it is never made. `tests/program/refused.py` compares them with the expected results.
 
 mod answers;
 mod building;
@@ -41,7 +41,7 @@ const MOST: u32 = 10_000;
 enum Call<'a> {
     Name(&'a str),
     LegalName(&'a str),
-    OwnedText,
+    Word,
     Job(&'a str),
     Build(&'a str),
     Single(&'a SingleCall, Then),
@@ -56,7 +56,7 @@ impl Call<'_> {
         match *self {
             Call::Name(bytes) => name(alloc, bytes, growth),
             Call::LegalName(bytes) => legal_name(alloc, bytes, growth),
-            Call::OwnedText => word(alloc, growth),
+            Call::Word => word(alloc, growth),
             Call::Job(line) => job_of(alloc, line, growth),
             Call::Build(calls) => built(alloc, calls, growth),
             Call::Single(call, then) => single(alloc, call, then, growth),
@@ -127,7 +127,7 @@ fn print_builders<R: Print>(rt: &R, alloc: Global) -> io::Result<()> {
 
 fn print_without_files<R: Print>(rt: &R, alloc: Global) -> io::Result<()> {
     print_names(rt, alloc)?;
-    print_each(rt, alloc, "OwnedText::new", &Call::OwnedText)?;
+    print_each(rt, alloc, "Word::new", &Call::Word)?;
     for line in COMMAND_LINES {
         print_each(rt, alloc, line, &Call::Job(line))?;
     }

@@ -17,7 +17,7 @@ use checks::{
 use failing::{
     is_written_after_each_byte, shows_after_each_byte, stops_after_each_byte, stops_in_each_read,
 };
-use mpslp_run_jobs::FileFormat;
+use mpslp_convert::Form;
 use numbers::NumberTable;
 use std::alloc::{AllocError, Global};
 use std::io;
@@ -126,13 +126,13 @@ fn try_failing<R: Print + Eprint>(rt: &R, alloc: Global, entries: &[Entry]) -> i
         tally.note(rt, stops_in_each_read(alloc, entry), name, "failing reads")?;
         tally.note(
             rt,
-            stops_after_each_byte(alloc, entry, FileFormat::Mps),
+            stops_after_each_byte(alloc, entry, Form::Mps),
             name,
             "failing writes of MPS",
         )?;
         tally.note(
             rt,
-            stops_after_each_byte(alloc, entry, FileFormat::Lp),
+            stops_after_each_byte(alloc, entry, Form::Lp),
             name,
             "failing writes of LP",
         )?;
@@ -241,7 +241,7 @@ impl<'a> Cuts<'a> {
         })
     }
 
-    fn format(&self) -> FileFormat {
+    fn format(&self) -> Form {
         format_of(self.name)
     }
 }

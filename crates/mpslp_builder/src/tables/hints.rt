@@ -26,7 +26,7 @@ pub(crate) struct Hints {
 }
 
 /// The hash of a name.
-fn hash_of(seed: HashSeed, name: &[u8]) -> u64 {
+pub(crate) fn hash_of(seed: HashSeed, name: &[u8]) -> u64 {
     let mut hasher = seed.build_hasher();
     hasher.write(name);
     hasher.finish()
@@ -102,25 +102,20 @@ impl Hints {
         Ok(())
     }
 
-    /// Stores the number of the name of a new column. That saves something if names are looked up in another order than that of their
+    /// Stores the number of the name of a new column, by the hash of the name. That saves something if names are looked up in another order than that of their
     /// declarations. The hint of a column that is there was replaced by that of another one, and would replace it in turn.
     ///
     /// # Errors
     ///
     /// [`AllocError`] if the allocation fails.
-    pub(crate) fn note(
-        &mut self,
-        seed: HashSeed,
-        name: &[u8],
-        column: Inserted,
-    ) -> Result<(), AllocError> {
+    pub(crate) fn note(&mut self, hash: u64, column: Inserted) -> Result<(), AllocError> {
         let Inserted::New(number) = column else {
             return Ok(());
         };
         if number >= self.pairs.len() {
             self.grow()?;
         }
-        let (index, rest) = self.split(hash_of(seed, name));
+        let (index, rest) = self.split(hash);
         if let Some(pair) = self.pairs.get_mut(index) {
             *pair = with_hint(*pair, rest | (number as u64 & LOW) as u32);
         }

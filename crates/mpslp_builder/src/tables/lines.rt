@@ -1,6 +1,6 @@
 //! A line of a column by number: its column, that it is marked, and its coefficients.
 
-ghost use Rattle.std.specs.Prelude.{◌≡◌, ◌≢◌, ◌&&◌, ◌++◌, ℕ, List, IfSome, OnOk, None, Some, false, true, is_some};
+ghost use Rattle.std.specs.Prelude.{◌≡◌, ◌≢◌, ◌&&◌, ◌++◌, ℕ, List, IfSome, OnErr, OnOk, None, Some, false, true, is_some};
 ghost use Rattle.std.specs.List.{flat_map};
 ghost use Rattle.std.specs.Ordering.{nat_cmp};
 ghost use Rattle.std.specs.FinMap.{find};
@@ -9,8 +9,8 @@ ghost use Rattle.mpslp_types.specs.Lists.{when};
 ghost use Rattle.mpslp_builder.specs.Declaration.{declare_marked};
 ghost use Rattle.mpslp_builder.specs.ColumnLine.{mark_declared, entries_declared, parts_declared};
 ghost use Rattle.mpslp_builder.specs.Tables.{IsNumbered};
-ghost use Rattle.mpslp_builder.specs.Calls.{row_name, column_name, column_satisfies, cells_at};
-ghost use Rattle.mpslp_builder.specs.LineTables.{AreRows, AreKnownRows, AreFree, IsLinePlace, IsFreeLine, AreDeclaredOfColumn, IsEntryDeclared, Follows, Starts};
+ghost use Rattle.mpslp_builder.specs.Calls.{row_name, column_name, column_satisfies, cells_at, IsSameTables};
+ghost use Rattle.mpslp_builder.specs.LineTables.{AreRows, AreKnownRows, AreFree, IsLinePlace, IsFreeLine, AreDeclaredOfColumn, HasPartOfColumn, IsEntryDeclared, Follows, Starts};
 
 use crate::entries::Entries;
 use crate::tables::Tables;
@@ -142,6 +142,7 @@ impl Tables {
         ensures rows { self.new.rows.entries ≡ self.old.rows.entries }
         ensures ok { OnOk result (IsEntryDeclared self.old column row value self.new) }
         ensures cells { (other : ℕ) → other ≢ row → find nat_cmp other (cells_at self.new column) ≡ find nat_cmp other (cells_at self.old column) }
+        ensures err { OnErr result (IsSameTables self.old self.new) }
     {
         each_value_is_a_decimal(value);
         self.each_name_occurs_once();
@@ -161,6 +162,7 @@ impl Tables {
         requires free { AreFree self.old column rows }
         ensures kept { Follows self.old self.new }
         ensures ok { OnOk result (AreDeclaredOfColumn self.old column (entries_declared entries.now) self.new) }
+        ensures err { OnErr result (HasPartOfColumn self.old column (entries_declared entries.now) self.new) }
     {
         self.put_value(column, rows.first, entries.first.value)?;
         if let Some(entry) = &entries.second {
@@ -185,6 +187,7 @@ impl Tables {
         requires free { AreFree self.old column rows }
         ensures kept { Follows self.old self.new }
         ensures ok { OnOk result (AreDeclaredOfColumn self.old column (parts_declared is_marked entries.now) self.new) }
+        ensures err { OnErr result (HasPartOfColumn self.old column (parts_declared is_marked entries.now) self.new) }
     {
         self.mark_if(column, is_marked);
         self.put_entries(column, rows, entries)

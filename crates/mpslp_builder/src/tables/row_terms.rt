@@ -1,16 +1,18 @@
 //! The terms of a row by number: each column, which is declared if it is new, and its coefficient.
 
-ghost use Rattle.std.specs.Prelude.{◌≡◌, ◌≤◌, ℕ, List, IfOk, IfSome, None, Some, true, is_some};
+ghost use Rattle.std.specs.Prelude.{◌≡◌, ◌≤◌, ℕ, List, [], ◌∷◌, IfOk, IfSome, OnErr, None, Some, true, is_some};
 ghost use Rattle.std.specs.List.{flat_map};
 ghost use Rattle.mpslp_types.specs.Name.{IsMpsName};
+ghost use Rattle.mpslp_builder.specs.Declaration.{declare_column};
 ghost use Rattle.mpslp_builder.specs.RowTerms.{term_declared};
 ghost use Rattle.mpslp_builder.specs.Tables.{IsNumbered};
 ghost use Rattle.mpslp_builder.specs.Calls.{row_name, column_name};
-ghost use Rattle.mpslp_builder.specs.LineTables.{Follows};
-ghost use Rattle.mpslp_builder.specs.TermTables.{HasColumn, TermIsDeclaredUnless, TermsAreDeclaredUnless};
+ghost use Rattle.mpslp_builder.specs.LineTables.{Follows, HasPart};
+ghost use Rattle.mpslp_builder.specs.TermTables.{HasColumn, EntryIsDeclaredUnless, TermIsDeclaredUnless, TermsAreDeclaredUnless};
 
 use crate::row_terms::RowTerms;
 use crate::tables::Tables;
+use crate::tables::hints::hash_of;
 use indexmap::IndexMap;
 use mpslp_decimal::Decimal;
 use mpslp_types::laws::each_name_is_legal;
@@ -132,27 +134,73 @@ impl Tables {
         self.column_by_hash(name)
     }
 
-    /// The number of the column of this name, which is declared if it is not yet.
+    /// Declares a column that is probably new, and returns its number.
+    fn new_column(&mut self, name: Name) -> Result<usize, AllocError>
+        requires { IsNumbered self.old }
+        ensures kept { Follows self.old self.new }
+        ensures rows { self.new.rows.entries ≡ self.old.rows.entries }
+        ensures ok { IfOk result (λ column. HasColumn self.old name column self.new) }
+        ensures err { OnErr result (HasPart self.old (declare_column name ∷ []) self.new) }
+    {
+        each_name_is_legal(&name);
+        let hash = hash_of(*self.rows.hasher(), name.as_bytes());
+        let inserted = self.start_column(name)?;
+        let column = inserted.number();
+        self.hints.note(hash, inserted)?;
+        Ok(column)
+    }
+
+    /// The number of the column of this name, which is declared if it is not yet. The name is copied only if it is new.
     fn term_column(&mut self, alloc: Global, name: &[u8], guess: usize) -> Result<usize, AllocError>
         requires numbered { IsNumbered self.old }
         requires legal { IsMpsName name.now }
         ensures kept { Follows self.old self.new }
         ensures rows { self.new.rows.entries ≡ self.old.rows.entries }
         ensures ok { IfOk result (λ column. HasColumn self.old name.now column self.new) }
+        ensures err { OnErr result (HasPart self.old (declare_column name.now ∷ []) self.new) }
     {
         if let Some(column) = self.column_from(name, guess) {
             return Ok(column);
         }
-        let inserted = self.start_column(Name::from_legal(alloc, name)?)?;
-        let column = inserted.number();
-        let seed = *self.rows.hasher();
-        self.hints.note(seed, name, inserted)?;
-        Ok(column)
+        let name = Name::from_legal(alloc, name)?;
+        self.new_column(name)
+    }
+
+    /// The number of the column of this name, which is declared if it is not yet. If it is declared already, the name is dropped.
+    fn own_term_column(&mut self, name: Name, guess: usize) -> Result<usize, AllocError>
+        requires { IsNumbered self.old }
+        ensures kept { Follows self.old self.new }
+        ensures rows { self.new.rows.entries ≡ self.old.rows.entries }
+        ensures ok { IfOk result (λ column. HasColumn self.old name column self.new) }
+        ensures err { OnErr result (HasPart self.old (declare_column name ∷ []) self.new) }
+    {
+        if let Some(column) = self.column_from(name.as_bytes(), guess) {
+            return Ok(column);
+        }
+        self.new_column(name)
+    }
+
+    /// Declares a coefficient by the numbers of its row and its column.
+    #[inline(always)]
+    fn put_term(&mut self, column: usize, row: u32, value: Decimal) -> Result<(), BuildFault>
+        requires numbered { IsNumbered self.old }
+        requires column { is_some (column_name self.old column) ≡ true }
+        requires row { is_some (row_name self.old row) ≡ true }
+        ensures kept { Follows self.old self.new }
+        ensures rows { self.new.rows.entries ≡ self.old.rows.entries }
+        ensures declared { EntryIsDeclaredUnless self.old column row value result self.new }
+    {
+        self.each_name_occurs_once();
+        if self.has_cell(column, row) {
+            return Err(BuildFault::DuplicateEntry);
+        }
+        self.put_value(column, row, value)?;
+        Ok(())
     }
 
     /// Declares a term of a row, and its column if that is new.
     #[inline(always)]
-    pub(crate) fn declare_term(
+    fn declare_term(
         &mut self,
         alloc: Global,
         row: u32,
@@ -168,12 +216,25 @@ impl Tables {
         ensures declared { TermIsDeclaredUnless self.old row (column.now, value) result self.new }
     {
         let number = self.term_column(alloc, column, guess)?;
-        self.each_name_occurs_once();
-        if self.has_cell(number, row) {
-            return Err(BuildFault::DuplicateEntry);
-        }
-        self.put_value(number, row, value)?;
-        Ok(())
+        self.put_term(number, row, value)
+    }
+
+    /// Declares a term of a row whose name is given, and its column if that is new.
+    pub(crate) fn declare_own_term(
+        &mut self,
+        row: u32,
+        column: Name,
+        guess: usize,
+        value: Decimal,
+    ) -> Result<(), BuildFault>
+        requires numbered { IsNumbered self.old }
+        requires row { is_some (row_name self.old row) ≡ true }
+        ensures kept { Follows self.old self.new }
+        ensures rows { self.new.rows.entries ≡ self.old.rows.entries }
+        ensures declared { TermIsDeclaredUnless self.old row (column, value) result self.new }
+    {
+        let number = self.own_term_column(column, guess)?;
+        self.put_term(number, row, value)
     }
 
     /// Declares terms of a row in order.

@@ -5,7 +5,7 @@
 
 use crate::texts::{number, row_type, side, side_if_given};
 use mpslp_builder::Builder;
-use mpslp_types::{BuildFault, FIXED_SEED, Name, Sense};
+use mpslp_types::{BuildFault, Name, Sense};
 use std::alloc::Global;
 
 /// A legal name.
@@ -167,7 +167,7 @@ pub(super) fn declare_all(
 
 /// The builder after these calls, all of which succeed.
 pub(super) fn built(alloc: Global, calls: &str) -> Result<Builder, BuildFault> {
-    let mut builder = Builder::new(alloc, FIXED_SEED);
+    let mut builder = Builder::new(alloc);
     declare_all(&mut builder, alloc, calls)?;
     Ok(builder)
 }

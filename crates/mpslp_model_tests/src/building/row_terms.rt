@@ -106,8 +106,7 @@ fn declare_one(
 ) -> Result<(), BuildFault> {
     let (column, value) = parts_of(term);
     let name = named(alloc, column)?;
-    each_name_is_legal(&name);
-    builder.row_term(row.as_bytes(), name.as_bytes(), number(value))
+    builder.row_term(row.as_bytes(), name, number(value))
 }
 
 /// A builder with the objective f, the rows r and s, and these terms of r.

@@ -2,10 +2,10 @@
 
 use crate::inputs::fault_of_run;
 use mpslp_convert::{ConvertFault, RunFault, report};
-use mpslp_formats::write_mps;
 use mpslp_io::Sink;
 use mpslp_model::{Model, ReadFault, ToWrite};
 use mpslp_test_devices::FailingWriter;
+use mpslp_write::write_mps;
 use std::alloc::{AllocError, Global};
 
 /// Enough for every text here. A sink of this capacity allocates nothing during a call.

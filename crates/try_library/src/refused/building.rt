@@ -9,9 +9,9 @@ use crate::refused::names::{named, spelled};
 use crate::refused::refusing::{refuse, refuse_none};
 use mpslp_convert::{RunFault, report};
 use mpslp_decimal::Decimal;
-use mpslp_formats::write_mps;
-use mpslp_model::{BuildFault, Builder, FIXED_SEED, Limit, Model, Name, ReadFault, RowType, Sense};
+use mpslp_model::{BuildFault, Builder, Limit, Model, Name, ReadFault, RowType, Sense};
 use mpslp_test_devices::FailingWriter;
+use mpslp_write::write_mps;
 use std::alloc::{AllocError, Global};
 
 /// Each call, with each of its errors that a line of a file can cause too. A call is its name and its arguments.
@@ -319,7 +319,7 @@ pub(crate) fn put_finished(out: &mut FailingWriter, answer: Result<Model, ReadFa
 /// The results of a builder's calls, one per line, and then the model that they declare.
 pub(crate) fn built(alloc: Global, calls: &str, growth: u32) -> Result<Answer, AllocError> {
     let mut out = roomy(alloc)?;
-    let mut builder = Builder::new(alloc, FIXED_SEED);
+    let mut builder = Builder::new(alloc);
     let mut is_out_of_memory = false;
     refuse(alloc, growth);
     for line in calls.lines() {

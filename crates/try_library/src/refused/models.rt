@@ -4,9 +4,10 @@ use crate::inputs::fault_of_run;
 use crate::refused::answers::Answer;
 use crate::refused::refusing::{refuse, refuse_none};
 use crate::refused::texts::{MUCH, PIECE, Text};
-use mpslp_convert::{RunFault, model_of, read_text, text_of};
-use mpslp_formats::Lp;
+use mpslp_conversions::{model_of, read_text, text_of};
+use mpslp_convert::RunFault;
 use mpslp_model::{FIXED_SEED, Format, Model, ModelReader, ReadFault};
+use mpslp_write::Lp;
 use std::alloc::{AllocError, Global};
 
 /// The model that `model_of` returns.
@@ -47,7 +48,7 @@ pub(crate) fn text_written<A: Format, B: Format>(
     text: &[u8],
     growth: u32,
 ) -> Result<Answer, AllocError> {
-    let model = match A::read(alloc, FIXED_SEED, text) {
+    let model = match A::read(alloc, text) {
         Ok(model) => model,
         Err(fault) => return Answer::of_model(alloc, Err(fault)),
     };
@@ -59,7 +60,7 @@ pub(crate) fn text_written<A: Format, B: Format>(
 
 /// A reader that was given a whole text in pieces, or its error.
 fn reader_of<P: ModelReader>(alloc: Global, text: &[u8]) -> Result<P, ReadFault> {
-    let mut reader = P::new(alloc, FIXED_SEED);
+    let mut reader = P::new(alloc);
     for piece in text.chunks(PIECE) {
         reader.feed(piece)?;
     }
@@ -84,7 +85,7 @@ pub(crate) fn finished_by_columns<A: Format>(
 
 /// The model of a text, without lists by rows.
 fn model_by_columns<A: Format>(alloc: Global, text: &[u8]) -> Result<Model, ReadFault> {
-    let mut reader = A::Reader::new(alloc, FIXED_SEED);
+    let mut reader = A::Reader::new(alloc);
     reader.feed(text)?;
     reader.finish_by_columns()
 }

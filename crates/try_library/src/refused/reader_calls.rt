@@ -100,9 +100,8 @@ fn first_line(builder: &mut ReaderBuilder, alloc: Global, growth: u32) -> Result
 
 fn row_term(builder: &mut ReaderBuilder, alloc: Global, growth: u32) -> Result<bool, BuildFault> {
     let name = named(alloc, "LONG")?;
-    each_name_is_legal(&name);
     refuse(alloc, growth);
-    let answer = builder.row_term(b"r".as_slice(), name.as_bytes(), number("3"));
+    let answer = builder.row_term(b"r".as_slice(), name, number("3"));
     refuse_none(alloc);
     answer?;
     Ok(true)

@@ -1,4 +1,4 @@
-//! How an allocation is made to fail: what this program asks of the library `tests/refuse.c` that is loaded before it.
+//! How an allocation is made to fail: what this program asks of the library `tests/program/refuse.c` that is loaded before it.
 
 use std::alloc::Global;
 

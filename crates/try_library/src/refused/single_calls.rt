@@ -3,7 +3,7 @@
 use crate::refused::answers::{Answer, roomy};
 use crate::refused::building::{BuilderCall, EACH_KIND, finished, put_answer, put_finished};
 use crate::refused::refusing::{refuse, refuse_none};
-use mpslp_model::{BuildFault, Builder, FIXED_SEED, Model, ReadFault};
+use mpslp_model::{BuildFault, Builder, Model, ReadFault};
 use mpslp_test_devices::FailingWriter;
 use std::alloc::{AllocError, Global};
 
@@ -116,7 +116,7 @@ pub(crate) enum Ending {
 
 /// A builder after these calls.
 pub(crate) fn begun(alloc: Global, calls: &str) -> Builder {
-    let mut builder = Builder::new(alloc, FIXED_SEED);
+    let mut builder = Builder::new(alloc);
     for line in calls.lines() {
         let _ = BuilderCall::of(line).made(&mut builder, alloc);
     }

@@ -6,12 +6,13 @@ use crate::refused::models::{
 };
 use crate::refused::refusing::{refuse, refuse_none};
 use crate::refused::single_calls::Ending;
-use mpslp_convert::{canonical, is_canonical, load, run, same_model, show};
-use mpslp_formats::{Lp, Mps};
+use mpslp_convert::{
+    Form, Job, JobFault, Word, canonical, is_canonical, load, perform, run, same_model, show,
+};
 use mpslp_io::Sink;
-use mpslp_model::{FIXED_SEED, Format, Model, ModelReader, ReadFault};
-use mpslp_run_jobs::{FileFormat, Job, JobFault, OwnedText, perform};
+use mpslp_model::{Format, Model, ModelReader, ReadFault};
 use mpslp_test_devices::FailingReader;
+use mpslp_write::{Lp, Mps};
 use std::alloc::{AllocError, Global};
 
 /// A limit above the length of every text here.
@@ -27,18 +28,18 @@ pub(crate) enum TextCall {
     Feed(Ending),
     FinishByColumns,
     ModelOf,
-    TextOf(FileFormat),
+    TextOf(Form),
     ReadText,
-    Prepare(FileFormat),
+    Prepare(Form),
     WithRowLists,
-    Canonical(FileFormat),
+    Canonical(Form),
     Same,
     SameAsSecond,
     IsCanonical,
     Load,
-    Run(FileFormat),
+    Run(Form),
     Show,
-    PerformCanon(FileFormat),
+    PerformCanon(Form),
     PerformSame,
     PerformSameAsSecond,
     PerformShow,
@@ -51,17 +52,17 @@ pub(crate) const TEXT_CALLS: [(&str, TextCall); 19] = [
     ("feed by columns", TextCall::Feed(Ending::ByColumns)),
     ("model_of", TextCall::ModelOf),
     ("read_text", TextCall::ReadText),
-    ("canonical mps", TextCall::Canonical(FileFormat::Mps)),
-    ("canonical lp", TextCall::Canonical(FileFormat::Lp)),
+    ("canonical mps", TextCall::Canonical(Form::Mps)),
+    ("canonical lp", TextCall::Canonical(Form::Lp)),
     ("same_model", TextCall::Same),
     ("same_model as second", TextCall::SameAsSecond),
     ("is_canonical", TextCall::IsCanonical),
     ("load", TextCall::Load),
-    ("run mps", TextCall::Run(FileFormat::Mps)),
-    ("run lp", TextCall::Run(FileFormat::Lp)),
+    ("run mps", TextCall::Run(Form::Mps)),
+    ("run lp", TextCall::Run(Form::Lp)),
     ("show", TextCall::Show),
-    ("perform canon mps", TextCall::PerformCanon(FileFormat::Mps)),
-    ("perform canon lp", TextCall::PerformCanon(FileFormat::Lp)),
+    ("perform canon mps", TextCall::PerformCanon(Form::Mps)),
+    ("perform canon lp", TextCall::PerformCanon(Form::Lp)),
     ("perform same", TextCall::PerformSame),
     ("perform same as second", TextCall::PerformSameAsSecond),
     ("perform show", TextCall::PerformShow),
@@ -70,17 +71,17 @@ pub(crate) const TEXT_CALLS: [(&str, TextCall); 19] = [
 /// The calls on the model of a text, or on a reader that has accepted it.
 pub(crate) const MODEL_CALLS: [(&str, TextCall); 6] = [
     ("finish_by_columns", TextCall::FinishByColumns),
-    ("text_of mps", TextCall::TextOf(FileFormat::Mps)),
-    ("text_of lp", TextCall::TextOf(FileFormat::Lp)),
-    ("prepare mps", TextCall::Prepare(FileFormat::Mps)),
-    ("prepare lp", TextCall::Prepare(FileFormat::Lp)),
+    ("text_of mps", TextCall::TextOf(Form::Mps)),
+    ("text_of lp", TextCall::TextOf(Form::Lp)),
+    ("prepare mps", TextCall::Prepare(Form::Mps)),
+    ("prepare lp", TextCall::Prepare(Form::Lp)),
     ("with_row_lists", TextCall::WithRowLists),
 ];
 
 /// A text and its format.
 #[derive(Clone, Copy)]
 pub(crate) struct Text<'a> {
-    pub(crate) format: FileFormat,
+    pub(crate) format: Form,
     pub(crate) bytes: &'a [u8],
 }
 
@@ -92,7 +93,7 @@ impl Text<'_> {
 
 fn read<A: Format>(alloc: Global, text: &[u8], growth: u32) -> Result<Answer, AllocError> {
     refuse(alloc, growth);
-    let answer = A::read(alloc, FIXED_SEED, text);
+    let answer = A::read(alloc, text);
     refuse_none(alloc);
     Answer::of_model(alloc, answer)
 }
@@ -112,7 +113,7 @@ fn fed<P: ModelReader>(
     ending: Ending,
     growth: u32,
 ) -> (Result<Model, ReadFault>, bool) {
-    let mut reader = P::new(alloc, FIXED_SEED);
+    let mut reader = P::new(alloc);
     refuse(alloc, growth);
     for piece in text.chunks(PIECE) {
         if let Err(fault) = reader.feed(piece) {
@@ -143,7 +144,7 @@ fn feed<A: Format>(
 
 fn canonical_text<A: Format, B: Format>(alloc: Global, text: &[u8], growth: u32) -> Answer {
     refuse(alloc, growth);
-    let answer = canonical::<A, B>(alloc, FIXED_SEED, text);
+    let answer = canonical::<A, B>(alloc, text);
     refuse_none(alloc);
     Answer::of_conversion(alloc, answer)
 }
@@ -155,14 +156,14 @@ fn same<A: Format, B: Format>(
     growth: u32,
 ) -> Result<Answer, AllocError> {
     refuse(alloc, growth);
-    let answer = same_model::<A, B>(alloc, FIXED_SEED, first, second);
+    let answer = same_model::<A, B>(alloc, first, second);
     refuse_none(alloc);
     Answer::of_test(alloc, answer)
 }
 
 fn is_own_text<A: Format>(alloc: Global, text: &[u8], growth: u32) -> Result<Answer, AllocError> {
     refuse(alloc, growth);
-    let answer = is_canonical::<A>(alloc, FIXED_SEED, text);
+    let answer = is_canonical::<A>(alloc, text);
     refuse_none(alloc);
     Answer::of_test(alloc, answer)
 }
@@ -183,7 +184,7 @@ fn ran<A: Format, B: Format>(
     let mut source = text.source();
     let mut sink = roomy(alloc)?;
     refuse(alloc, growth);
-    let answer = run::<A, B, _, _>(alloc, FIXED_SEED, MUCH, &mut source, &mut sink);
+    let answer = run::<A, B, _, _>(alloc, MUCH, &mut source, &mut sink);
     refuse_none(alloc);
     Answer::of_run(alloc, answer, &sink)
 }
@@ -192,7 +193,7 @@ fn shown<A: Format>(alloc: Global, text: &Text<'_>, growth: u32) -> Result<Answe
     let mut source = text.source();
     let mut sink = roomy(alloc)?;
     refuse(alloc, growth);
-    let answer = show::<A, _, _>(alloc, FIXED_SEED, MUCH, &mut source, &mut sink);
+    let answer = show::<A, _, _>(alloc, MUCH, &mut source, &mut sink);
     refuse_none(alloc);
     Answer::of_run(alloc, answer, &sink)
 }
@@ -212,7 +213,6 @@ fn performed(
     refuse(alloc, growth);
     let status = perform(
         alloc,
-        FIXED_SEED,
         MUCH,
         job,
         &mut first,
@@ -231,11 +231,11 @@ fn performed(
     })
 }
 
-fn a_path(alloc: Global) -> Result<OwnedText, JobFault> {
-    OwnedText::new(alloc, "-")
+fn a_path(alloc: Global) -> Result<Word, JobFault> {
+    Word::new(alloc, "-")
 }
 
-fn canon_job(alloc: Global, from: FileFormat, to: FileFormat) -> Result<Job, JobFault> {
+fn canon_job(alloc: Global, from: Form, to: Form) -> Result<Job, JobFault> {
     Ok(Job::Canon {
         from,
         to,
@@ -243,11 +243,7 @@ fn canon_job(alloc: Global, from: FileFormat, to: FileFormat) -> Result<Job, Job
     })
 }
 
-fn same_job(
-    alloc: Global,
-    first_format: FileFormat,
-    second_format: FileFormat,
-) -> Result<Job, JobFault> {
+fn same_job(alloc: Global, first_format: Form, second_format: Form) -> Result<Job, JobFault> {
     Ok(Job::Same {
         first_format,
         first: a_path(alloc)?,
@@ -256,7 +252,7 @@ fn same_job(
     })
 }
 
-fn show_job(alloc: Global, from: FileFormat) -> Result<Job, JobFault> {
+fn show_job(alloc: Global, from: Form) -> Result<Job, JobFault> {
     Ok(Job::Show {
         from,
         path: a_path(alloc)?,
@@ -277,20 +273,20 @@ fn answer_in<A: Format, B: Format>(
         TextCall::Feed(ending) => feed::<A>(alloc, bytes, ending, growth),
         TextCall::FinishByColumns => finished_by_columns::<A>(alloc, bytes, growth),
         TextCall::ModelOf => model_read::<A>(alloc, bytes, growth),
-        TextCall::TextOf(FileFormat::Mps) => text_written::<A, Mps>(alloc, bytes, growth),
-        TextCall::TextOf(FileFormat::Lp) => text_written::<A, Lp>(alloc, bytes, growth),
+        TextCall::TextOf(Form::Mps) => text_written::<A, Mps>(alloc, bytes, growth),
+        TextCall::TextOf(Form::Lp) => text_written::<A, Lp>(alloc, bytes, growth),
         TextCall::ReadText => text_read::<A>(alloc, first, growth),
-        TextCall::Prepare(FileFormat::Mps) => prepared::<A, Mps>(alloc, bytes, growth),
-        TextCall::Prepare(FileFormat::Lp) => prepared::<A, Lp>(alloc, bytes, growth),
+        TextCall::Prepare(Form::Mps) => prepared::<A, Mps>(alloc, bytes, growth),
+        TextCall::Prepare(Form::Lp) => prepared::<A, Lp>(alloc, bytes, growth),
         TextCall::WithRowLists => with_lists::<A>(alloc, bytes, growth),
-        TextCall::Canonical(FileFormat::Mps) => Ok(canonical_text::<A, Mps>(alloc, bytes, growth)),
-        TextCall::Canonical(FileFormat::Lp) => Ok(canonical_text::<A, Lp>(alloc, bytes, growth)),
+        TextCall::Canonical(Form::Mps) => Ok(canonical_text::<A, Mps>(alloc, bytes, growth)),
+        TextCall::Canonical(Form::Lp) => Ok(canonical_text::<A, Lp>(alloc, bytes, growth)),
         TextCall::Same => same::<A, B>(alloc, bytes, second.bytes, growth),
         TextCall::SameAsSecond => same::<B, A>(alloc, second.bytes, bytes, growth),
         TextCall::IsCanonical => is_own_text::<A>(alloc, bytes, growth),
         TextCall::Load => Ok(loaded(alloc, first, growth)),
-        TextCall::Run(FileFormat::Mps) => ran::<A, Mps>(alloc, first, growth),
-        TextCall::Run(FileFormat::Lp) => ran::<A, Lp>(alloc, first, growth),
+        TextCall::Run(Form::Mps) => ran::<A, Mps>(alloc, first, growth),
+        TextCall::Run(Form::Lp) => ran::<A, Lp>(alloc, first, growth),
         TextCall::Show => shown::<A>(alloc, first, growth),
         TextCall::PerformCanon(to) => {
             let job = canon_job(alloc, first.format, to);
@@ -320,15 +316,9 @@ pub(crate) fn answer_to(
     growth: u32,
 ) -> Result<Answer, AllocError> {
     match (first.format, second.format) {
-        (FileFormat::Mps, FileFormat::Mps) => answer_in::<Mps, Mps>(
-            alloc, call, first, second, growth,
-        ),
-        (FileFormat::Mps, FileFormat::Lp) => answer_in::<Mps, Lp>(
-            alloc, call, first, second, growth,
-        ),
-        (FileFormat::Lp, FileFormat::Mps) => answer_in::<Lp, Mps>(
-            alloc, call, first, second, growth,
-        ),
-        (FileFormat::Lp, FileFormat::Lp) => answer_in::<Lp, Lp>(alloc, call, first, second, growth),
+        (Form::Mps, Form::Mps) => answer_in::<Mps, Mps>(alloc, call, first, second, growth),
+        (Form::Mps, Form::Lp) => answer_in::<Mps, Lp>(alloc, call, first, second, growth),
+        (Form::Lp, Form::Mps) => answer_in::<Lp, Mps>(alloc, call, first, second, growth),
+        (Form::Lp, Form::Lp) => answer_in::<Lp, Lp>(alloc, call, first, second, growth),
     }
 }

@@ -4,9 +4,8 @@ use crate::refused::answers::{Answer, put, roomy};
 use crate::refused::names::spelled;
 use crate::refused::refusing::{refuse, refuse_none};
 use mpslp_command::job;
-use mpslp_convert::RunFault;
+use mpslp_convert::{Form, Job, JobFault, RunFault, Word};
 use mpslp_model::{Name, NameFault};
-use mpslp_run_jobs::{FileFormat, Job, JobFault, OwnedText};
 use mpslp_test_devices::FailingWriter;
 use mpslp_types::laws::each_name_is_legal;
 use std::alloc::{AllocError, Global};
@@ -54,10 +53,10 @@ pub(crate) fn legal_name(alloc: Global, word: &str, growth: u32) -> Result<Answe
     }
 }
 
-/// The text that `OwnedText::new` makes.
+/// The text that `Word::new` makes.
 pub(crate) fn word(alloc: Global, growth: u32) -> Result<Answer, AllocError> {
     refuse(alloc, growth);
-    let answer = OwnedText::new(alloc, "a word");
+    let answer = Word::new(alloc, "a word");
     refuse_none(alloc);
     match answer {
         Ok(word) => Ok(Answer::of_text(word.as_str().as_bytes().to_vec(alloc)?)),
@@ -72,10 +71,10 @@ fn put_word(out: &mut FailingWriter, word: &str) {
     put(out, word);
 }
 
-fn put_format(out: &mut FailingWriter, format: FileFormat) {
+fn put_format(out: &mut FailingWriter, format: Form) {
     match format {
-        FileFormat::Mps => put(out, " mps"),
-        FileFormat::Lp => put(out, " lp"),
+        Form::Mps => put(out, " mps"),
+        Form::Lp => put(out, " lp"),
     }
 }
 

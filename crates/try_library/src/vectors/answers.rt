@@ -2,12 +2,11 @@
 
 use crate::inputs::{fault_of_run, model_in};
 use mpslp_convert::{
-    ConvertFault, RunFault, canonical, is_canonical, report, run, same_model, show,
+    ConvertFault, Form, RunFault, canonical, is_canonical, report, run, same_model, show,
 };
-use mpslp_formats::{Lp, Mps};
-use mpslp_model::{FIXED_SEED, Format, Model, ModelReader, ReadFault, Sink, Source, ToWrite};
-use mpslp_run_jobs::FileFormat;
+use mpslp_model::{Format, Model, ModelReader, ReadFault, Sink, Source, ToWrite};
 use mpslp_test_devices::FailingReader;
+use mpslp_write::{Lp, Mps};
 use std::alloc::Global;
 
 /// A limit above the length of every text here.
@@ -48,7 +47,7 @@ pub(crate) fn line_of(alloc: Global, fault: ConvertFault) -> Answer {
 }
 
 fn canonical_of<A: Format, B: Format>(alloc: Global, text: &[u8]) -> Answer {
-    match canonical::<A, B>(alloc, FIXED_SEED, text) {
+    match canonical::<A, B>(alloc, text) {
         Ok(text) => Answer {
             is_fault: false,
             text,
@@ -58,46 +57,40 @@ fn canonical_of<A: Format, B: Format>(alloc: Global, text: &[u8]) -> Answer {
 }
 
 /// The result of `canonical`.
-pub(crate) fn canonical_in(alloc: Global, from: FileFormat, to: FileFormat, text: &[u8]) -> Answer {
+pub(crate) fn canonical_in(alloc: Global, from: Form, to: Form, text: &[u8]) -> Answer {
     match (from, to) {
-        (FileFormat::Mps, FileFormat::Mps) => canonical_of::<Mps, Mps>(alloc, text),
-        (FileFormat::Mps, FileFormat::Lp) => canonical_of::<Mps, Lp>(alloc, text),
-        (FileFormat::Lp, FileFormat::Mps) => canonical_of::<Lp, Mps>(alloc, text),
-        (FileFormat::Lp, FileFormat::Lp) => canonical_of::<Lp, Lp>(alloc, text),
+        (Form::Mps, Form::Mps) => canonical_of::<Mps, Mps>(alloc, text),
+        (Form::Mps, Form::Lp) => canonical_of::<Mps, Lp>(alloc, text),
+        (Form::Lp, Form::Mps) => canonical_of::<Lp, Mps>(alloc, text),
+        (Form::Lp, Form::Lp) => canonical_of::<Lp, Lp>(alloc, text),
     }
 }
 
 /// The result of `is_canonical`.
 pub(crate) fn is_canonical_in(
     alloc: Global,
-    format: FileFormat,
+    format: Form,
     text: &[u8],
 ) -> Result<bool, ConvertFault> {
     match format {
-        FileFormat::Mps => is_canonical::<Mps>(alloc, FIXED_SEED, text),
-        FileFormat::Lp => is_canonical::<Lp>(alloc, FIXED_SEED, text),
+        Form::Mps => is_canonical::<Mps>(alloc, text),
+        Form::Lp => is_canonical::<Lp>(alloc, text),
     }
 }
 
 /// The result of `same_model`.
 pub(crate) fn same_in(
     alloc: Global,
-    first_format: FileFormat,
+    first_format: Form,
     first: &[u8],
-    second_format: FileFormat,
+    second_format: Form,
     second: &[u8],
 ) -> Result<bool, ConvertFault> {
     match (first_format, second_format) {
-        (FileFormat::Mps, FileFormat::Mps) => same_model::<Mps, Mps>(
-            alloc, FIXED_SEED, first, second,
-        ),
-        (FileFormat::Mps, FileFormat::Lp) => same_model::<Mps, Lp>(
-            alloc, FIXED_SEED, first, second,
-        ),
-        (FileFormat::Lp, FileFormat::Mps) => same_model::<Lp, Mps>(
-            alloc, FIXED_SEED, first, second,
-        ),
-        (FileFormat::Lp, FileFormat::Lp) => same_model::<Lp, Lp>(alloc, FIXED_SEED, first, second),
+        (Form::Mps, Form::Mps) => same_model::<Mps, Mps>(alloc, first, second),
+        (Form::Mps, Form::Lp) => same_model::<Mps, Lp>(alloc, first, second),
+        (Form::Lp, Form::Mps) => same_model::<Lp, Mps>(alloc, first, second),
+        (Form::Lp, Form::Lp) => same_model::<Lp, Lp>(alloc, first, second),
     }
 }
 
@@ -105,37 +98,29 @@ pub(crate) fn same_in(
 pub(crate) fn run_in<R: Source, W: Sink>(
     alloc: Global,
     max_bytes: u64,
-    from: FileFormat,
-    to: FileFormat,
+    from: Form,
+    to: Form,
     source: &mut R,
     sink: &mut W,
 ) -> Result<(), RunFault> {
     match (from, to) {
-        (FileFormat::Mps, FileFormat::Mps) => run::<Mps, Mps, R, W>(
-            alloc, FIXED_SEED, max_bytes, source, sink,
-        ),
-        (FileFormat::Mps, FileFormat::Lp) => run::<Mps, Lp, R, W>(
-            alloc, FIXED_SEED, max_bytes, source, sink,
-        ),
-        (FileFormat::Lp, FileFormat::Mps) => run::<Lp, Mps, R, W>(
-            alloc, FIXED_SEED, max_bytes, source, sink,
-        ),
-        (FileFormat::Lp, FileFormat::Lp) => run::<Lp, Lp, R, W>(
-            alloc, FIXED_SEED, max_bytes, source, sink,
-        ),
+        (Form::Mps, Form::Mps) => run::<Mps, Mps, R, W>(alloc, max_bytes, source, sink),
+        (Form::Mps, Form::Lp) => run::<Mps, Lp, R, W>(alloc, max_bytes, source, sink),
+        (Form::Lp, Form::Mps) => run::<Lp, Mps, R, W>(alloc, max_bytes, source, sink),
+        (Form::Lp, Form::Lp) => run::<Lp, Lp, R, W>(alloc, max_bytes, source, sink),
     }
 }
 
 /// The result of `show`.
 pub(crate) fn show_in<R: Source, W: Sink>(
     alloc: Global,
-    from: FileFormat,
+    from: Form,
     source: &mut R,
     sink: &mut W,
 ) -> Result<(), RunFault> {
     match from {
-        FileFormat::Mps => show::<Mps, R, W>(alloc, FIXED_SEED, MUCH, source, sink),
-        FileFormat::Lp => show::<Lp, R, W>(alloc, FIXED_SEED, MUCH, source, sink),
+        Form::Mps => show::<Mps, R, W>(alloc, MUCH, source, sink),
+        Form::Lp => show::<Lp, R, W>(alloc, MUCH, source, sink),
     }
 }
 
@@ -143,8 +128,8 @@ pub(crate) fn show_in<R: Source, W: Sink>(
 pub(crate) fn run_of(
     alloc: Global,
     max_bytes: u64,
-    from: FileFormat,
-    to: FileFormat,
+    from: Form,
+    to: Form,
     text: &[u8],
     piece: usize,
 ) -> Answer {
@@ -155,7 +140,7 @@ pub(crate) fn run_of(
 }
 
 /// The text that shows the model of an input that comes in pieces of limited length.
-pub(crate) fn shown_of(alloc: Global, from: FileFormat, text: &[u8], piece: usize) -> Answer {
+pub(crate) fn shown_of(alloc: Global, from: Form, text: &[u8], piece: usize) -> Answer {
     let mut source = FailingReader::new(text, piece, 0);
     let mut sink = ToWrite::new(Vec::new(alloc));
     let answer = show_in(alloc, from, &mut source, &mut sink);
@@ -164,7 +149,7 @@ pub(crate) fn shown_of(alloc: Global, from: FileFormat, text: &[u8], piece: usiz
 
 /// The model of a text whose reader is fed in two pieces.
 fn fed<A: Format>(alloc: Global, first: &[u8], second: &[u8]) -> Result<Model, ReadFault> {
-    let mut reader = <A::Reader as ModelReader>::new(alloc, FIXED_SEED);
+    let mut reader = <A::Reader as ModelReader>::new(alloc);
     reader.feed(first)?;
     reader.feed(second)?;
     reader.finish()
@@ -185,15 +170,15 @@ fn answer_of(alloc: Global, answer: Result<Model, ReadFault>) -> Answer {
 }
 
 /// The canonical MPS text of a text whose reader is fed in two pieces.
-pub(crate) fn fed_in(alloc: Global, format: FileFormat, first: &[u8], second: &[u8]) -> Answer {
+pub(crate) fn fed_in(alloc: Global, format: Form, first: &[u8], second: &[u8]) -> Answer {
     let answer = match format {
-        FileFormat::Mps => fed::<Mps>(alloc, first, second),
-        FileFormat::Lp => fed::<Lp>(alloc, first, second),
+        Form::Mps => fed::<Mps>(alloc, first, second),
+        Form::Lp => fed::<Lp>(alloc, first, second),
     };
     answer_of(alloc, answer)
 }
 
 /// The canonical MPS text of a text that is read as a whole.
-pub(crate) fn read_in(alloc: Global, format: FileFormat, text: &[u8]) -> Answer {
+pub(crate) fn read_in(alloc: Global, format: Form, text: &[u8]) -> Answer {
     answer_of(alloc, model_in(alloc, format, text))
 }

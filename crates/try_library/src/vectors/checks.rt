@@ -4,20 +4,14 @@ use crate::vectors::answers::{
     MUCH, canonical_in, fed_in, is_canonical_in, line_of, read_in, run_of, same_in, shown_of,
 };
 use crate::vectors::tables::{Entry, Expected};
-use mpslp_convert::ConvertFault;
-use mpslp_run_jobs::FileFormat;
+use mpslp_convert::{ConvertFault, Form};
 use std::alloc::Global;
 
 /// Each format of model files.
-const FORMATS: [FileFormat; 2] = [FileFormat::Mps, FileFormat::Lp];
+const FORMATS: [Form; 2] = [Form::Mps, Form::Lp];
 
 /// Whether a text is read and converted as expected: as a whole, in memory, and in pieces of 1 and of 7 bytes.
-pub(crate) fn is_converted(
-    alloc: Global,
-    format: FileFormat,
-    text: &[u8],
-    expected: &Expected,
-) -> bool {
+pub(crate) fn is_converted(alloc: Global, format: Form, text: &[u8], expected: &Expected) -> bool {
     if !read_in(alloc, format, text).is(&expected.mps) {
         return false;
     }
@@ -38,7 +32,7 @@ pub(crate) fn is_converted(
 /// Whether a text is converted as expected if its bytes come as a whole, and in pieces of 4,096 bytes.
 pub(crate) fn is_converted_in_large_pieces(
     alloc: Global,
-    format: FileFormat,
+    format: Form,
     text: &[u8],
     expected: &Expected,
 ) -> bool {
@@ -54,12 +48,7 @@ pub(crate) fn is_converted_in_large_pieces(
 }
 
 /// Whether the text that shows a model, or the error, is as expected.
-pub(crate) fn is_shown(
-    alloc: Global,
-    format: FileFormat,
-    text: &[u8],
-    expected: &Expected,
-) -> bool {
+pub(crate) fn is_shown(alloc: Global, format: Form, text: &[u8], expected: &Expected) -> bool {
     let Some(wanted) = &expected.shown else {
         return true;
     };
@@ -74,7 +63,7 @@ pub(crate) fn is_shown(
 /// Whether a reader that is fed in two pieces has the expected result, wherever the text is cut.
 pub(crate) fn is_read_in_two_pieces(
     alloc: Global,
-    format: FileFormat,
+    format: Form,
     text: &[u8],
     expected: &Expected,
 ) -> bool {
@@ -90,13 +79,13 @@ pub(crate) fn is_read_in_two_pieces(
 pub(crate) fn is_too_long_by_one(alloc: Global, entry: &Entry) -> bool {
     let text = entry.text.as_slice();
     let len = text.len() as u64;
-    if !run_of(alloc, len, entry.format, FileFormat::Mps, text, 7).is(&entry.expected.mps) {
+    if !run_of(alloc, len, entry.format, Form::Mps, text, 7).is(&entry.expected.mps) {
         return false;
     }
     if len == 0 {
         return true;
     }
-    let answer = run_of(alloc, len - 1, entry.format, FileFormat::Mps, text, 7);
+    let answer = run_of(alloc, len - 1, entry.format, Form::Mps, text, 7);
     answer.is_fault && answer.text.as_slice() == b"file: TooLong\n".as_slice()
 }
 

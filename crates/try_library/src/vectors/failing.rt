@@ -3,12 +3,11 @@
 use crate::inputs::model_in;
 use crate::vectors::answers::{MUCH, run_in, show_in};
 use crate::vectors::tables::Entry;
-use mpslp_convert::{RunFault, load};
-use mpslp_formats::{Lp, Mps, write_lp, write_mps};
+use mpslp_convert::{Form, RunFault, load};
 use mpslp_io::{Sink, Source};
 use mpslp_model::{Format, Model, WriteFault};
-use mpslp_run_jobs::FileFormat;
 use mpslp_test_devices::{FailingReader, FailingWriter};
+use mpslp_write::{Lp, Mps, write_lp, write_mps};
 use std::alloc::Global;
 
 /// A source that returns the text in one read.
@@ -23,14 +22,7 @@ fn run_stops_in_read(alloc: Global, entry: &Entry, fail_at: u64) -> bool {
     };
     let len = entry.text.len() as u64;
     let mut source = FailingReader::new(&entry.text, 1, fail_at);
-    let answer = run_in(
-        alloc,
-        len,
-        entry.format,
-        FileFormat::Mps,
-        &mut source,
-        &mut sink,
-    );
+    let answer = run_in(alloc, len, entry.format, Form::Mps, &mut source, &mut sink);
     matches!(&answer, Err(RunFault::Read)) && sink.calls() == 0 && source.calls() == fail_at
 }
 
@@ -83,7 +75,7 @@ fn reports_written(answer: &Result<(), RunFault>, len: usize) -> bool {
 fn run_into(
     alloc: Global,
     entry: &Entry,
-    to: FileFormat,
+    to: Form,
     sink: &mut FailingWriter,
 ) -> Result<(), RunFault> {
     let mut source = whole(&entry.text);
@@ -91,7 +83,7 @@ fn run_into(
 }
 
 /// Whether a run reports how many bytes its sink took before it failed.
-fn run_is_cut(alloc: Global, entry: &Entry, to: FileFormat, take: usize) -> bool {
+fn run_is_cut(alloc: Global, entry: &Entry, to: Form, take: usize) -> bool {
     let Ok(mut sink) = FailingWriter::new(alloc, take) else {
         return false;
     };
@@ -101,7 +93,7 @@ fn run_is_cut(alloc: Global, entry: &Entry, to: FileFormat, take: usize) -> bool
 }
 
 /// Whether a run succeeds if its sink has room for one byte more than the text, so that the flush succeeds too.
-fn run_is_whole(alloc: Global, entry: &Entry, to: FileFormat) -> bool {
+fn run_is_whole(alloc: Global, entry: &Entry, to: Form) -> bool {
     let text = entry.answer_in(to).text.as_slice();
     let Ok(mut sink) = FailingWriter::new(alloc, text.len().saturating_add(1)) else {
         return false;
@@ -112,7 +104,7 @@ fn run_is_whole(alloc: Global, entry: &Entry, to: FileFormat) -> bool {
 
 /// Whether a run reports how many bytes its sink took, after whichever byte the sink fails. A sink that fails after the last
 /// byte fails in the flush.
-pub(crate) fn stops_after_each_byte(alloc: Global, entry: &Entry, to: FileFormat) -> bool {
+pub(crate) fn stops_after_each_byte(alloc: Global, entry: &Entry, to: Form) -> bool {
     let answer = entry.answer_in(to);
     if answer.is_fault {
         return true;
@@ -151,21 +143,15 @@ pub(crate) fn shows_after_each_byte(alloc: Global, entry: &Entry) -> bool {
 }
 
 /// The result of a format's writer.
-fn write_in<W: Sink>(model: &Model, format: FileFormat, sink: &mut W) -> Result<(), WriteFault> {
+fn write_in<W: Sink>(model: &Model, format: Form, sink: &mut W) -> Result<(), WriteFault> {
     match format {
-        FileFormat::Mps => write_mps(model, sink),
-        FileFormat::Lp => write_lp(model, sink),
+        Form::Mps => write_mps(model, sink),
+        Form::Lp => write_lp(model, sink),
     }
 }
 
 /// Whether a writer reports how many bytes its sink took before it failed.
-fn write_is_cut(
-    alloc: Global,
-    model: &Model,
-    format: FileFormat,
-    text: &[u8],
-    take: usize,
-) -> bool {
+fn write_is_cut(alloc: Global, model: &Model, format: Form, text: &[u8], take: usize) -> bool {
     let Ok(mut sink) = FailingWriter::new(alloc, take) else {
         return false;
     };
@@ -176,7 +162,7 @@ fn write_is_cut(
 }
 
 /// Whether a writer succeeds if its sink has exactly enough room.
-fn write_is_whole(alloc: Global, model: &Model, format: FileFormat, text: &[u8]) -> bool {
+fn write_is_whole(alloc: Global, model: &Model, format: Form, text: &[u8]) -> bool {
     let Ok(mut sink) = FailingWriter::new(alloc, text.len()) else {
         return false;
     };
@@ -185,7 +171,7 @@ fn write_is_whole(alloc: Global, model: &Model, format: FileFormat, text: &[u8])
 }
 
 /// Whether a writer reports how many bytes its sink took, after whichever byte the sink fails.
-fn writes_up_to_each_byte(alloc: Global, model: &Model, format: FileFormat, text: &[u8]) -> bool {
+fn writes_up_to_each_byte(alloc: Global, model: &Model, format: Form, text: &[u8]) -> bool {
     for take in 0..text.len() {
         if !write_is_cut(alloc, model, format, text, take) {
             return false;
@@ -199,15 +185,13 @@ pub(crate) fn is_written_after_each_byte(alloc: Global, entry: &Entry) -> bool {
     let Ok(model) = model_in(alloc, entry.format, &entry.text) else {
         return !entry.is_model();
     };
-    let mps = entry.answer_in(FileFormat::Mps);
-    let lp = entry.answer_in(FileFormat::Lp);
-    if !Mps::expressible(&model)
-        || !writes_up_to_each_byte(alloc, &model, FileFormat::Mps, &mps.text)
-    {
+    let mps = entry.answer_in(Form::Mps);
+    let lp = entry.answer_in(Form::Lp);
+    if !Mps::expressible(&model) || !writes_up_to_each_byte(alloc, &model, Form::Mps, &mps.text) {
         return false;
     }
     if Lp::expressible(&model) {
-        !lp.is_fault && writes_up_to_each_byte(alloc, &model, FileFormat::Lp, &lp.text)
+        !lp.is_fault && writes_up_to_each_byte(alloc, &model, Form::Lp, &lp.text)
     } else {
         lp.is_fault
     }

@@ -2,7 +2,7 @@
 
 use crate::inputs::content;
 use crate::vectors::answers::Answer;
-use mpslp_run_jobs::FileFormat;
+use mpslp_convert::Form;
 use std::alloc::{AllocError, Global};
 use std::io::{Error, ErrorKind, Read};
 use std::rt::Files;
@@ -23,7 +23,7 @@ pub(crate) struct Expected {
 #[derive(Drop)]
 pub(crate) struct Entry {
     pub(crate) name: String,
-    pub(crate) format: FileFormat,
+    pub(crate) format: Form,
     pub(crate) text: Vec<u8>,
     pub(crate) expected: Expected,
 }
@@ -61,11 +61,11 @@ pub(crate) fn number(fields: &[&str], number: usize) -> io::Result<usize> {
 }
 
 /// The format of a file, by the end of its name.
-pub(crate) fn format_of(name: &str) -> FileFormat {
+pub(crate) fn format_of(name: &str) -> Form {
     if name.ends_with("lp") {
-        FileFormat::Lp
+        Form::Lp
     } else {
-        FileFormat::Mps
+        Form::Mps
     }
 }
 
@@ -156,17 +156,17 @@ impl Entry {
     }
 
     /// The expected result of a conversion to this format.
-    pub(crate) fn answer_in(&self, format: FileFormat) -> &Answer {
+    pub(crate) fn answer_in(&self, format: Form) -> &Answer {
         self.expected.answer_in(format)
     }
 }
 
 impl Expected {
     /// The expected result of a conversion to this format.
-    pub(crate) fn answer_in(&self, format: FileFormat) -> &Answer {
+    pub(crate) fn answer_in(&self, format: Form) -> &Answer {
         match format {
-            FileFormat::Mps => &self.mps,
-            FileFormat::Lp => &self.lp,
+            Form::Mps => &self.mps,
+            Form::Lp => &self.lp,
         }
     }
 }
@@ -194,7 +194,7 @@ pub(crate) fn entry_named<'a>(entries: &'a [Entry], name: &str) -> io::Result<&'
 /// An entry of the model with this canonical text.
 pub(crate) fn entry_of_text<'a>(
     entries: &'a [Entry],
-    format: FileFormat,
+    format: Form,
     text: &[u8],
 ) -> io::Result<&'a Entry> {
     for entry in entries {

@@ -3,9 +3,14 @@ use Rattle.mpslp_mps.proofs.{Prelude.earlier_of, SideLemmas.{ranges-apart, secon
 use Rattle.mpslp_mps.proofs.vectors.check_ranges_apart.Goals as goal
 
 pub returns-in-Err-Fault : goal.returns-in-Err-Fault
-returns-in-Err-Fault c = let all = c.args.builder.now in let first = c.args.first.now in let second = c.args.second.now in
-    let d1 = declare_range first.0 first.1 in let d2 = declare_range second.0 second.1 in
-    let fault_is = subst (λ (error : LineError). IsErrorOf (declared_fault all (d1 ∷ [])) error) c.in-Err-Fault.field-0-is c.in-Err-Fault.ensures in
+returns-in-Err-Fault c =
+    let all = c.args.builder.now in
+    let first = c.args.first.now in
+    let second = c.args.second.now in
+    let d1 = declare_range first.0 first.1 in
+    let d2 = declare_range second.0 second.1 in
+    let fault_is = subst (λ (error : LineError). IsErrorOf (declared_fault all (d1 ∷ [])) error)
+    c.in-Err-Fault.field-0-is c.in-Err-Fault.ensures in
     subst (λ (o : Option FaultKind). IsErrorOf o c.error_of_both.result) (ap (λ (o : Option FaultKind). earlier_of o (declared_fault all
     (d2 ∷ []))) (sym fault_is) ∙ sym (ranges-apart all first.0 first.1 second.0 second.1 c.requires)) c.error_of_both.ensures
 

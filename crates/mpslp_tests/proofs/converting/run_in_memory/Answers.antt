@@ -1,5 +1,5 @@
 use Rattle.std.proofs.Common.{◌≡◌, ◌∙◌, sym, ap, subst, [], Some}
-use Rattle.mpslp_convert.specs.Runs.{IsAll}
+use Rattle.mpslp_conversions.specs.Runs.{IsAll}
 use Rattle.mpslp_tests.proofs.converting.run_in_memory.Goals as goal
 
 pub returns : goal.returns

@@ -9,7 +9,7 @@ returns-in_err-declare_first-clause-declared c = let t = c.args.self.now in let 
     let more = flat_map each terms.others.entries in subst (λ (ds : Declarations). AreDeclaredUnless t ds c.from_residual.result u)
     (sym (both_parts each terms.first.items terms.others.entries c.as_slice.result.now c.args.terms.now c.as_slice.ensures.value c.terms.view_is))
     (unless_reported t u (first ++ more) c.from_residual.result c.in_err-declare_first.field-0.0 c.from_residual.ensures.1
-    (unless_err t u u first more c.in_err-declare_first.field-0.0 (c.in_err-declare_first.ensures.declared name is)))
+    (unless_err t u first more c.in_err-declare_first.field-0.0 (c.in_err-declare_first.ensures.declared name is)))
 
 pub returns-clause-kept : goal.returns-clause-kept
 returns-clause-kept c = follows_then c.args.self.now c.declare_first.new.self c.declare_others.new.self c.declare_first.ensures.kept

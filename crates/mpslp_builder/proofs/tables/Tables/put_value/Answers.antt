@@ -1,4 +1,4 @@
-use Rattle.mpslp_builder.proofs.TableDrafts.{on_ok}
+use Rattle.mpslp_builder.proofs.TableDrafts.{on_ok, on_err}
 use Rattle.mpslp_builder.proofs.LineLemmas.{cell_laid, follows_same, same_cells, either_way, cell_follows_there, cell_others_there}
 use Rattle.mpslp_builder.proofs.tables.Tables.put_value.Goals as goal
 
@@ -20,3 +20,6 @@ returns-clause-cells c = let t = c.args.self.now in
     λ other apart. either_way c.put_cell.result (λ h. cell_others_there t c.put_cell.new.self c.requires.numbered
     c.each_name_occurs_once.ensures c.args.column c.args.row c.requires.row c.args.value h c.requires.absent other apart)
     (λ same. same_cells t c.put_cell.new.self c.args.column other same) c.put_cell.ensures.ok c.put_cell.ensures.err
+
+pub returns-clause-err : goal.returns-clause-err
+returns-clause-err c = on_err c.put_cell.result (λ same. record { objective = same.objective; rows = same.rows; columns = same.columns }) c.put_cell.ensures.err

@@ -1,0 +1,12 @@
+use Rattle.std.proofs.Common.{arith}
+use Rattle.mpslp_conversions.proofs.RunLemmas.{run_of}
+use Rattle.mpslp_conversions.proofs.source_to_sink.run_seeded.Goals as goal
+
+pub returns-clause-answer : goal.returns-clause-answer
+returns-clause-answer = grind (arith, run_of)
+
+pub returns-clause-accepts : goal.returns-clause-accepts
+returns-clause-accepts = grind arith
+
+pub returns-clause-cannot_express : goal.returns-clause-cannot_express
+returns-clause-cannot_express = grind arith

@@ -1,9 +1,0 @@
-use Rattle.std.proofs.{Common.{arith}, lemmas.List.{length-append}}
-use Rattle.mpslp_convert.proofs.FaultLineLemmas.{named-bound}
-use Rattle.mpslp_convert.proofs.fault_line.Line.put_name.Goals as goal
-
-pub put-requires-in-Some : goal.put-requires-in-Some
-put-requires-in-Some = grind (arith, named-bound, length-append)
-
-pub returns-in-Some-clause-bound : goal.returns-in-Some-clause-bound
-returns-in-Some-clause-bound = grind (arith, named-bound)

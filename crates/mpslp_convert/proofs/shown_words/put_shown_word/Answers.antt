@@ -1,5 +1,0 @@
-use Rattle.mpslp_output.proofs.OutputLemmas.{puts_then}
-use Rattle.mpslp_convert.proofs.shown_words.put_shown_word.Goals as goal
-
-pub returns : goal.returns
-returns g c = puts_then c.put.ensures c.put-2.ensures
