@@ -3,7 +3,7 @@ _mpslp_tools() {
     local word=${COMP_WORDS[COMP_CWORD]} previous=${COMP_WORDS[COMP_CWORD - 1]} command=${COMP_WORDS[1]} options=
     COMPREPLY=()
     if ((COMP_CWORD == 1)); then
-        mapfile -t COMPREPLY < <(compgen -W 'canon fmt check same diff show digest explain adapt survey report --help --version' -- "$word")
+        mapfile -t COMPREPLY < <(compgen -W 'canon fmt check same diff merge setup-git show digest explain adapt survey report --help --version' -- "$word")
         return
     fi
     case $previous in
@@ -16,15 +16,15 @@ _mpslp_tools() {
             return
             ;;
         --for)
-            mapfile -t COMPREPLY < <(compgen -W 'glpsol clp cbc lp_solve esolver' -- "$word")
+            mapfile -t COMPREPLY < <(compgen -W 'glpsol clp cbc lp_solve esolver highs scip portable' -- "$word")
             return
             ;;
         --target)
-            mapfile -t COMPREPLY < <(compgen -W 'glpsol clp cbc lp_solve esolver coinutils' -- "$word")
+            mapfile -t COMPREPLY < <(compgen -W 'glpsol clp cbc lp_solve esolver coinutils highs scip' -- "$word")
             return
             ;;
         --ignore)
-            mapfile -t COMPREPLY < <(compgen -W 'sense-in-comment objsense no-name no-rhs-section further-n-row marked-without-bound marked-with-lower-bound objective-rhs range-on-equation upper-zero large-limit text-after-end name-like-arithmetic number-not-held constant-in-comment objective-constant ranged-row row-after-side joined-tokens spaced-side integer-section several-signs' -- "$word")
+            mapfile -t COMPREPLY < <(compgen -W 'sense-in-comment objsense no-name no-rhs-section further-n-row empty-markers short-fields marked-without-bound marked-with-lower-bound objective-rhs range-on-equation upper-zero large-limit text-after-end name-like-arithmetic number-not-held constant-in-comment objective-constant ranged-row row-after-side joined-tokens spaced-side integer-section short-keyword several-signs' -- "$word")
             return
             ;;
         --from)
@@ -35,18 +35,20 @@ _mpslp_tools() {
             mapfile -t COMPREPLY < <(compgen -d -- "$word")
             return
             ;;
-        --digits | --jobs | --strict | -j)
+        --digits | --git-path | --jobs | --marker-size | --strict | -j)
             return
             ;;
     esac
     case $command in
-        canon) options='--format --output --out-dir --in-place --diff --to --for --rename --map --names-back --force --jobs --quiet --no-warnings --help -Werror' ;;
-        fmt) options='--format --in-place --check --diff --jobs --json --quiet --help' ;;
+        canon) options='--format --output --out-dir --in-place --diff --to --for --rename --map --names-back --git-path --force --jobs --quiet --no-warnings --help -Werror' ;;
+        fmt) options='--format --output --in-place --check --diff --jobs --json --quiet --help' ;;
         check) options='--format --portable --target --all --ignore --jobs --json --quiet --no-warnings --help -Werror' ;;
-        same) options='--format --json --quiet --no-warnings --help -Werror' ;;
-        diff) options='--format --ignore-objective-name --digits --by-position --json --quiet --no-warnings --help -Werror' ;;
+        same) options='--format --any-names --map --json --quiet --no-warnings --help -Werror' ;;
+        diff) options='--format --ignore-objective-name --all --digits --by-position --any-names --json --quiet --no-warnings --help -Werror' ;;
+        merge) options='--format --output --canonical --git-path --marker-size --json --quiet --help' ;;
+        setup-git) options='--global --quiet --help' ;;
         show) options='--format --quiet --help' ;;
-        digest) options='--format --jobs --json --quiet --help' ;;
+        digest) options='--format --any-names --jobs --json --quiet --help' ;;
         explain) options='--format --help' ;;
         adapt) options='--format --output --out-dir --in-place --diff --dry-run --from --summary --strict --map --names-back --jobs --json --quiet --help' ;;
         survey) options='--format --json --csv --from --jobs --quiet --help' ;;

@@ -1,8 +1,8 @@
 #!/usr/bin/env python3
 """Make the completions and the manual page of mpslp-tools from its parser: python3 python/pages.py [--write]
 
-Without --write it lists the files that are not as they would be made, and exits with 1 if there is one. It needs the installed
-package, as python/check.sh installs it.
+Without --write it lists the files that are not as they would be made, and exits with 1 if there is one. It needs the
+installed package, as python/check.sh installs it.
 """
 
 from __future__ import annotations
@@ -60,7 +60,11 @@ def words_of_the_commands() -> dict[str, Words]:
 
 
 def _words(command: CommandParser) -> Words:
-    rivals = {id(action): group._group_actions for group in command._mutually_exclusive_groups for action in group._group_actions}
+    rivals = {
+        id(action): group._group_actions
+        for group in command._mutually_exclusive_groups
+        for action in group._group_actions
+    }
     options, operands = [], []
     for action in command._actions:
         others = [name for other in rivals.get(id(action), []) if other is not action for name in other.option_strings]
@@ -87,8 +91,18 @@ def bash(commands: dict[str, Words]) -> str:
         if choices
     )
     directories = sorted({name for option in every if option.value == _DIRECTORIES for name in option.names})
-    nothing = sorted({name for option in every if option.value and not option.choices and option.value not in (*_FILES, _DIRECTORIES, "HOW") for name in option.names})
-    cases += _bash_case(" | ".join(directories), "compgen -d") + f"        {' | '.join(nothing)})\n            return\n            ;;\n"
+    nothing = sorted(
+        {
+            name
+            for option in every
+            if option.value and not option.choices and option.value not in (*_FILES, _DIRECTORIES, "HOW")
+            for name in option.names
+        }
+    )
+    cases += (
+        _bash_case(" | ".join(directories), "compgen -d")
+        + f"        {' | '.join(nothing)})\n            return\n            ;;\n"
+    )
     options = "".join(f"        {name}) options='{' '.join(_long(words))}' ;;\n" for name, words in commands.items())
     return f"""\
 # Completion of mpslp-tools for bash. Made by python/pages.py.
@@ -121,7 +135,10 @@ complete -F _mpslp_tools mpslp-tools
 
 
 def _bash_case(names: str, words: str) -> str:
-    return f'        {names})\n            mapfile -t COMPREPLY < <({words} -- "$word")\n            return\n            ;;\n'
+    return (
+        f'        {names})\n            mapfile -t COMPREPLY < <({words} -- "$word")\n            return\n'
+        "            ;;\n"
+    )
 
 
 def _long(words: Words) -> list[str]:
@@ -203,9 +220,14 @@ def _zsh_values(option: Argument) -> str:
 
 
 def fish(commands: dict[str, Words]) -> str:
-    lines = [f"complete -c mpslp-tools -n __mpslp_tools_first -a {name} -d '{_capital(help)}'" for name, help in COMMANDS.items()]
+    lines = [
+        f"complete -c mpslp-tools -n __mpslp_tools_first -a {name} -d '{_capital(help)}'"
+        for name, help in COMMANDS.items()
+    ]
     lines.append("complete -c mpslp-tools -n __mpslp_tools_first -s V -l version -d 'Print the version'")
-    with_files = [name for name, words in commands.items() if words.operand is not None and words.operand.value in ("", "FILE")]
+    with_files = [
+        name for name, words in commands.items() if words.operand is not None and words.operand.value in ("", "FILE")
+    ]
     lines.append(f"complete -c mpslp-tools -n '__mpslp_tools_at {' '.join(with_files)}' -F")
     lines.append("complete -c mpslp-tools -n '__mpslp_tools_at explain' -a '(mpslp-tools explain 2> /dev/null)'")
     lines.append("complete -c mpslp-tools -s h -l help -d 'Print this help'")
@@ -214,7 +236,9 @@ def fish(commands: dict[str, Words]) -> str:
         for option in words.options:
             if option.names[0] != "-h":
                 found.setdefault(_fish_option(option), []).append(name)
-    lines += [f"complete -c mpslp-tools -n '__mpslp_tools_at {' '.join(names)}' {option}" for option, names in found.items()]
+    lines += [
+        f"complete -c mpslp-tools -n '__mpslp_tools_at {' '.join(names)}' {option}" for option, names in found.items()
+    ]
     return """\
 # Completion of mpslp-tools for fish. Made by python/pages.py.
 
@@ -228,7 +252,9 @@ function __mpslp_tools_first
 end
 
 complete -c mpslp-tools -f
-""" + "".join(f"{line}\n" for line in lines)
+""" + "".join(
+        f"{line}\n" for line in lines
+    )
 
 
 def _fish_option(option: Argument) -> str:
@@ -268,7 +294,8 @@ is for everyday work with model files in MPS and LP. It has the commands of the 
 .BR mpslp (1),
 and more around them. What
 .B mpslp
-reads and writes, it reads and writes with the same proved library; what is around that is tested, and not proved. It is also
+reads and writes, it reads and writes with the same proved library; what is around that is tested, and not proved.
+It is also
 .BR "python3 \-m mpslp" .
 .PP
 The format of a file is that of its extension:
@@ -311,14 +338,16 @@ is given. With
 .B \-\-json
 all that concerns a file is in its JSON on standard output.
 .PP
-On a terminal, messages are coloured, and a line of progress is shown for what takes more than a second. The environment variable
+On a terminal, messages are coloured, and a line of progress is shown for what takes more than a second.
+The environment variable
 .B NO_COLOR
 turns colours off.
 .SH "EXIT STATUS"
 {statuses}.PP
 Of several files, the greatest.
 .B survey
-ends with 0 also if files are rejected. If the reader of a pipe ends, the command ends by the signal SIGPIPE, without a message.
+ends with 0 also if files are rejected.
+If the reader of a pipe ends, the command ends by the signal SIGPIPE, without a message.
 .SH EXAMPLES
 .TP
 Which files of a directory are rejected, or not canonical?
@@ -349,7 +378,8 @@ Show with git diff how models differ:
 .BR git (1).
 The documents in
 .IR share/doc/mpslp :
-README.md, python/README.md, and docs with RECIPES.md for git, pre\-commit and CI, ERRORS.md, DIALECTS.md and SOLVERS.md.
+README.md, python/README.md, and docs with RECIPES.md for git, pre\-commit and CI,
+ERRORS.md, DIALECTS.md and SOLVERS.md.
 """
 
 

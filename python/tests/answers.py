@@ -18,8 +18,10 @@ NOT_LP = b"ROWS\n N  cost\nCOLUMNS\n    x[1]  cost  1\nENDATA\n"
 LOW, SMALL, LARGE, HIGH = Decimal("-Infinity"), Decimal("-1.5E-7"), Decimal("40"), Decimal("Infinity")
 ROWS = [("weight", LOW, LARGE), ("size", SMALL, HIGH)]
 FUEL = ("fuel", _mpslp.INTEGER, SMALL, HIGH, LARGE, [(0, LARGE)])
-COLUMNS = [("y", _mpslp.INTEGER, SMALL, HIGH, LARGE, [(1, SMALL), (0, LARGE)]), ("x", _mpslp.CONTINUOUS, LOW, LARGE, SMALL, [])]
-
+COLUMNS = [
+    ("y", _mpslp.INTEGER, SMALL, HIGH, LARGE, [(1, SMALL), (0, LARGE)]),
+    ("x", _mpslp.CONTINUOUS, LOW, LARGE, SMALL, []),
+]
 
 
 def extended(rows, columns=[], objective="cost"):
@@ -45,8 +47,16 @@ CALLS = {
     "is_canonical": partial(_mpslp.is_canonical, CANONICAL, _mpslp.MPS),
     "is_canonical, not": partial(_mpslp.is_canonical, MPS, _mpslp.MPS),
     "is_canonical, refused": partial(_mpslp.is_canonical, b"", _mpslp.MPS),
-    "lines of a text": lambda: (_mpslp.count_line_feeds(MPS, 0, len(MPS)), _mpslp.find_first_column(MPS, 0, len(MPS)), _mpslp.find_first_column(MPS, 0, 1)),
-    "a marker": lambda: (_mpslp.find_marker(MPS, 0, len(MPS)), _mpslp.find_marker(b"'MARKE''MARKER", 0, 14), _mpslp.find_marker(b"''MARKER'", 0, 9)),
+    "lines of a text": lambda: (
+        _mpslp.count_line_feeds(MPS, 0, len(MPS)),
+        _mpslp.find_first_column(MPS, 0, len(MPS)),
+        _mpslp.find_first_column(MPS, 0, 1),
+    ),
+    "a marker": lambda: (
+        _mpslp.find_marker(MPS, 0, len(MPS)),
+        _mpslp.find_marker(b"'MARKE''MARKER", 0, 14),
+        _mpslp.find_marker(b"''MARKER'", 0, 9),
+    ),
     "first fields of lines": partial(_mpslp.first_fields, MPS, 0, len(MPS)),
     "columns of bounds": partial(_mpslp.bounded_columns, BOUNDS, 0, len(BOUNDS), b"FR MI"),
     "load": partial(_mpslp.load, OTHER, _mpslp.LP),
@@ -56,12 +66,25 @@ CALLS = {
     "a model's row": partial(LOADED.row, 0),
     "a model's column": partial(LOADED.column, 0),
     "a model's names": lambda: (LOADED.row_name(1), LOADED.column_name(0)),
-    "a model's numbers": lambda: (LOADED.find_row("weight"), LOADED.find_column("none"), LOADED.find_row("\udcff"), LOADED.find_row(7)),
+    "a model's numbers": lambda: (
+        LOADED.find_row("weight"),
+        LOADED.find_column("none"),
+        LOADED.find_row("\udcff"),
+        LOADED.find_row(7),
+    ),
     "a model's entry": lambda: (LOADED.entry(0, 0), LOADED.entry(1, 1)),
     "a model's column's entries": lambda: (LOADED.column_len(0), LOADED.column_entries(0)),
-    "a model's row's entries": lambda: (lambda loaded: (loaded.row_len(0), loaded.row_entries(0)))(_mpslp.load(OTHER, _mpslp.LP)),
-    "where models differ": lambda: (LOADED.next_row_difference(0, LOADED, 1), LOADED.next_column_difference(0, LOADED, 0, False)),
-    "where models with the same rows differ": lambda: (LOADED.has_same_rows(LOADED), LOADED.next_column_difference(0, LOADED, 1, True)),
+    "a model's row's entries": lambda: (lambda loaded: (loaded.row_len(0), loaded.row_entries(0)))(
+        _mpslp.load(OTHER, _mpslp.LP)
+    ),
+    "where models differ": lambda: (
+        LOADED.next_row_difference(0, LOADED, 1),
+        LOADED.next_column_difference(0, LOADED, 0, False),
+    ),
+    "where models with the same rows differ": lambda: (
+        LOADED.has_same_rows(LOADED),
+        LOADED.next_column_difference(0, LOADED, 1, True),
+    ),
     "a model's magnitudes": LOADED.magnitudes,
     "a model's kinds of limits": LOADED.kinds,
     "a model's lines": lambda: (LOADED.lines(0), LOADED.lines(1)),
@@ -74,6 +97,10 @@ CALLS = {
     "make_extended, by a column": extended(ROWS[1:], COLUMNS),
     "make_extended, refused": extended(ROWS),
     "make_replaced": replaced(ROWS[:1], [FUEL]),
+    "a model's shape": LOADED.shape,
+    "make_renamed": partial(_mpslp.make_renamed, LOADED, "o", ["b", "a"], ["z", "y", "x", "w"]),
+    "make_renamed, refused": partial(_mpslp.make_renamed, LOADED, "o", ["a", "a"], ["z", "y", "x", "w"]),
+    "colours": partial(_mpslp.refined, *LOADED.shape()[:4], LOADED.shape()[5], 2),
 }
 
 # Arguments that the modules of the package never give.
@@ -94,7 +121,9 @@ WRONG_CALLS = {
     "an unknown format of a model": partial(_mpslp.store, LOADED, 2),
     "a name without a byte": partial(_mpslp.make, _mpslp.MINIMIZE, "", SMALL, [], []),
     "a row that is no tuple": partial(_mpslp.make, _mpslp.MINIMIZE, "cost", SMALL, ["weight"], []),
-    "a row below 0": partial(_mpslp.make, _mpslp.MINIMIZE, "cost", SMALL, [], [("x", 0, SMALL, HIGH, LARGE, [(-1, SMALL)])]),
+    "a row below 0": partial(
+        _mpslp.make, _mpslp.MINIMIZE, "cost", SMALL, [], [("x", 0, SMALL, HIGH, LARGE, [(-1, SMALL)])]
+    ),
     "a number that is none": partial(_mpslp.make, _mpslp.MINIMIZE, "cost", Decimal("NaN"), [], []),
     "differences from rows that are not there": lambda: LOADED.next_row_difference(0, LOADED, 9),
     "differences from no model": partial(LOADED.next_column_difference, 0, None, 0, False),
@@ -105,6 +134,10 @@ WRONG_CALLS = {
     "a replacement by no model": partial(_mpslp.make_replaced, LOADED, None),
     "a further row that is no tuple": extended([None]),
     "a further row with a number that is none": extended([("size", SMALL, None)]),
+    "names that are too few": partial(_mpslp.make_renamed, LOADED, "o", ["a"], ["z", "y", "x", "w"]),
+    "names that are none": partial(_mpslp.make_renamed, LOADED, "o", ["a", None], ["z", "y", "x", "w"]),
+    "other names of no model": partial(_mpslp.make_renamed, None, "o", [], []),
+    "what is no graph": partial(_mpslp.refined, bytes(8), b"", b"", bytes(8), bytes(8), 1),
     "an argument too few": partial(_mpslp.same, MPS, _mpslp.MPS, LP),
 }
 

@@ -1,4 +1,4 @@
-"""Lets each request for memory of each call fail in turn, with refuse.c preloaded; test_memory.py runs it.
+"""Lets each request for memory of each call fail in turn, by the library that test_memory.py preloads and runs it with.
 
 Each call has to raise MemoryError or to answer as ever, and to leak no memory. PYTHONMALLOC=malloc makes the
 requests of Python's own objects fail, too.

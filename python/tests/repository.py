@@ -7,7 +7,7 @@ ROOT = Path(__file__).resolve().parents[2]
 EXAMPLES = ROOT / "examples"
 VECTORS = ROOT / "vectors"
 
-# The suite of vectors/, and the pages of documents, are tried by scripts that stand here.
+# Models, spellings, a second reader and what else is shared with the tests of the program: `from shared import models`.
 sys.path.insert(0, str(ROOT / "tests"))
 
 

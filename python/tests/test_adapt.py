@@ -1,10 +1,12 @@
-"""Files of other dialects: the call, the command, and what both report; the rules are tested by tests/adapt_rules.py."""
+"""Files of other dialects: the call, the command, and what both report; the rules are tested by
+python/tests/adapt_rules.py."""
 
 import contextlib
 import gzip
 import io
 import json
 import os
+import random
 import subprocess
 import sys
 import tempfile
@@ -13,13 +15,14 @@ from dataclasses import FrozenInstanceError
 from pathlib import Path
 from unittest import mock
 
+import adapt_rules
 import mpslp
 from mpslp import _adapt
-from mpslp._adapt import _changes, _check_lp, _check_mps
+from mpslp._adapt import _changes, _check_lp, _check_mps, _check_words, _lp
+from mpslp._adapt._lp_plain import PlainStatements
+from mpslp._adapt._lp_tokens import Tokens
 from mpslp._adapt._writers import writer_of
 from repository import EXAMPLES, ROOT
-
-import adapt_rules  # from tests/ of the repository
 
 PLAN = b"max\n p: 3 x[1] + 2 y\nst\n c: x[1] + y + 3 <= 5\n d: x[1] >= y\nend\n"
 ADAPTED = b"max\n p: 3 x(1) + 2 y\nst\n c: x(1) + y <= 2\n d: x(1) - y >= 0\nend\n"
@@ -43,8 +46,10 @@ class Calls(unittest.TestCase):
         self.assertEqual(done.text, ADAPTED)
         self.assertEqual(done.format, "lp")
         self.assertEqual(done.names, {"x[1]": "x(1)"})
-        self.assertEqual({(each.line, each.kind) for each in done.changes},
-                         {(2, "name"), (4, "name"), (4, "constant-in-row"), (5, "name"), (5, "terms-on-the-right")})
+        self.assertEqual(
+            {(each.line, each.kind) for each in done.changes},
+            {(2, "name"), (4, "name"), (4, "constant-in-row"), (5, "name"), (5, "terms-on-the-right")},
+        )
         self.assertEqual(str(done.changes[0]), "2: name: x[1] -> x(1)")
         self.assertEqual(mpslp.load(done.text, done.format).rows["c"].upper, 2)
 
@@ -97,8 +102,14 @@ class Calls(unittest.TestCase):
 
     def test_the_kinds_are_those_of_the_examples(self):
         rows = adapt_rules.rows()
-        found = {(row["format"], row["kind"]) for row in rows if row["kind"] not in (*adapt_rules.LEFT_OR_NOTED, *_changes.FILE_KINDS)}
-        self.assertEqual(found, {*(("mps", kind) for kind in _changes.MPS_KINDS), *(("lp", kind) for kind in _changes.LP_KINDS)})
+        found = {
+            (row["format"], row["kind"])
+            for row in rows
+            if row["kind"] not in (*adapt_rules.LEFT_OR_NOTED, *_changes.FILE_KINDS)
+        }
+        self.assertEqual(
+            found, {*(("mps", kind) for kind in _changes.MPS_KINDS), *(("lp", kind) for kind in _changes.LP_KINDS)}
+        )
 
     def test_what_is_still_rejected_is_left(self):
         for kind, line, text in REJECTED:
@@ -116,7 +127,7 @@ class Calls(unittest.TestCase):
 
     def test_what_is_accepted_stays_at_once(self):
         for text in (
-            f"ROWS\n L  A\nCOLUMNS\n    X  obj  1  A  1\nRHS\n    RHS  obj  5\nENDATA\n",
+            "ROWS\n L  A\nCOLUMNS\n    X  obj  1  A  1\nRHS\n    RHS  obj  5\nENDATA\n",
             f"{ROWS}COLUMNS\n    X  A  1\nRHS\n    {'S' * 300}  A  1\nENDATA\n",
             f"*{'a' * 1_048_575}\r\n{ROWS}COLUMNS\n    X  A  1\nENDATA\n",
         ):
@@ -199,8 +210,10 @@ class Calls(unittest.TestCase):
 
     def test_long_lines(self):
         columns = "".join(f"+ {number} x{number} " for number in range(150_000))
-        for text, format in ((f"min {columns}\\ {'a' * 1_100_000}\nend\n\\{'a' * 1_100_000}\n", "lp"),
-                             (f"*{'a' * 1_100_000}\nROWS\n N  C\nCOLUMNS\n    X  C  1{' ' * 1_100_000}\nENDATA\n", "mps")):
+        for text, format in (
+            (f"min {columns}\\ {'a' * 1_100_000}\nend\n\\{'a' * 1_100_000}\n", "lp"),
+            (f"*{'a' * 1_100_000}\nROWS\n N  C\nCOLUMNS\n    X  C  1{' ' * 1_100_000}\nENDATA\n", "mps"),
+        ):
             with self.subTest(format):
                 with self.assertRaisesRegex(mpslp.ModelFileError, "LineTooLong"):
                     mpslp.load(text.encode(), format)
@@ -229,12 +242,21 @@ class Calls(unittest.TestCase):
 
     def test_notes_of_a_text_that_is_read_in_part(self):
         columns = "".join(f"    X{number}  A  1\n" for number in range(50))
-        text = f"{ROWS}COLUMNS\n{columns}*SENSE:Maximize\n    Y  C  1\nRHS\n    RHS  C  5\nBOUNDS\n*SENSE:Maximize\n UP  BND  Y  4\nENDATA\nRHS\n"
+        text = (
+            f"{ROWS}COLUMNS\n{columns}*SENSE:Maximize\n    Y  C  1\nRHS\n    RHS  C  5\nBOUNDS\n*SENSE:Maximize\n"
+            " UP  BND  Y  4\nENDATA\nRHS\n"
+        )
         for end in ("\n", "\r\n"):
             with self.subTest(end):
                 done = mpslp.adapt(text.replace("\n", end).encode(), "mps", "none")
                 self.assertEqual([note.line for note in done.notes], [55, 58])
-        for row, line in (("x >= 2 + y <= 5", 3), ("x >= \\ <\n -2 - y <= 5", 4), ("x >= -inf + y <= 5", 3), ("x >= 2e-1\n+ y <= 5", None), ("-1 <= x - y <= 5", None)):
+        for row, line in (
+            ("x >= 2 + y <= 5", 3),
+            ("x >= \\ <\n -2 - y <= 5", 4),
+            ("x >= -inf + y <= 5", 3),
+            ("x >= 2e-1\n+ y <= 5", None),
+            ("-1 <= x - y <= 5", None),
+        ):
             with self.subTest(row):
                 notes = mpslp.adapt(f"min x\nst\n{row}\nend\n".encode(), "lp").notes
                 self.assertEqual([note.line for note in notes], [] if line is None else [line])
@@ -248,7 +270,10 @@ class Calls(unittest.TestCase):
 class TheCheck(unittest.TestCase):
     """The check that knows no rule finds what a wrong rule would do."""
 
-    TEXT = f"{ROWS}COLUMNS\n    X  C  1  A  2\nRHS\n    RHS  A  4  C  5\nRANGES\n    RNG  A  1\nBOUNDS\n UP  BND  X  7\nENDATA\n"
+    TEXT = (
+        f"{ROWS}COLUMNS\n    X  C  1  A  2\nRHS\n    RHS  A  4  C  5\nRANGES\n    RNG  A  1\nBOUNDS\n"
+        " UP  BND  X  7\nENDATA\n"
+    )
 
     def difference(self, before, after, *changes, names={}):
         read = _check_mps.readings
@@ -261,10 +286,26 @@ class TheCheck(unittest.TestCase):
         self.assertIsNone(self.difference(self.TEXT, self.TEXT.replace("X", "Y"), names={"X": "Y"}))
 
     def test_each_part_of_a_declaration(self):
-        for old, new in (("C  1", "C  -1"), ("C  1", "C  10"), ("A  2", "C  2"), ("X  C", "Y  C"), ("A  4", "A  -4"), ("C  5", "C  -5"),
-                         ("RNG  A  1", "RNG  A  2"), (" UP", " LO"), ("X  7", "X  70"), (" L  A", " G  A"), ("  A  2", ""),
-                         (" UP  BND  X  7\n", ""), ("    RNG  A  1\n", ""), ("ROWS", "OBJSENSE\n    MAX\nROWS"), ("BND", "OTHER"),
-                         ("COLUMNS", "COLUMNS\n    M  'MARKER'  'INTORG'"), ("A  4", "A  1e20"), (" N  C\n L  A", " L  A\n N  C\n N  D")):
+        for old, new in (
+            ("C  1", "C  -1"),
+            ("C  1", "C  10"),
+            ("A  2", "C  2"),
+            ("X  C", "Y  C"),
+            ("A  4", "A  -4"),
+            ("C  5", "C  -5"),
+            ("RNG  A  1", "RNG  A  2"),
+            (" UP", " LO"),
+            ("X  7", "X  70"),
+            (" L  A", " G  A"),
+            ("  A  2", ""),
+            (" UP  BND  X  7\n", ""),
+            ("    RNG  A  1\n", ""),
+            ("ROWS", "OBJSENSE\n    MAX\nROWS"),
+            ("BND", "OTHER"),
+            ("COLUMNS", "COLUMNS\n    M  'MARKER'  'INTORG'"),
+            ("A  4", "A  1e20"),
+            (" N  C\n L  A", " L  A\n N  C\n N  D"),
+        ):
             with self.subTest(old=old, new=new):
                 after = self.TEXT.replace(old, new, 1)
                 self.assertNotEqual(after, self.TEXT)
@@ -297,18 +338,25 @@ class TheCheck(unittest.TestCase):
     def test_adapt_reports_a_wrong_rule(self):
         text = f"{ROWS}COLUMNS\n    X  C  1D2\nENDATA\n".encode()
         with mock.patch("mpslp._adapt._mps_rules._with_e", lambda field: "5"):
-            with self.assertRaisesRegex(mpslp.AdaptError, "^5: internal error: the result does not say what the file says: coefficient X C"):
+            with self.assertRaisesRegex(
+                mpslp.AdaptError, "^5: internal error: the result does not say what the file says: coefficient X C"
+            ):
                 mpslp.adapt(text, "mps")
 
 
 class TheCheckOfLp(unittest.TestCase):
     """The check of LP, which knows no rule, finds what a wrong rule would do."""
 
-    TEXT = "min c: 2 x + y + 3\nst\nr: x + 2 y <= 4\n1 <= x - y <= 9\nx >= 2\n+ y <= 7\nbounds\nx <= 8\ngenerals\nx\nend\n"
+    TEXT = (
+        "min c: 2 x + y + 3\nst\nr: x + 2 y <= 4\n1 <= x - y <= 9\nx >= 2\n+ y <= 7\nbounds\nx <= 8\ngenerals\nx\nend\n"
+    )
 
     def difference(self, before, after, names={}):
         read = _check_lp.readings
-        found = _check_lp.differences(read(before, None), read(after, None, is_of_mpslp=True), names)
+        words = _check_lp.tokens_of
+        found = _check_lp.differences(
+            read(words(before, None), None), read(words(after, None), None, is_of_mpslp=True), names
+        )
         return None if found is None else found.text
 
     def test_the_same(self):
@@ -318,16 +366,200 @@ class TheCheckOfLp(unittest.TestCase):
         self.assertIsNone(self.difference(self.TEXT, self.TEXT.replace("y", "z"), {"y": "z"}))
 
     def test_what_differs(self):
-        for right, wrong in (("min", "max"), ("c:", "d:"), ("+ 3", "- 3"), ("2 x", "x"), ("r:", "s:"), ("+ 2 y", "- 2 y"), ("<= 4", "<= 42"),
-                             ("<= 4", ">= 4"), ("1 <= x", "2 <= x"), ("<= 9", "<= 90"), ("x >= 2\n+", "x >= 23"), ("x <= 8", "y <= 8"),
-                             ("x <= 8", "x <= 9"), ("x <= 8", "x >= 8"), ("generals", "binaries"), ("generals\nx", "generals\ny")):
+        for right, wrong in (
+            ("min", "max"),
+            ("c:", "d:"),
+            ("+ 3", "- 3"),
+            ("2 x", "x"),
+            ("r:", "s:"),
+            ("+ 2 y", "- 2 y"),
+            ("<= 4", "<= 42"),
+            ("<= 4", ">= 4"),
+            ("1 <= x", "2 <= x"),
+            ("<= 9", "<= 90"),
+            ("x >= 2\n+", "x >= 23"),
+            ("x <= 8", "y <= 8"),
+            ("x <= 8", "x <= 9"),
+            ("x <= 8", "x >= 8"),
+            ("generals", "binaries"),
+            ("generals\nx", "generals\ny"),
+        ):
             with self.subTest(wrong):
                 self.assertIsNotNone(self.difference(self.TEXT, self.TEXT.replace(right, wrong)))
 
     def test_what_has_two_readings(self):
         for rows in ("x <= 5+x+x <= 4", "x <= 5\n+ y\n+ z <= 4"):
             with self.assertRaisesRegex(mpslp.AdaptError, "more than one reading"):
-                _check_lp.check_lp(f"min x\nst\n{rows}\nend\n", "min x\nst\nend\n", None, {})
+                _check_lp.check_lp(f"min x\nst\n{rows}\nend\n", "min x\nst\nend\n", None, {}, _changes.Log())
+
+
+class WholeStatements(unittest.TestCase):
+    """Plain statements of LP are read as a whole, and checked by lines: with the same result as token by token."""
+
+    NAMES = ("x", "y", "z", "w", "x1", "y_3", "cost", "a.b", "f(1)", "e1", "st", "free", "inf", "x[1]", "sin", "L")
+    PLAIN = 9
+    NUMBERS = ("1", "2", "3", "10", "0.5", "2.50", ".5", "1e-5", "1E+3", "2e+20", "1e30", "0", "9" * 21, "3.")
+
+    def drawn(self, source):
+        """A text, most lines of which are plain."""
+        is_plain = source.random() < 0.7
+        names = self.NAMES[: self.PLAIN] if is_plain else self.NAMES
+
+        def number():
+            return source.choice(self.NUMBERS if source.random() < 0.3 else self.NUMBERS[:6])
+
+        def term():
+            kind = source.random()
+            return (
+                source.choice(names)
+                if kind < 0.4
+                else number() + source.choice((" ", " ", " ", " * ", "")) + source.choice(names)
+                if kind < 0.75
+                else number()
+            )
+
+        def total():
+            terms = [term() for _ in range(source.randint(1, 3))]
+            space = source.choice((" ", " ", " ", "", "\n "))
+            signs = source.choice(("", "", "", "- "))
+            return signs + terms[0] + "".join(f"{space}{source.choice('+-')} {each}" for each in terms[1:])
+
+        def row():
+            label = source.choice((f"c{source.randint(1, 9)}: ", f"c{source.randint(1, 9)}: ", "", "r:\n  "))
+            sides = f"{total()} {source.choice(('>=', '<=', '=', '<'))} {source.choice(('', '', '-'))}{number()}"
+            return label + (f"{number()} <= {total()} <= {number()}" if source.random() < 0.1 else sides)
+
+        def bound():
+            name = source.choice(names)
+            return source.choice(
+                (f"{name} <= {number()}", f"-inf <= {name} <= 4", f"{name} free", f"1 <= {name}", f"{name} >= -1e30")
+            )
+
+        def lines(statement, most):
+            ends = ("\n",) * 6 + ("\n\n", "\r\n", " \n", "\n\\ note\n")
+            return "".join(f" {statement()}{source.choice(ends)}" for _ in range(source.randint(0, most)))
+
+        text = f"{source.choice(('Minimize', 'max'))}\n obj: {total()}\n{source.choice(('Subject To', 'st'))}\n"
+        text += lines(row, 5)
+        if source.random() < 0.5:
+            text += "Bounds\n" + lines(bound, 4)
+        if source.random() < 0.4:
+            text += "Generals\n" + lines(lambda: " ".join(source.sample(names, 2)), 3)
+        return f"{text}End\n".encode()
+
+    def result(self, text, dialect):
+        try:
+            adapted = mpslp.adapt(text, "lp", dialect)
+        except mpslp.AdaptError as error:
+            return error.line, error.reason
+        lines = [line.rstrip() for line in adapted.text.splitlines()]  # spaces at the end of a line may be kept or not
+        return lines, adapted.changes, dict(adapted.names), adapted.notes
+
+    def test_as_token_by_token(self):
+        source = random.Random(11)
+        whole, changed, lines = 0, 0, mock.Mock(wraps=_check_lp.says_the_same)
+        for _ in range(800):
+            text, dialect = self.drawn(source), source.choice((None, None, "coinutils", "glpsol", "lp_solve"))
+            with mock.patch.object(_check_lp, "says_the_same", lines):
+                found = self.result(text, dialect)
+            with mock.patch.object(_lp, "_WITH_PLAIN_STATEMENTS", ()), mock.patch.object(
+                _check_lp, "says_the_same", return_value=False
+            ):
+                self.assertEqual(found, self.result(text, dialect), text.decode())
+            changed += len(found) == 4 and bool(found[1])
+            tokens = Tokens(text.decode(), None, PlainStatements(text.decode(), None)).all
+            whole += any(token.kind.startswith("plain") for token in tokens)
+        self.assertGreater(whole, 500)
+        self.assertGreater(changed, 50)
+        self.assertGreater(lines.call_count, 50)
+
+    def test_lines_that_say_something_else(self):
+        """The check by lines knows each row that says something else, and leaves what it does not know."""
+        source = "min\n x\nst\n c: x + 3 >= 5\n d: y <= 2\nend\n"
+        changes = [_changes.Reported(4, "constant-in-row", "c: x + 3 >= 5", "c: x >= 2")]
+
+        def is_same(written, changes=changes, names=None, before=source, dialect=None):
+            return _check_lp.says_the_same(before, written, dialect, names or {}, changes)
+
+        good = source.replace("c: x + 3 >= 5", "c: x >= 2")
+        self.assertTrue(is_same(good))
+        self.assertFalse(is_same(good, []))
+        self.assertFalse(is_same(good, changes, {"y": "y_1"}))
+        self.assertFalse(is_same(good, dialect="coinutils"))
+        for wrong in ("c: x >= 3", "c: x <= 2", "d: x >= 2", "c: y >= 2", "c: 2 x >= 2", "c: x + y >= 2", "x >= 2"):
+            reported = [changes[0]._replace(after=wrong)]
+            self.assertFalse(is_same(good.replace("c: x >= 2", wrong), reported), wrong)
+        for word in ("st", "inf", "e1", "free", "2x", "x +"):
+            self.assertFalse(is_same(good.replace("y", word), before=source.replace("y", word)), word)
+
+
+class Words(unittest.TestCase):
+    """The second reading of the words of a text, without the rules that it checks."""
+
+    def in_lp(self, before, after, *reported, notes=(), names=None):
+        log = _changes.Log()
+        for line, kind, old, new in reported:
+            log.add(line, kind, old, new)
+        for note in notes:
+            log.note(1, note)
+        words = _check_lp.tokens_of
+        found = _check_words.difference_in_lp(words(before, None), words(after, None), None, names or {}, log)
+        return None if found is None else found.text
+
+    def test_what_is_lost_or_added(self):
+        text = "min x + 2 y\nst\n x + y >= 4\nend\n"
+        self.assertIsNone(self.in_lp(text, text.replace("x + y >= 4", "x + y >= 4")))
+        for lost, added in (("2 y", "y"), ("+ 2", "2"), ("y >= 4", "y = 4"), ("st", "subject to"), ("x + y", "z + y")):
+            self.assertIsNotNone(self.in_lp(text, text.replace(lost, added)))
+        changed = text.replace("x + y >= 4", "x + y >= 1")
+        self.assertIsNotNone(self.in_lp(text, changed))
+        self.assertIsNotNone(self.in_lp(text, changed, (3, "number", "4", "3")))
+        self.assertIsNone(self.in_lp(text, changed, (3, "number", "4", "1")))
+        self.assertIsNone(self.in_lp(text, text.replace("x", "z"), names={"x": "z"}))
+
+    def test_section_words(self):
+        before, after = "max 2 y + 10 st\nsubject to\n y <= 5\nend\n", "max 2 y + 10 st\n y <= 5\nend\n"
+        self.assertEqual(
+            self.in_lp(before, after, (2, "section-again", "subject to", "")), "st is missing, and no change has it"
+        )
+
+    def test_what_has_two_meanings(self):
+        for rows in (
+            "x >= 10_000",
+            "x >= 1D3",
+            "x >= 5 hours",
+            "2e + x >= 4",
+            "x >= 2\n5 + x >= 1",
+            "x >= 2\ne5 + x >= 1",
+            "x\u00b7 >= 2",
+            "\uff58 >= 2",
+        ):
+            with self.subTest(rows):
+                text = f"min x\nst\n{rows}\nend\n".encode().decode("latin-1")
+                self.assertIsNotNone(self.in_lp(text, text))
+        text = "min x\nst\nx >= 5 hours\nend\n"
+        self.assertIsNone(self.in_lp(text, text, notes=["hours comes only after numbers on the right"]))
+
+    def in_mps(self, before, after, *reported, names=None):
+        log = _changes.Log()
+        for line, kind, old, new in reported:
+            log.add(line, kind, old, new)
+        found = _check_words.difference_in_mps(before, after, names or {}, log.reported)
+        return None if found is None else found.text
+
+    def test_mps(self):
+        text = "ROWS\n N  C\n L  R\nCOLUMNS\n    X  C  9  R  1\nRHS\n    RHS  R  4\nENDATA\nthe end\n"
+        self.assertIsNone(self.in_mps(text, text.replace("the end", "")))
+        self.assertEqual(self.in_mps(text, text.replace("  R  1", "")), "R is missing, and no change has it")
+        self.assertIsNone(
+            self.in_mps(text, text.replace("  R  1", ""), (5, "trailing-text", "    X  C  9  R  1", "    X  C  9"))
+        )
+        self.assertEqual(self.in_mps(text, text.replace("9", "9  S")), "S is added, and no change has it")
+        self.assertIsNone(self.in_mps(text, text.replace("X", "Y"), names={"X": "Y"}))
+        for wrong in ("    X  C  9\n6  R  1", "    X  C  9\ne6  R  1", "    X  C  \uff12"):
+            with self.subTest(wrong):
+                split = text.replace("    X  C  9  R  1", wrong).encode().decode("latin-1")
+                self.assertIsNotNone(self.in_mps(split, split))
 
 
 class Command(unittest.TestCase):
@@ -388,7 +620,9 @@ class Command(unittest.TestCase):
         self.assertEqual((status, output, self.out.exists()), (2, b"", False))
         self.assertTrue(errors.startswith(f"{self.plan}:3: a quadratic term"))
         self.assertEqual(self.run_with("--from", "word", self.plan)[0], 3)
-        self.assertEqual(self.run_with(self.folder / "plan")[0], 4, "as in the other commands, a file that is missing comes first")
+        self.assertEqual(
+            self.run_with(self.folder / "plan")[0], 4, "as in the other commands, a file that is missing comes first"
+        )
         (self.folder / "plan").write_bytes(PLAN)
         self.assertEqual(self.run_with(self.folder / "plan")[0], 3)
         self.assertEqual(self.run_with(self.folder / "missing.lp")[0], 4)
@@ -413,13 +647,17 @@ class Command(unittest.TestCase):
         path.write_text(text)
         program = f"import sys; from mpslp import _adapt; sys.exit(_adapt.command([{str(path)!r}]))"
         environment = {**os.environ, "PYTHONUNBUFFERED": "1"}
-        with subprocess.Popen([sys.executable, "-c", program], env=environment, stdout=subprocess.PIPE, stderr=subprocess.DEVNULL) as run:
+        with subprocess.Popen(
+            [sys.executable, "-c", program], env=environment, stdout=subprocess.PIPE, stderr=subprocess.DEVNULL
+        ) as run:
             first = run.stdout.read(10)
             rest = run.stdout.read()
         self.assertEqual((run.returncode, len(first + rest)), (1, len(text)))
         if os.path.exists("/dev/full"):
             with open("/dev/full", "wb") as full:
-                done = subprocess.run([sys.executable, "-c", program], env=environment, stdout=full, stderr=subprocess.PIPE)
+                done = subprocess.run(
+                    [sys.executable, "-c", program], env=environment, stdout=full, stderr=subprocess.PIPE
+                )
             self.assertEqual(done.returncode, 4)
 
     def test_standard_input(self):

@@ -53,7 +53,9 @@ FOR_ADAPT = {
     "constants of the objective": ("mps", lambda size: mps("RHS", *[" RHS COST 1"] * (size // 12))),
     "lines without a set": (
         "mps",
-        lambda size: mps("RHS", " RHS LIM 1", "BOUNDS", " UP BND X 1", *each(size // 28, "RHS\n LIM {}\nBOUNDS\n UP X {}")),
+        lambda size: mps(
+            "RHS", " RHS LIM 1", "BOUNDS", " UP BND X 1", *each(size // 28, "RHS\n LIM {}\nBOUNDS\n UP X {}")
+        ),
     ),
     "empty lines": ("lp", lambda size: f"//{LINE_END * size}{lp()}"),
     "spaces after a relation": ("lp", lambda size: f"{LP_HEAD} x <{' ' * size}1\nend\n"),
@@ -72,8 +74,8 @@ def seconds_of_adapt(text, format, dialect):
 
 
 class CraftedForAdapt(unittest.TestCase):
-    # Ten times the size takes some ten times as long, and a hundred times in quadratic time. Processors that are shared are half as fast
-    # at times.
+    # Ten times the size takes some ten times as long, and a hundred times in quadratic time. Processors that are shared
+    # are half as fast at times.
     SIZE = 5_000
     MOST_GROWTH = 30
     SECONDS_OF_NOISE = 0.1

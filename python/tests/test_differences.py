@@ -11,13 +11,11 @@ from itertools import combinations
 import mpslp
 from drawn_models import INFINITY, drawn, made
 from mpslp import ColumnDifference, ColumnOnly, EntryDifference, ModelDifference, RowDifference, RowOnly
-from mpslp._numbers import number_text
+from mpslp._models._numbers import number_text
 from repository import EXAMPLES, VECTORS, model_files
 from test_load import entries
 
-import independent_reader  # from tests/ of the repository
-import models
-import spellings
+from shared import independent_reader, models, spellings
 
 RUNS = 40
 NEW = "brand-new"
@@ -32,6 +30,7 @@ def with_column(model, column):
 
 
 # Each makes models that differ from a model in one place, with the one difference that is expected.
+
 
 def other_sense(model, source):
     sense = "minimize" if model.sense == "maximize" else "maximize"
@@ -54,7 +53,10 @@ def another_row(model, source):
 
 def missing_row(model, source):
     for name in one_of(source, model.rows):
-        columns = [replace(each, entries={row: value for row, value in each.entries.items() if row != name}) for each in model.columns.values()]
+        columns = [
+            replace(each, entries={row: value for row, value in each.entries.items() if row != name})
+            for each in model.columns.values()
+        ]
         rows = [row for row in model.rows.values() if row.name != name]
         yield replace(model, rows=rows, columns=columns), [RowOnly("first", model.rows[name])]
 
@@ -67,7 +69,9 @@ def other_limits(model, source):
             if row.upper.is_finite():
                 yield with_row(model, replace(row, upper=INFINITY)), [RowDifference(name, "upper", row.upper, INFINITY)]
             if row.upper != row.lower:
-                yield with_row(model, replace(row, upper=row.lower)), [RowDifference(name, "upper", row.upper, row.lower)]
+                yield with_row(model, replace(row, upper=row.lower)), [
+                    RowDifference(name, "upper", row.upper, row.lower)
+                ]
 
 
 def another_column(model, source):
@@ -94,9 +98,13 @@ def other_bounds(model, source):
         column = model.columns[name]
         if column.kind != "semi-continuous":
             if column.lower.is_finite():
-                yield with_column(model, replace(column, lower=-INFINITY)), [ColumnDifference(name, "lower", column.lower, -INFINITY)]
+                yield with_column(model, replace(column, lower=-INFINITY)), [
+                    ColumnDifference(name, "lower", column.lower, -INFINITY)
+                ]
             if column.upper.is_finite():
-                yield with_column(model, replace(column, upper=INFINITY)), [ColumnDifference(name, "upper", column.upper, INFINITY)]
+                yield with_column(model, replace(column, upper=INFINITY)), [
+                    ColumnDifference(name, "upper", column.upper, INFINITY)
+                ]
 
 
 def other_cost(model, source):
@@ -113,19 +121,39 @@ def other_entry(model, source):
             value = column.entries.get(row, Decimal(0))
             for changed in (other_number(value), Decimal(0)):
                 if changed != value:
-                    yield with_column(model, replace(column, entries={**column.entries, row: changed})), [EntryDifference(row, name, value, changed)]
+                    yield with_column(model, replace(column, entries={**column.entries, row: changed})), [
+                        EntryDifference(row, name, value, changed)
+                    ]
 
 
 def renamed_row(model, source):
     for name in one_of(source, model.rows):
         rows = [replace(row, name=NEW) if row.name == name else row for row in model.rows.values()]
-        columns = [replace(each, entries={NEW if row == name else row: value for row, value in each.entries.items()}) for each in model.columns.values()]
+        columns = [
+            replace(each, entries={NEW if row == name else row: value for row, value in each.entries.items()})
+            for each in model.columns.values()
+        ]
         changed = replace(model, rows=rows, columns=columns)
-        yield changed, sorted([RowOnly("first", model.rows[name]), RowOnly("second", changed.rows[NEW])], key=lambda each: each.row.name)
+        yield changed, sorted(
+            [RowOnly("first", model.rows[name]), RowOnly("second", changed.rows[NEW])], key=lambda each: each.row.name
+        )
 
 
-PLACES = (other_sense, other_objective, other_constant, another_row, missing_row, other_limits, another_column, missing_column,
-          other_kind, other_bounds, other_cost, other_entry, renamed_row)
+PLACES = (
+    other_sense,
+    other_objective,
+    other_constant,
+    another_row,
+    missing_row,
+    other_limits,
+    another_column,
+    missing_column,
+    other_kind,
+    other_bounds,
+    other_cost,
+    other_entry,
+    renamed_row,
+)
 
 
 def other_number(number):
@@ -144,7 +172,9 @@ class Found(unittest.TestCase):
             for place in PLACES:
                 for changed, wanted in place(model, source):
                     counts[place] += 1
-                    with self.subTest(place.__name__, first=mpslp.dumps(model, "mps"), second=mpslp.dumps(changed, "mps")):
+                    with self.subTest(
+                        place.__name__, first=mpslp.dumps(model, "mps"), second=mpslp.dumps(changed, "mps")
+                    ):
                         differences = mpslp.diff(model, changed)
                         self.assertEqual(list(differences), wanted)
                         self.assertEqual(str(differences), "\n".join(map(str, wanted)))
@@ -156,7 +186,9 @@ class Found(unittest.TestCase):
     def test_the_same_models(self):
         for path in model_files(EXAMPLES) + [VECTORS / entry.input for entry in entries() if entry.answer == "model"]:
             differences = mpslp.diff(path, mpslp.canonical(path, to_format="mps"), second_format="mps")
-            self.assertEqual((list(differences), str(differences), bool(differences), differences.verdict), ([], "", False, "same"))
+            self.assertEqual(
+                (list(differences), str(differences), bool(differences), differences.verdict), ([], "", False, "same")
+            )
 
     def test_pairs_of_files(self):
         found = {path: mpslp.load(path) for path in model_files(EXAMPLES)}
@@ -167,11 +199,22 @@ class Found(unittest.TestCase):
     def test_several_in_order(self):
         first = b"min c: x + 2 y + 1\nst\na: x + y <= 4\nb: x >= 1\nbounds\ny <= 9\nend\n"
         second = b"max d: x + 2.5 y\nst\na: 2 x + y <= 5\nz: w = 1\nbounds\n1 <= y <= 9\ngenerals\nx\nend\n"
-        self.assertEqual(str(mpslp.diff(first, second, "lp", "lp")).split("\n"), [
-            "sense: minimize -> maximize", "objective: c -> d", "constant: 1 -> 0", "row a: upper 4 -> 5", "- row b: 1 to inf, 1 entry",
-            "+ row z: 1 to 1, 1 entry", "+ column w: continuous, 0 to inf, cost 0, 1 entry", "column x: kind continuous -> integer",
-            "column y: lower 0 -> 1", "column y: cost 2 -> 2.5", "entry a x: 1 -> 2",
-        ])
+        self.assertEqual(
+            str(mpslp.diff(first, second, "lp", "lp")).split("\n"),
+            [
+                "sense: minimize -> maximize",
+                "objective: c -> d",
+                "constant: 1 -> 0",
+                "row a: upper 4 -> 5",
+                "- row b: 1 to inf, 1 entry",
+                "+ row z: 1 to 1, 1 entry",
+                "+ column w: continuous, 0 to inf, cost 0, 1 entry",
+                "column x: kind continuous -> integer",
+                "column y: lower 0 -> 1",
+                "column y: cost 2 -> 2.5",
+                "entry a x: 1 -> 2",
+            ],
+        )
 
     def test_differences_are_values(self):
         differences = list(mpslp.diff(EXAMPLES / "small.mps", EXAMPLES / "semi.mps"))
@@ -180,7 +223,10 @@ class Found(unittest.TestCase):
             self.assertEqual(pickle.loads(pickle.dumps(each)), each)
             with self.assertRaises(dataclasses.FrozenInstanceError):
                 each.which = "third"
-        self.assertEqual(hash(EntryDifference("r", "x", Decimal(1), Decimal(2))), hash(EntryDifference("r", "x", Decimal("1.0"), Decimal(2))))
+        self.assertEqual(
+            hash(EntryDifference("r", "x", Decimal(1), Decimal(2))),
+            hash(EntryDifference("r", "x", Decimal("1.0"), Decimal(2))),
+        )
 
     def test_a_source_that_is_rejected(self):
         good = EXAMPLES / "small.mps"
@@ -199,9 +245,18 @@ class Near(unittest.TestCase):
 
     def test_digits(self):
         for first, second, most in (
-            ("0.333333333333", "0.3333333333333333", 12), ("0.3333333333333333", "0.3333333333333334", 15), ("0.66666666666", "0.666666666667", 11),
-            ("1", "2", 0), ("9", "10", 1), ("0.9999", "1", 4), ("1e400", "1.001e400", 3), ("-1e-400", "-1.001e-400", 3), ("5", "-5", 0), ("1e-300", "0", 0),
-            ("123456789012345678901234567890123456", "123456789012345678901234567890123457", 35), ("7", "7", 36),
+            ("0.333333333333", "0.3333333333333333", 12),
+            ("0.3333333333333333", "0.3333333333333334", 15),
+            ("0.66666666666", "0.666666666667", 11),
+            ("1", "2", 0),
+            ("9", "10", 1),
+            ("0.9999", "1", 4),
+            ("1e400", "1.001e400", 3),
+            ("-1e-400", "-1.001e-400", 3),
+            ("5", "-5", 0),
+            ("1e-300", "0", 0),
+            ("123456789012345678901234567890123456", "123456789012345678901234567890123457", 35),
+            ("7", "7", 36),
         ):
             for digits in range(1, 37):
                 with self.subTest(first, second=second, digits=digits):
@@ -235,25 +290,38 @@ class Names(unittest.TestCase):
             self.assertEqual(mpslp.diff(model, other, ignore_objective_name=True).verdict, "close")
             self.assertEqual(mpslp.diff(model, model, ignore_objective_name=True).verdict, "same")
             changed = replace(other, constant=other_number(model.constant))
-            self.assertEqual([each.what for each in mpslp.diff(model, changed, ignore_objective_name=True)], ["constant"])
+            self.assertEqual(
+                [each.what for each in mpslp.diff(model, changed, ignore_objective_name=True)], ["constant"]
+            )
 
     def test_positions_are_those_of_the_texts(self):
         """Against the order in which another reader has the declarations."""
-        from mpslp._positions import names_by_position
-        from mpslp._sources import read
+        from mpslp._files._sources import read
+        from mpslp._models._positions import names_by_position
 
         source = random.Random(22)
         texts = [(path.read_bytes(), path.suffix[1:]) for path in model_files(EXAMPLES)]
-        texts += [((VECTORS / each.input).read_bytes(), each.input.rsplit(".")[-1]) for each in entries() if each.answer == "model"]
+        texts += [
+            ((VECTORS / each.input).read_bytes(), each.input.rsplit(".")[-1])
+            for each in entries()
+            if each.answer == "model"
+        ]
         for _ in range(4 * RUNS):
             each = models.drawn_model(source)
             texts.append((spellings.mps_text(source, each), "mps"))
             if not models.canonical_lp(each).endswith("NotLp\n"):
                 texts.append((spellings.lp_text(source, each), "lp"))
-        texts += [(text, "lp") for text in (
-            b"min x\nsubject to y + to >= 1\n c: to + z <= 1 end\n", b"max x\nSuch\nThat\n y + That + that >= 1\nend\n",
-            b"min x st c1: x >= 1 y + x <= 2 c: z <= 2 x + to >= 1 a: y <= 9\nbounds s <= 3 continuous <= 4 semi - continuous s continuous\nend\n",
-            b"min x\nbounds y <= 3 continuous <= 4 semi-continuous continuous y\nend\nto: x : 3\n", b"min 3e5x + 2 x1 \\ a + b\n st 4c>=1\nend\n")]
+        texts += [
+            (text, "lp")
+            for text in (
+                b"min x\nsubject to y + to >= 1\n c: to + z <= 1 end\n",
+                b"max x\nSuch\nThat\n y + That + that >= 1\nend\n",
+                b"min x st c1: x >= 1 y + x <= 2 c: z <= 2 x + to >= 1 a: y <= 9\n"
+                b"bounds s <= 3 continuous <= 4 semi - continuous s continuous\nend\n",
+                b"min x\nbounds y <= 3 continuous <= 4 semi-continuous continuous y\nend\nto: x : 3\n",
+                b"min 3e5x + 2 x1 \\ a + b\n st 4c>=1\nend\n",
+            )
+        ]
         self.assertGreater(len(texts), 300)
         for text, form in texts:
             with self.subTest(text):
@@ -288,21 +356,29 @@ class Names(unittest.TestCase):
         moved = b"min x st b: x >= 1 a: 0 x >= 1\nend\n"
         self.assertEqual(mpslp.diff(first, moved, "lp", "lp", by_position=True).verdict, "close")
         other = first.replace(b"min x", b"min x + 5")
-        self.assertEqual([str(each) for each in mpslp.diff(other, second, "lp", "lp", by_position=True)],
-                         ["constant: 5 -> 0", "entry a x: 1 -> 0", "entry b x: 0 -> 1"])
+        self.assertEqual(
+            [str(each) for each in mpslp.diff(other, second, "lp", "lp", by_position=True)],
+            ["constant: 5 -> 0", "entry a x: 1 -> 0", "entry b x: 0 -> 1"],
+        )
 
     def test_more_rows_and_columns_by_position(self):
         first = mpslp.Model(rows=[mpslp.Row("a", 1)], columns=[mpslp.Column("x", entries={"a": 1})])
         rows = [mpslp.Row("p", 1), mpslp.Row("q", 2)]
-        second = mpslp.Model(rows=rows, columns=[mpslp.Column("v", entries={"p": 1, "q": 5}), mpslp.Column("w", entries={"p": 1})])
-        self.assertEqual(list(mpslp.diff(first, second, by_position=True)),
-                         [RowOnly("second", second.rows["q"]), ColumnOnly("second", second.columns["w"])])
-        self.assertEqual(list(mpslp.diff(second, first, by_position=True)),
-                         [RowOnly("first", second.rows["q"]), ColumnOnly("first", second.columns["w"])])
+        second = mpslp.Model(
+            rows=rows, columns=[mpslp.Column("v", entries={"p": 1, "q": 5}), mpslp.Column("w", entries={"p": 1})]
+        )
+        self.assertEqual(
+            list(mpslp.diff(first, second, by_position=True)),
+            [RowOnly("second", second.rows["q"]), ColumnOnly("second", second.columns["w"])],
+        )
+        self.assertEqual(
+            list(mpslp.diff(second, first, by_position=True)),
+            [RowOnly("first", second.rows["q"]), ColumnOnly("first", second.columns["w"])],
+        )
 
 
 def order_of_declarations(text, form):
-    """The names of the rows and columns in the order in which tests/independent_reader.py has them."""
+    """The names of the rows and columns in the order in which tests/shared/independent_reader.py has them."""
     if form == "mps":
         reader = independent_reader.MpsReader()
         for _, line in independent_reader.lines_of(text):
@@ -314,19 +390,28 @@ def order_of_declarations(text, form):
         reader = independent_reader.LpReader(independent_reader.lp_tokens(text)[0])
         reader.file()
         declared = reader.declared
-    return [name for name in declared.rows if name != independent_reader.read(text, form).objective], list(declared.columns)
+    return [name for name in declared.rows if name != independent_reader.read(text, form).objective], list(
+        declared.columns
+    )
 
 
 def renamed_by_position(model):
-    """A model of tests/models.py with the names that glpsol gives to what its canonical MPS text has."""
+    """A model of tests/shared/models.py with the names that glpsol gives to what its canonical MPS text has."""
     rows = {name: f"R{number:07}" for number, name in enumerate(sorted(model.rows))}
     plain = [name for name in sorted(model.columns) if model.columns[name].kind != "integer"]
     columns = plain + [name for name in sorted(model.columns) if name not in plain]
     renamed = {**rows, model.objective: "R-objective"}
     return models.Model(
-        model.maximise, "R-objective", model.constant, {rows[name]: row for name, row in model.rows.items()},
-        {f"C{number:07}": models.Column(column.kind, column.lower, column.upper, {renamed[row]: value for row, value in column.values.items()})
-         for number, column in enumerate(model.columns[name] for name in columns)},
+        model.maximise,
+        "R-objective",
+        model.constant,
+        {rows[name]: row for name, row in model.rows.items()},
+        {
+            f"C{number:07}": models.Column(
+                column.kind, column.lower, column.upper, {renamed[row]: value for row, value in column.values.items()}
+            )
+            for number, column in enumerate(model.columns[name] for name in columns)
+        },
     )
 
 
@@ -339,18 +424,25 @@ class Asserted(unittest.TestCase):
         other = mpslp.canonical(EXAMPLES / "small.mps").replace(b"1.5", b"1.25")
         with self.assertRaises(AssertionError) as caught:
             mpslp.assert_same_model(EXAMPLES / "small.mps", other, second_format="mps")
-        self.assertEqual(str(caught.exception), f"{EXAMPLES / 'small.mps'} and the second are not the same model:\n  entry MYG Y: 1.5 -> 1.25")
+        self.assertEqual(
+            str(caught.exception),
+            f"{EXAMPLES / 'small.mps'} and the second are not the same model:\n  entry MYG Y: 1.5 -> 1.25",
+        )
 
     def test_what_does_not_count(self):
         other = mpslp.canonical(EXAMPLES / "small.mps").replace(b"COST", b"R0000000").replace(b"1.5", b"1.5000000001")
         for options in ({}, {"digits": 9}, {"ignore_objective_name": True}, {"digits": 11, "by_position": True}):
             with self.subTest(options), self.assertRaises(AssertionError):
                 mpslp.assert_same_model(EXAMPLES / "small.mps", other, second_format="mps", **options)
-        mpslp.assert_same_model(EXAMPLES / "small.mps", other, second_format="mps", digits=9, ignore_objective_name=True)
+        mpslp.assert_same_model(
+            EXAMPLES / "small.mps", other, second_format="mps", digits=9, ignore_objective_name=True
+        )
         mpslp.assert_same_model(EXAMPLES / "small.mps", other, second_format="mps", digits=9, by_position=True)
 
     def test_a_long_message_is_cut(self):
-        first, second = (mpslp.Model(columns=[mpslp.Column(f"x{number}", cost=cost) for number in range(500)]) for cost in (1, 2))
+        first, second = (
+            mpslp.Model(columns=[mpslp.Column(f"x{number}", cost=cost) for number in range(500)]) for cost in (1, 2)
+        )
         with self.assertRaises(AssertionError) as caught:
             mpslp.assert_same_model(first, second)
         lines = str(caught.exception).split("\n")
@@ -367,10 +459,17 @@ class NumberText(unittest.TestCase):
         for _ in range(2000):
             number = models.drawn_number(source)
             for zeros in (0, 3):
-                decimal = Decimal(number.mantissa * 10**zeros).scaleb(number.exponent - zeros) if abs(number.mantissa) < 10**24 else None
+                decimal = (
+                    Decimal(number.mantissa * 10**zeros).scaleb(number.exponent - zeros)
+                    if abs(number.mantissa) < 10**24
+                    else None
+                )
                 if decimal is not None:
                     self.assertEqual(number_text(decimal), number.text())
-        self.assertEqual([number_text(each) for each in (INFINITY, -INFINITY, Decimal("-0.0"), Decimal("0e9"))], ["inf", "-inf", "0", "0"])
+        self.assertEqual(
+            [number_text(each) for each in (INFINITY, -INFINITY, Decimal("-0.0"), Decimal("0e9"))],
+            ["inf", "-inf", "0", "0"],
+        )
 
 
 if __name__ == "__main__":

@@ -13,7 +13,7 @@ from drawn_models import INFINITY, made
 from repository import EXAMPLES, VECTORS, model_files
 from test_load import entries, sample
 
-import models  # from tests/ of the repository
+from shared import models
 
 NOT_LP = mpslp.Model(columns=[mpslp.Column("x"), mpslp.Column("x[1]")])
 
@@ -30,7 +30,9 @@ def made_again(model):
     """The model made of its own parts, in another order."""
     rows = [mpslp.Row(row.name, row.lower, row.upper) for row in model.rows.values()]
     columns = [
-        mpslp.Column(column.name, column.kind, column.lower, column.upper, column.cost, dict(reversed(column.entries.items())))
+        mpslp.Column(
+            column.name, column.kind, column.lower, column.upper, column.cost, dict(reversed(column.entries.items()))
+        )
         for column in model.columns.values()
     ]
     return mpslp.Model(model.sense, model.objective, model.constant, reversed(rows), reversed(columns))
@@ -42,7 +44,9 @@ class Texts(unittest.TestCase):
             model = mpslp.load(path)
             again = made_again(model)
             self.assertEqual(again, model)
-            self.assertEqual(mpslp.Model(model.sense, model.objective, model.constant, model.rows, model.columns), model)
+            self.assertEqual(
+                mpslp.Model(model.sense, model.objective, model.constant, model.rows, model.columns), model
+            )
             for format in ("mps", "lp"):
                 with self.subTest(path.name, format=format):
                     wanted = answer(mpslp.canonical, path, to_format=format)
@@ -95,7 +99,12 @@ class Files(unittest.TestCase):
 
     def test_files(self):
         model = sample()
-        for name, format, wanted in (("a.mps", None, "mps"), ("a.LP", None, "lp"), ("a.mps", "lp", "lp"), ("a", "mps", "mps")):
+        for name, format, wanted in (
+            ("a.mps", None, "mps"),
+            ("a.LP", None, "lp"),
+            ("a.mps", "lp", "lp"),
+            ("a", "mps", "mps"),
+        ):
             for path in (self.folder / name, str(self.folder / name)):
                 path = Path(path)
                 path.write_bytes(b"a longer text that is there" * 100)
@@ -129,14 +138,34 @@ class Made(unittest.TestCase):
         self.assertEqual(mpslp.dumps(model, "lp"), b"Minimize\n obj:\n  + 0 x\nSubject To\nEnd\n")
         row, column = mpslp.Row("r"), mpslp.Column("x")
         self.assertEqual((row.lower, row.upper, row.entries), (-INFINITY, INFINITY, {}))
-        self.assertEqual((column.kind, column.lower, column.upper, column.cost, column.entries), ("continuous", 0, INFINITY, 0, {}))
+        self.assertEqual(
+            (column.kind, column.lower, column.upper, column.cost, column.entries), ("continuous", 0, INFINITY, 0, {})
+        )
 
     def test_numbers_of_python(self):
         for number, printed in (
-            (3, "3"), (-20, "-20"), (10**20, "1" + 20 * "0"), (10**21, "1E+21"), (0, "0"), (0.1, "0.1"), (-0.0, "0"), (1e22, "1E+22"),
-            (5e-324, "5E-324"), (1.5, "1.5"), (2.0, "2"), (1 / 3, "0.3333333333333333"), (Decimal("1.50"), "1.5"), (Decimal("-0.00"), "0"),
-            (Decimal("1e500"), "1E+500"), (Fraction(7, 2), "3.5"), (Fraction(-1, 8), "-0.125"), (Fraction(1, 10**500), "1E-500"),
-            (Fraction(3), "3"), (int("9" * 36), "9" * 36), (Decimal("123000"), "123000"), (Decimal("0E+7"), "0"),
+            (3, "3"),
+            (-20, "-20"),
+            (10**20, "1" + 20 * "0"),
+            (10**21, "1E+21"),
+            (0, "0"),
+            (0.1, "0.1"),
+            (-0.0, "0"),
+            (1e22, "1E+22"),
+            (5e-324, "5E-324"),
+            (1.5, "1.5"),
+            (2.0, "2"),
+            (1 / 3, "0.3333333333333333"),
+            (Decimal("1.50"), "1.5"),
+            (Decimal("-0.00"), "0"),
+            (Decimal("1e500"), "1E+500"),
+            (Fraction(7, 2), "3.5"),
+            (Fraction(-1, 8), "-0.125"),
+            (Fraction(1, 10**500), "1E-500"),
+            (Fraction(3), "3"),
+            (int("9" * 36), "9" * 36),
+            (Decimal("123000"), "123000"),
+            (Decimal("0E+7"), "0"),
         ):
             with self.subTest(number):
                 column = mpslp.Column("x", cost=number, entries={"r": number})
@@ -151,12 +180,22 @@ class Made(unittest.TestCase):
             import numpy
         except ImportError:
             self.skipTest("there is no numpy")
-        for number, wanted in ((numpy.float64(0.1), "0.1"), (numpy.int32(7), "7"), (numpy.int64(-7), "-7"), (numpy.float32(0.5), "0.5")):
+        for number, wanted in (
+            (numpy.float64(0.1), "0.1"),
+            (numpy.int32(7), "7"),
+            (numpy.int64(-7), "-7"),
+            (numpy.float32(0.5), "0.5"),
+        ):
             self.assertEqual(str(mpslp.Column("x", cost=number).cost), wanted)
 
     def test_infinite_limits(self):
         infinity = float("inf")
-        for low, high in ((-infinity, infinity), (-1e20, 1e20), (-10**30, 10**30), (Decimal("-Infinity"), Decimal("1e20"))):
+        for low, high in (
+            (-infinity, infinity),
+            (-1e20, 1e20),
+            (-(10**30), 10**30),
+            (Decimal("-Infinity"), Decimal("1e20")),
+        ):
             self.assertEqual(mpslp.Row("r", low, high), mpslp.Row("r"))
             column = mpslp.Column("x", "continuous", low, high)
             self.assertEqual((column.lower, column.upper), (-INFINITY, INFINITY))
@@ -169,10 +208,18 @@ class Made(unittest.TestCase):
             model,
             sense="minimize",
             rows={**model.rows, "both": dataclasses.replace(model.rows["both"], upper=7.5)},
-            columns={**model.columns, "x": dataclasses.replace(model.columns["x"], kind="integer", entries={"both": 2})},
+            columns={
+                **model.columns,
+                "x": dataclasses.replace(model.columns["x"], kind="integer", entries={"both": 2}),
+            },
         )
-        self.assertEqual((changed.sense, changed.rows["both"].lower, changed.rows["both"].upper), ("minimize", -4, Decimal("7.5")))
-        self.assertEqual((changed.columns["x"].kind, changed.columns["x"].entries, changed.columns["x"].cost), ("integer", {"both": 2}, Decimal("3.5")))
+        self.assertEqual(
+            (changed.sense, changed.rows["both"].lower, changed.rows["both"].upper), ("minimize", -4, Decimal("7.5"))
+        )
+        self.assertEqual(
+            (changed.columns["x"].kind, changed.columns["x"].entries, changed.columns["x"].cost),
+            ("integer", {"both": 2}, Decimal("3.5")),
+        )
         self.assertEqual(changed.rows["both"].entries, {"x": 2, "y": 1})
         self.assertEqual((changed.columns["y"], changed.objective, changed.constant), (model.columns["y"], "profit", 7))
         self.assertNotEqual(changed, model)
@@ -189,7 +236,9 @@ class Unsound(unittest.TestCase):
     def test_names(self):
         for name in ("", "a b", "x" * 256, "é", "\t", "a\n", "\x7f", "'MARKER'"):
             for call in (
-                lambda: mpslp.Row(name), lambda: mpslp.Column(name), lambda: mpslp.Model(objective=name, columns=[mpslp.Column("x")]),
+                lambda: mpslp.Row(name),
+                lambda: mpslp.Column(name),
+                lambda: mpslp.Model(objective=name, columns=[mpslp.Column("x")]),
                 lambda: mpslp.Column("x", entries={name: 1}),
             ):
                 with self.subTest(name), self.assertRaisesRegex(ValueError, " name .* is not legal: "):
@@ -202,40 +251,64 @@ class Unsound(unittest.TestCase):
 
     def test_numbers(self):
         for number, words in (
-            (float("nan"), "is not a number"), (Decimal("NaN"), "is not a number"), (Fraction(1, 3), "not a finite decimal"), (int("1" * 37), "more than 36 digits"),
-            (Decimal("1e501"), "exponent beyond 500"), (Decimal("1e-501"), "exponent beyond 500"), (Fraction(1, 2**200), "more than 36 digits"),
+            (float("nan"), "is not a number"),
+            (Decimal("NaN"), "is not a number"),
+            (Fraction(1, 3), "not a finite decimal"),
+            (int("1" * 37), "more than 36 digits"),
+            (Decimal("1e501"), "exponent beyond 500"),
+            (Decimal("1e-501"), "exponent beyond 500"),
+            (Fraction(1, 2**200), "more than 36 digits"),
         ):
-            for call in (lambda: mpslp.Column("x", cost=number), lambda: mpslp.Column("x", entries={"r": number}),
-                         lambda: mpslp.Model(constant=number, columns=[mpslp.Column("x")])):
+            for call in (
+                lambda: mpslp.Column("x", cost=number),
+                lambda: mpslp.Column("x", entries={"r": number}),
+                lambda: mpslp.Model(constant=number, columns=[mpslp.Column("x")]),
+            ):
                 with self.subTest(number), self.assertRaisesRegex(ValueError, words):
                     call()
         for number in (float("inf"), Decimal("-Infinity")):
-            for call in (lambda: mpslp.Column("x", cost=number), lambda: mpslp.Column("x", entries={"r": number}),
-                         lambda: mpslp.Model(constant=number, columns=[mpslp.Column("x")])):
+            for call in (
+                lambda: mpslp.Column("x", cost=number),
+                lambda: mpslp.Column("x", entries={"r": number}),
+                lambda: mpslp.Model(constant=number, columns=[mpslp.Column("x")]),
+            ):
                 with self.subTest(number), self.assertRaisesRegex(ValueError, "is not finite"):
                     call()
         for number in ("3", None, True, 1j, b"1", [1]):
-            for call in (lambda: mpslp.Column("x", cost=number), lambda: mpslp.Row("r", number), lambda: mpslp.Row("r", upper=number)):
+            for call in (
+                lambda: mpslp.Column("x", cost=number),
+                lambda: mpslp.Row("r", number),
+                lambda: mpslp.Row("r", upper=number),
+            ):
                 with self.subTest(number), self.assertRaises(TypeError):
                     call()
 
     def test_limits_and_bounds(self):
         for lower, upper, words in (
-            (2, 1, "row 'r': lower 2 is above upper 1"), (float("inf"), float("inf"), "lower is plus infinity"),
-            (-1e30, -1e20, "upper is minus infinity"), (Decimal("1e-40"), 1, "row 'r': upper minus lower: .* more than 36 digits"),
+            (2, 1, "row 'r': lower 2 is above upper 1"),
+            (float("inf"), float("inf"), "lower is plus infinity"),
+            (-1e30, -1e20, "upper is minus infinity"),
+            (Decimal("1e-40"), 1, "row 'r': upper minus lower: .* more than 36 digits"),
             (-6 * 10**19, 6 * 10**19, "upper minus lower has size"),
         ):
             with self.subTest(lower), self.assertRaisesRegex(ValueError, words):
                 mpslp.Row("r", lower, upper)
         for kind, lower, upper, words in (
-            ("continuous", 2, 1, "column 'x': lower 2 is above upper 1"), ("integer", 0, -1, "above upper"), ("continuous", 1e20, 1e30, "plus infinity"),
-            ("continuous", -1e20, -1e20, "minus infinity"), ("semi-continuous", 0, 1e20, "is semi-continuous"),
-            ("semi-continuous", -1, 1, "is semi-continuous"), ("semi-continuous", 0, 0, "is semi-continuous"),
+            ("continuous", 2, 1, "column 'x': lower 2 is above upper 1"),
+            ("integer", 0, -1, "above upper"),
+            ("continuous", 1e20, 1e30, "plus infinity"),
+            ("continuous", -1e20, -1e20, "minus infinity"),
+            ("semi-continuous", 0, 1e20, "is semi-continuous"),
+            ("semi-continuous", -1, 1, "is semi-continuous"),
+            ("semi-continuous", 0, 0, "is semi-continuous"),
         ):
             with self.subTest(kind, lower=lower), self.assertRaisesRegex(ValueError, words):
                 mpslp.Column("x", kind, lower, upper)
         # A column's bounds may have any distance.
-        for column in (mpslp.Column("x", "continuous", Decimal("1e-40"), 1), mpslp.Column("x", "integer", -6 * 10**19, 6 * 10**19)):
+        for column in (
+            mpslp.Column("x", "continuous", Decimal("1e-40"), 1),
+            mpslp.Column("x", "integer", -6 * 10**19, 6 * 10**19),
+        ):
             self.assertEqual(mpslp.Model(columns=[column]).columns["x"], column)
 
     def test_words(self):
@@ -252,8 +325,16 @@ class Unsound(unittest.TestCase):
             ({"columns": [x, x], "rows": [r]}, ValueError, "column 'x' is there twice"),
             ({"columns": [x], "rows": [r, r]}, ValueError, "row 'r' is there twice"),
             ({"columns": [x], "rows": [r], "objective": "r"}, ValueError, "row 'r' has the name of the objective"),
-            ({"columns": {"y": x}, "rows": [r]}, ValueError, "the key 'y' has the column 'x': the key of a column is its name"),
-            ({"columns": [x], "rows": {"s": r}}, ValueError, "the key 's' has the row 'r': the key of a row is its name"),
+            (
+                {"columns": {"y": x}, "rows": [r]},
+                ValueError,
+                "the key 'y' has the column 'x': the key of a column is its name",
+            ),
+            (
+                {"columns": [x], "rows": {"s": r}},
+                ValueError,
+                "the key 's' has the row 'r': the key of a row is its name",
+            ),
             ({"columns": [r]}, TypeError, "a column is a mpslp.Column, not Row"),
             ({"columns": [x], "rows": ["r"]}, TypeError, "a row is a mpslp.Row, not str"),
         ):

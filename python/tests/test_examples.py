@@ -1,4 +1,4 @@
-"""The files of examples/, with the canonical texts that stand beside them."""
+"""The files of examples/, with the canonical texts that are beside them."""
 
 import unittest
 

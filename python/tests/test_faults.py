@@ -42,13 +42,26 @@ class Faults(unittest.TestCase):
 
     def test_names_that_lp_cannot_express(self):
         to_lp = {"from_format": "mps", "to_format": "lp"}
-        self.reports(fault(mpslp.canonical, MPS % (b"x[1]", b""), **to_lp), "column 0: NotLp", kind="NotLp", place="column", number=0, name="x[1]")
+        self.reports(
+            fault(mpslp.canonical, MPS % (b"x[1]", b""), **to_lp),
+            "column 0: NotLp",
+            kind="NotLp",
+            place="column",
+            number=0,
+            name="x[1]",
+        )
         rows = b"ROWS\n N  cost\n L  b[2]\n L  a\nCOLUMNS\n    x  cost  1\nENDATA\n"
-        self.reports(fault(mpslp.canonical, rows, **to_lp), "row 1: NotLp", kind="NotLp", place="row", number=1, name="b[2]")
+        self.reports(
+            fault(mpslp.canonical, rows, **to_lp), "row 1: NotLp", kind="NotLp", place="row", number=1, name="b[2]"
+        )
         objective = b"ROWS\n N  free\nCOLUMNS\n    x  free  1\nENDATA\n"
-        self.reports(fault(mpslp.canonical, objective, **to_lp), "objective: NotLp", kind="NotLp", place="objective", name="free")
+        self.reports(
+            fault(mpslp.canonical, objective, **to_lp), "objective: NotLp", kind="NotLp", place="objective", name="free"
+        )
         model = mpslp.load(MPS % (b"x[1]", b""), "mps")
-        self.reports(fault(mpslp.dumps, model, "lp"), "column 0: NotLp", kind="NotLp", place="column", number=0, name="x[1]")
+        self.reports(
+            fault(mpslp.dumps, model, "lp"), "column 0: NotLp", kind="NotLp", place="column", number=0, name="x[1]"
+        )
 
     def test_which_text(self):
         first = fault(mpslp.same, b"min x y\nend\n", b"", "lp", "lp")

@@ -7,14 +7,13 @@ import unittest
 from decimal import Decimal
 from unittest import mock
 
+import format_check
 import mpslp
 from mpslp._format import _call
 from mpslp._format._numbers import plain
-from mpslp._numbers import number_text
+from mpslp._models._numbers import number_text
 from repository import EXAMPLES, VECTORS
 from test_tools import BROKEN, Directory
-
-import format_check  # from tests/ of the repository
 
 MPS = b"""\
 * a plan
@@ -114,8 +113,18 @@ class Mps(unittest.TestCase):
         self.formats(MPS, FORMATTED_MPS)
 
     def test_numbers(self):
-        for literal, wanted in (("1.50", "1.5"), ("+2.", "2"), (".5", "0.5"), ("1E3", "1000"), ("1000000", "1e6"), ("-0.0", "0"), ("0e" + "9" * 200, "0"),
-                                ("1e-19", "1e-19"), ("-1.5e-3", "-0.0015"), ("123456789012345678901234567890123456", "123456789012345678901234567890123456")):
+        for literal, wanted in (
+            ("1.50", "1.5"),
+            ("+2.", "2"),
+            (".5", "0.5"),
+            ("1E3", "1000"),
+            ("1000000", "1e6"),
+            ("-0.0", "0"),
+            ("0e" + "9" * 200, "0"),
+            ("1e-19", "1e-19"),
+            ("-1.5e-3", "-0.0015"),
+            ("123456789012345678901234567890123456", "123456789012345678901234567890123456"),
+        ):
             with self.subTest(literal=literal):
                 text = mpslp.formatted(b"ROWS\n N  c\nCOLUMNS\n x c %s\nENDATA\n" % literal.encode(), "mps")
                 self.assertEqual(text, f"ROWS\n N  c\nCOLUMNS\n    x         c         {wanted}\nENDATA\n")
@@ -125,26 +134,43 @@ class Mps(unittest.TestCase):
         for _ in range(20000):
             digits = "".join(source.choice("0001259") for _ in range(source.randint(1, 24)))
             place = source.randint(0, len(digits))
-            literal = source.choice(("", "-", "+")) + source.choice((digits, f"{digits[:place]}.{digits[place:]}")) + source.choice(("", "", "e3", "E-20"))
+            literal = (
+                source.choice(("", "-", "+"))
+                + source.choice((digits, f"{digits[:place]}.{digits[place:]}"))
+                + source.choice(("", "", "e3", "E-20"))
+            )
             self.assertEqual(plain(literal), number_text(Decimal(literal)), literal)
 
     def test_names_that_look_like_numbers_stay(self):
-        self.formats(b"ROWS\n N 1.0\n L 2.50\nCOLUMNS\n 3.0 1.0 4.0 2.50 5.0\nRHS\n 1.00 2.50 6.0\nBOUNDS\n UP 7.0 3.0 8.0\n MI 7.0 3.0 9.0\nENDATA\n",
-                     b"ROWS\n N  1.0\n L  2.50\nCOLUMNS\n    3.0       1.0       4         2.50      5\nRHS\n    1.00      2.50      6\n"
-                     b"BOUNDS\n UP  7.0       3.0       8\n MI  7.0       3.0       9.0\nENDATA\n")
+        self.formats(
+            b"ROWS\n N 1.0\n L 2.50\nCOLUMNS\n 3.0 1.0 4.0 2.50 5.0\nRHS\n 1.00 2.50 6.0\nBOUNDS\n"
+            b" UP 7.0 3.0 8.0\n MI 7.0 3.0 9.0\nENDATA\n",
+            b"ROWS\n N  1.0\n L  2.50\nCOLUMNS\n    3.0       1.0       4         2.50      5\nRHS\n"
+            b"    1.00      2.50      6\n"
+            b"BOUNDS\n UP  7.0       3.0       8\n MI  7.0       3.0       9.0\nENDATA\n",
+        )
 
     def test_sense_and_objective_stay_where_they_are(self):
         for head in (b"OBJSENSE  MAX\nOBJNAME\n    c\n", b"OBJNAME  c\nOBJSENSE\n    MIN\n"):
-            self.formats(head.replace(b"    ", b"\t").replace(b"  ", b" ") + b"ROWS\n N  c\nCOLUMNS\n x c 1\nENDATA", head + b"ROWS\n N  c\nCOLUMNS\n    x         c         1\nENDATA\n")
+            self.formats(
+                head.replace(b"    ", b"\t").replace(b"  ", b" ") + b"ROWS\n N  c\nCOLUMNS\n x c 1\nENDATA",
+                head + b"ROWS\n N  c\nCOLUMNS\n    x         c         1\nENDATA\n",
+            )
 
     def test_a_field_that_is_wider_than_others_can_be(self):
         name = b"n" * 60
-        self.formats(b"ROWS\n N c\nCOLUMNS\n x c 1\n %s c 1\nENDATA\n" % name,
-                     b"ROWS\n N  c\nCOLUMNS\n    x         c         1\n    %s  c         1\nENDATA\n" % name)
+        self.formats(
+            b"ROWS\n N c\nCOLUMNS\n x c 1\n %s c 1\nENDATA\n" % name,
+            b"ROWS\n N  c\nCOLUMNS\n    x         c         1\n    %s  c         1\nENDATA\n" % name,
+        )
 
     def test_comments_and_empty_lines(self):
-        self.formats(b"\n\n*  one \t\r\r\n\r\n \t\n*\x80\xff\nROWS\n*two\n N c\nCOLUMNS\n x c 1\n*\nENDATA\n* x",
-                     b"*  one \t\n\n*\x80\xff\nROWS\n*two\n N  c\nCOLUMNS\n    x         c         1\n*\nENDATA\n* x".replace(b"*  one", b"\n*  one"))
+        self.formats(
+            b"\n\n*  one \t\r\r\n\r\n \t\n*\x80\xff\nROWS\n*two\n N c\nCOLUMNS\n x c 1\n*\nENDATA\n* x",
+            b"*  one \t\n\n*\x80\xff\nROWS\n*two\n N  c\nCOLUMNS\n    x         c         1\n*\nENDATA\n* x".replace(
+                b"*  one", b"\n*  one"
+            ),
+        )
 
 
 class Lp(unittest.TestCase):
@@ -159,7 +185,13 @@ class Lp(unittest.TestCase):
     def test_keywords_keep_their_words(self):
         for word in ("min", "minimum", "MAX", "maximize"):
             self.formats(f"{word} x end", f"{word.capitalize()}\n x\n\nEnd\n")
-        for word, wanted in (("such\nTHAT", "Such That"), ("ST", "st"), ("S.T.", "s.t."), ("st.", "st."), ("subject to", "Subject To")):
+        for word, wanted in (
+            ("such\nTHAT", "Such That"),
+            ("ST", "st"),
+            ("S.T.", "s.t."),
+            ("st.", "st."),
+            ("subject to", "Subject To"),
+        ):
             self.formats(f"min x {word} x<1 end", f"Min\n x\n\n{wanted}\n x < 1\n\nEnd\n")
         for word in ("gen", "GENERALS", "integer", "INT", "bin", "Binaries"):
             self.formats(f"min x {word} x end", f"Min\n x\n\n{word.capitalize()}\n x\n\nEnd\n")
@@ -171,8 +203,14 @@ class Lp(unittest.TestCase):
         self.formats("min c: TO st free_: TO>=1 end", "Min\n c: TO\n\nst\n free_: TO >= 1\n\nEnd\n")
 
     def test_each_form_of_a_row_and_a_bound(self):
-        self.formats("min x st 5>=x+y>=-1 -inf<=x<=4 c: 0x>=1 x=-2 end", "Min\n x\n\nst\n 5 >= x + y >= -1\n -inf <= x <= 4\n c: 0 x >= 1\n x = -2\n\nEnd\n")
-        self.formats("min v+w+x+y+z bounds 3>=v w>=-1 +2=x -5<=y<=+infinity z FREE end", "Min\n v + w + x + y + z\n\nBounds\n 3 >= v\n w >= -1\n +2 = x\n -5 <= y <= +infinity\n z free\n\nEnd\n")
+        self.formats(
+            "min x st 5>=x+y>=-1 -inf<=x<=4 c: 0x>=1 x=-2 end",
+            "Min\n x\n\nst\n 5 >= x + y >= -1\n -inf <= x <= 4\n c: 0 x >= 1\n x = -2\n\nEnd\n",
+        )
+        self.formats(
+            "min v+w+x+y+z bounds 3>=v w>=-1 +2=x -5<=y<=+infinity z FREE end",
+            "Min\n v + w + x + y + z\n\nBounds\n 3 >= v\n w >= -1\n +2 = x\n -5 <= y <= +infinity\n z free\n\nEnd\n",
+        )
 
     def test_objectives(self):
         self.formats("min bounds x<=1 end", "Min\n\nBounds\n x <= 1\n\nEnd\n")
@@ -198,16 +236,27 @@ class Lp(unittest.TestCase):
         self.formats(f"min x st {name} <= 100 end", f"Min\n x\n\nst\n {name}\n    <= 100\n\nEnd\n")
 
     def test_comments(self):
-        self.formats("min \\ one\n c \\ two\n : \\ three\n \\ four\n 2 \\ five\n x st\n\\ six\n\n\\ seven\nend\n",
-                     "Min \\ one\n c \\ two\n    : \\ three\n    \\ four\n    2 \\ five\n    x\n\nst\n\n\\ six\n\n\\ seven\nEnd\n")
-        self.formats("min x st x<=1 \\ both  \r\n\n\n y<=2\n\\ z\n z<=3 end", "Min\n x\n\nst\n x <= 1 \\ both  \n\n y <= 2\n \\ z\n z <= 3\n\nEnd\n")
-        self.formats("\n\\ before\n\n\nmin x bounds x<1 semi \\ dash\n- \\ word\n continuous x end",
-                     "\\ before\n\nMin\n x\n\nBounds\n x < 1\n\nSemi \\ dash\n    - \\ word\n    Continuous\n x\n\nEnd\n")
+        self.formats(
+            "min \\ one\n c \\ two\n : \\ three\n \\ four\n 2 \\ five\n x st\n\\ six\n\n\\ seven\nend\n",
+            "Min \\ one\n c \\ two\n    : \\ three\n    \\ four\n    2 \\ five\n    x\n\nst\n\n\\ six\n\n"
+            "\\ seven\nEnd\n",
+        )
+        self.formats(
+            "min x st x<=1 \\ both  \r\n\n\n y<=2\n\\ z\n z<=3 end",
+            "Min\n x\n\nst\n x <= 1 \\ both  \n\n y <= 2\n \\ z\n z <= 3\n\nEnd\n",
+        )
+        self.formats(
+            "\n\\ before\n\n\nmin x bounds x<1 semi \\ dash\n- \\ word\n continuous x end",
+            "\\ before\n\nMin\n x\n\nBounds\n x < 1\n\nSemi \\ dash\n    - \\ word\n    Continuous\n x\n\nEnd\n",
+        )
 
     def test_comments_that_would_make_a_line_too_long(self):
         """They get a line of their own."""
         comment = "\\".ljust((1 << 20) - 3, "-")
-        self.formats(f"min x st\nx{comment}\n<1 y>1\nend{comment[1:]}".replace("end-", "end\\"), f"Min\n x\n\nst\n x\n{comment}\n    < 1\n y > 1\n\nEnd\n{comment[:-1]}\n")
+        self.formats(
+            f"min x st\nx{comment}\n<1 y>1\nend{comment[1:]}".replace("end-", "end\\"),
+            f"Min\n x\n\nst\n x\n{comment}\n    < 1\n y > 1\n\nEnd\n{comment[:-1]}\n",
+        )
         comment = "\\".ljust(1 << 20, "-")
         self.formats(f"min\nx\nst\n{comment}\nx<1\nend", f"Min\n x\n\nst\n{comment}\n x < 1\n\nEnd\n")
         comment = "\\".ljust(1000, "-")
@@ -231,8 +280,12 @@ class Call(unittest.TestCase):
         self.assertEqual(text, "\\ \u00e4\n\\ \udce4\nMin\n x\n\nEnd\n")
 
     def test_model_files(self):
-        found = [f"{name}: {each}" for name, content, format in format_check.files([VECTORS, EXAMPLES])
-                 if format_check.is_accepted(content, format) for each in format_check.differences(content, format)]
+        found = [
+            f"{name}: {each}"
+            for name, content, format in format_check.files([VECTORS, EXAMPLES])
+            if format_check.is_accepted(content, format)
+            for each in format_check.differences(content, format)
+        ]
         self.assertEqual(found, [])
 
     def test_random_models(self):
@@ -244,16 +297,21 @@ class Call(unittest.TestCase):
 
     def test_a_result_that_is_another_model_is_not_returned(self):
         for wrong in ("min 2 x\nend\n", "min x y\nend\n", ""):
-            with mock.patch.object(_call, "formatted_lp", return_value=wrong), self.assertRaisesRegex(RuntimeError, "internal error"):
+            with mock.patch.object(_call, "formatted_lp", return_value=wrong), self.assertRaisesRegex(
+                RuntimeError, "internal error"
+            ):
                 lp("min x end")
-
 
     def test_a_result_with_other_comments_is_not_returned(self):
         for wrong in ("min x\nend\n", "\\ two\nmin x\nend\n", "\\ one\n\\ one\nmin x\nend\n"):
-            with mock.patch.object(_call, "formatted_lp", return_value=wrong), self.assertRaisesRegex(RuntimeError, "the same comments"):
+            with mock.patch.object(_call, "formatted_lp", return_value=wrong), self.assertRaisesRegex(
+                RuntimeError, "the same comments"
+            ):
                 lp("\\ one\nmin x end")
         content = b"* one\nROWS\n N  c\nCOLUMNS\n    x  c  1\nENDATA\n"
-        with mock.patch.object(_call, "formatted_mps", return_value=content[6:].decode()), self.assertRaisesRegex(RuntimeError, "the same comments"):
+        with mock.patch.object(_call, "formatted_mps", return_value=content[6:].decode()), self.assertRaisesRegex(
+            RuntimeError, "the same comments"
+        ):
             mpslp.formatted(content, "mps")
 
 
@@ -285,7 +343,11 @@ class Command(Directory):
 
     def test_diff(self):
         self.file("a.lp", b"Min\n x\n\nEND")
-        self.prints(["fmt", "--diff", "a.lp"], 1, "--- a.lp\n+++ a.lp\n@@ -1,4 +1,4 @@\n Min\n  x\n \n-END\n\\ No newline at end of file\n+End\n")
+        self.prints(
+            ["fmt", "--diff", "a.lp"],
+            1,
+            "--- a.lp\n+++ a.lp\n@@ -1,4 +1,4 @@\n Min\n  x\n \n-END\n\\ No newline at end of file\n+End\n",
+        )
         self.file("b.mps", FORMATTED_MPS)
         self.prints(["fmt", "--diff", "b.mps"], 0)
         self.leaves(a_lp=b"Min\n x\n\nEND", b_mps=FORMATTED_MPS)
@@ -300,12 +362,21 @@ class Command(Directory):
         self.file("a.lp", LP)
         with mock.patch.object(_call, "formatted_lp", return_value="min 2 x\nend\n"):
             for words in ([], ["-i"], ["--check"], ["--diff"]):
-                self.prints(["fmt", *words, "a.lp"], 2, error="a.lp: internal error: the result is not the same model\n")
+                self.prints(
+                    ["fmt", *words, "a.lp"], 2, error="a.lp: internal error: the result is not the same model\n"
+                )
         self.leaves(a_lp=LP)
 
     def test_arguments_that_do_not_fit(self):
         self.file("a.lp", LP)
-        for words in (["a.lp", "a.lp"], ["."], ["-i", "-"], ["-i", "--check", "a.lp"], ["--diff", "--check", "a.lp"], []):
+        for words in (
+            ["a.lp", "a.lp"],
+            ["."],
+            ["-i", "-"],
+            ["-i", "--check", "a.lp"],
+            ["--diff", "--check", "a.lp"],
+            [],
+        ):
             self.assertEqual(self.run_tools("fmt", *words).returncode, 3, words)
         self.leaves(a_lp=LP)
 

@@ -11,8 +11,7 @@ from itertools import combinations
 import mpslp
 from repository import EXAMPLES, VECTORS, model_files
 
-import models  # from tests/ of the repository
-import vectors
+from shared import models, vector_suite as vectors
 
 INFINITY = Decimal("Infinity")
 SAMPLE = b"""\\ one of everything
@@ -41,7 +40,7 @@ def sample():
 
 
 def number(decimal):
-    """A number of tests/models.py, where None is an infinite side."""
+    """A number of tests/shared/models.py, where None is an infinite side."""
     if not decimal.is_finite():
         return None
     sign, digits, exponent = decimal.as_tuple()
@@ -50,7 +49,7 @@ def number(decimal):
 
 
 def described(model):
-    """The model as tests/models.py describes it, which can say its canonical texts."""
+    """The model as tests/shared/models.py describes it, which can say its canonical texts."""
     rows = {row.name: models.Row(number(row.lower), number(row.upper)) for row in model.rows.values()}
     columns = {}
     for column in model.columns.values():
@@ -136,10 +135,22 @@ class Models(unittest.TestCase):
             [
                 mpslp.Column("s", "semi-continuous", Decimal(0), Decimal(9), Decimal(0), {"even": Decimal("-0.5")}),
                 mpslp.Column("whole", "integer", Decimal(0), INFINITY, Decimal("0.25"), {"most": Decimal(1)}),
-                mpslp.Column("x", "continuous", Decimal(-3), Decimal("2.5"), Decimal("3.5"),
-                             {"anything": Decimal(1), "both": Decimal(1), "least": long}),
-                mpslp.Column("y", "continuous", -INFINITY, INFINITY, Decimal(-20),
-                             {"both": Decimal(1), "even": Decimal(1), "least": Decimal("1e-500")}),
+                mpslp.Column(
+                    "x",
+                    "continuous",
+                    Decimal(-3),
+                    Decimal("2.5"),
+                    Decimal("3.5"),
+                    {"anything": Decimal(1), "both": Decimal(1), "least": long},
+                ),
+                mpslp.Column(
+                    "y",
+                    "continuous",
+                    -INFINITY,
+                    INFINITY,
+                    Decimal(-20),
+                    {"both": Decimal(1), "even": Decimal(1), "least": Decimal("1e-500")},
+                ),
             ],
         )
 
@@ -150,14 +161,30 @@ class Models(unittest.TestCase):
             self.assertEqual((type(row.name), type(row.lower), type(row.upper)), (str, Decimal, Decimal))
         for column in model.columns.values():
             self.assertEqual({type(column.name), type(column.kind)}, {str})
-            self.assertEqual({type(value) for value in (column.lower, column.upper, column.cost, *column.entries.values())}, {Decimal})
+            self.assertEqual(
+                {type(value) for value in (column.lower, column.upper, column.cost, *column.entries.values())},
+                {Decimal},
+            )
 
     def test_how_numbers_print(self):
         for text, printed in (
-            ("40", "40"), ("1.50", "1.5"), ("-20", "-20"), ("1e6", "1000000"), ("1e20", "1" + 20 * "0"), ("1e21", "1E+21"),
-            ("0.000001", "0.000001"), ("25e-9", "2.5E-8"), ("-1e-500", "-1E-500"), ("1e500", "1E+500"), ("0", "0"), ("-0", "0"),
-            ("9" * 36, "9" * 36), ("-" + "9" * 36 + "e-36", "-0." + "9" * 36), ("18446744073709551616", "18446744073709551616"),
-            ("-18446744073709551615", "-18446744073709551615"), ("9223372036854775808", "9223372036854775808"),
+            ("40", "40"),
+            ("1.50", "1.5"),
+            ("-20", "-20"),
+            ("1e6", "1000000"),
+            ("1e20", "1" + 20 * "0"),
+            ("1e21", "1E+21"),
+            ("0.000001", "0.000001"),
+            ("25e-9", "2.5E-8"),
+            ("-1e-500", "-1E-500"),
+            ("1e500", "1E+500"),
+            ("0", "0"),
+            ("-0", "0"),
+            ("9" * 36, "9" * 36),
+            ("-" + "9" * 36 + "e-36", "-0." + "9" * 36),
+            ("18446744073709551616", "18446744073709551616"),
+            ("-18446744073709551615", "-18446744073709551615"),
+            ("9223372036854775808", "9223372036854775808"),
         ):
             with self.subTest(text):
                 source = f"ROWS\n N  c\nCOLUMNS\n    x  c  {text}\nENDATA\n".encode()
@@ -185,8 +212,12 @@ class Models(unittest.TestCase):
     def test_sources(self):
         wanted = mpslp.load(EXAMPLES / "small.mps")
         text = (EXAMPLES / "small.mps").read_bytes()
-        for model in (mpslp.load(text, "mps"), mpslp.load(bytearray(text), "mps"), mpslp.load(str(EXAMPLES / "small.lp")),
-                      mpslp.load(source=EXAMPLES / "small.lp", format="lp")):
+        for model in (
+            mpslp.load(text, "mps"),
+            mpslp.load(bytearray(text), "mps"),
+            mpslp.load(str(EXAMPLES / "small.lp")),
+            mpslp.load(source=EXAMPLES / "small.lp", format="lp"),
+        ):
             self.assertEqual(model, wanted)
         with self.assertRaisesRegex(ValueError, "has to be given"):
             mpslp.load(text)

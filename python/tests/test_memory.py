@@ -61,8 +61,12 @@ class Checked(unittest.TestCase):
     def test_valgrind_has_nothing_to_report(self):
         # Of accesses only: at its end Python itself has blocks that nothing points to.
         tool = ["valgrind", "-q", "--error-exitcode=9", "--leak-check=no"]
-        done = subprocess.run([*tool, sys.executable, HERE / "answers.py"], env={**os.environ, "PYTHONMALLOC": "malloc"},
-                              capture_output=True, text=True)
+        done = subprocess.run(
+            [*tool, sys.executable, HERE / "answers.py"],
+            env={**os.environ, "PYTHONMALLOC": "malloc"},
+            capture_output=True,
+            text=True,
+        )
         self.assertEqual((done.returncode, done.stderr), (0, ""))
 
 
@@ -75,11 +79,17 @@ class FailingAllocations(unittest.TestCase):
             for allocator in ("pymalloc", "malloc"):
                 with self.subTest(allocator):
                     variables = {"LD_PRELOAD": str(library), "PYTHONMALLOC": allocator}
-                    done = subprocess.run([sys.executable, HERE / "failing_allocations.py"], env={**os.environ, **variables},
-                                          capture_output=True, text=True)
+                    done = subprocess.run(
+                        [sys.executable, HERE / "failing_allocations.py"],
+                        env={**os.environ, **variables},
+                        capture_output=True,
+                        text=True,
+                    )
                     self.assertEqual((done.returncode, done.stderr), (0, ""))
                     # Where the library has no memory, the call says so.
-                    raised = [int(line.split()[-3]) for line in done.stdout.splitlines() if line.startswith("canonical")]
+                    raised = [
+                        int(line.split()[-3]) for line in done.stdout.splitlines() if line.startswith("canonical")
+                    ]
                     self.assertGreater(min(raised), 0)
 
 

@@ -15,8 +15,8 @@ from random import Random
 
 import mpslp
 from heap import bytes_in_use
-from mpslp._numbers import EXACT, number_text
-from mpslp._shown import shown
+from mpslp._models._numbers import EXACT, number_text
+from mpslp._models._shown import shown
 from repository import EXAMPLES, VECTORS, large_text, model_files
 from test_load import entries, sample
 
@@ -41,7 +41,11 @@ class Mappings(unittest.TestCase):
             self.assertEqual(list(mapping.keys()), list(as_dict))
             self.assertEqual(list(mapping.values()), list(as_dict.values()))
             self.assertEqual(list(mapping.items()), list(as_dict.items()))
-            for view, wanted in ((mapping.keys(), as_dict.keys()), (mapping.values(), as_dict.values()), (mapping.items(), as_dict.items())):
+            for view, wanted in (
+                (mapping.keys(), as_dict.keys()),
+                (mapping.values(), as_dict.values()),
+                (mapping.items(), as_dict.items()),
+            ):
                 self.assertEqual(list(reversed(view)), list(reversed(wanted)))
             self.assertEqual(len(mapping), len(as_dict))
             self.assertEqual(repr(mapping), repr(as_dict))
@@ -53,8 +57,14 @@ class Mappings(unittest.TestCase):
 
     def test_they_are_only_read(self):
         model = sample()
-        for mapping in (model.rows, model.columns, model.columns["x"].entries, model.rows["both"].entries,
-                        mpslp.Column("x", entries={"r": 1}).entries, mpslp.Row("r").entries):
+        for mapping in (
+            model.rows,
+            model.columns,
+            model.columns["x"].entries,
+            model.rows["both"].entries,
+            mpslp.Column("x", entries={"r": 1}).entries,
+            mpslp.Row("r").entries,
+        ):
             with self.assertRaises(TypeError):
                 mapping["x"] = None
             with self.assertRaises(TypeError):
@@ -131,7 +141,16 @@ class Shown(unittest.TestCase):
         random = Random(5)
         rows = []
         while len(rows) < 3000:
-            limits = [Decimal((random.getrandbits(1), tuple(random.choices(range(10), k=random.choice((1, 2, 5, 17, 18)))), random.randint(-18, 3))) for _ in "ab"]
+            limits = [
+                Decimal(
+                    (
+                        random.getrandbits(1),
+                        tuple(random.choices(range(10), k=random.choice((1, 2, 5, 17, 18)))),
+                        random.randint(-18, 3),
+                    )
+                )
+                for _ in "ab"
+            ]
             limits = [random.choice((each, each, each, Decimal(random.choice((0, 1, 1000))))) for each in limits]
             try:
                 row = mpslp.Row(f"r{len(rows):04}", min(limits), max(limits))
@@ -146,20 +165,36 @@ class Shown(unittest.TestCase):
             self.assertEqual(line, "row {} {} {} {} {} rhs {} range {}".format(number, row.name, letter, *numbers))
 
     def test_numbers(self):
-        """Each number of digits with each exponent near those at which the form of the text changes, and at the limits."""
-        numbers = [Decimal((sign, tuple(range(1, 1 + digits)) if digits < 10 else (9,) * digits, exponent)) for sign in (0, 1) for digits in (1, 2, 9, 18, 19, 20, 36)
-                   for exponent in (*range(-22, 9), -500, -499, 499, 500)]
-        columns = [mpslp.Column(f"x{number:04}", cost=value, entries={"r": value}) for number, value in enumerate(numbers)]
+        """Each number of digits with each exponent near those at which the form of the text changes, and at the
+        limits."""
+        numbers = [
+            Decimal((sign, tuple(range(1, 1 + digits)) if digits < 10 else (9,) * digits, exponent))
+            for sign in (0, 1)
+            for digits in (1, 2, 9, 18, 19, 20, 36)
+            for exponent in (*range(-22, 9), -500, -499, 499, 500)
+        ]
+        columns = [
+            mpslp.Column(f"x{number:04}", cost=value, entries={"r": value}) for number, value in enumerate(numbers)
+        ]
         lines = self.lines_of(mpslp.Model(rows=[mpslp.Row("r")], columns=columns))[4:]
-        wanted = [line for number, each in enumerate(columns) for line in
-                  (f"column {number} {each.name} continuous 0 inf objective {number_text(each.cost)}", f"entry {number} 0 {number_text(each.cost)}")]
+        wanted = [
+            line
+            for number, each in enumerate(columns)
+            for line in (
+                f"column {number} {each.name} continuous 0 inf objective {number_text(each.cost)}",
+                f"entry {number} 0 {number_text(each.cost)}",
+            )
+        ]
         self.assertEqual(lines, wanted)
 
     def test_blocks(self):
         """Lines in order and without gaps where blocks end at rows, at columns, and within a long column."""
         rows = [mpslp.Row(f"row{number:05}{'_' * 200}", 1, 2) for number in range(2000)]
         long = {row.name: 1 for row in rows}
-        model = mpslp.Model(rows=rows, columns=[mpslp.Column(f"c{number:04}", entries=long if number in (0, 7) else {}) for number in range(5000)])
+        model = mpslp.Model(
+            rows=rows,
+            columns=[mpslp.Column(f"c{number:04}", entries=long if number in (0, 7) else {}) for number in range(5000)],
+        )
         self.assertGreater(len(list(shown(model))), 10)
         lines = self.lines_of(model)[3:]
         wanted = [f"row {number} {row.name} R 1 2 rhs 2 range 1" for number, row in enumerate(rows)]
@@ -184,7 +219,10 @@ class Replaced(unittest.TestCase):
         )
         self.assertEqual(found, wanted)
         self.assertEqual(mpslp.dumps(found, "mps"), mpslp.dumps(wanted, "mps"))
-        self.assertEqual({name: dict(row.entries) for name, row in found.rows.items()}, {name: dict(row.entries) for name, row in wanted.rows.items()})
+        self.assertEqual(
+            {name: dict(row.entries) for name, row in found.rows.items()},
+            {name: dict(row.entries) for name, row in wanted.rows.items()},
+        )
         self.assertEqual((repr(model), mpslp.dumps(model, "mps")), (before, digest))
 
     def test_nothing(self):
@@ -197,7 +235,10 @@ class Replaced(unittest.TestCase):
         for path, model in models():
             with self.subTest(path.name):
                 rows = [dataclasses.replace(row, lower=-7, upper=Decimal("99.5")) for row in model.rows.values()]
-                columns = [dataclasses.replace(column, kind="integer", lower=-1, upper=3, cost=Decimal("0.25")) for column in model.columns.values()]
+                columns = [
+                    dataclasses.replace(column, kind="integer", lower=-1, upper=3, cost=Decimal("0.25"))
+                    for column in model.columns.values()
+                ]
                 emptied = [dataclasses.replace(column, entries={}) for column in columns]
                 filled = [dataclasses.replace(column, entries={row: 2 for row in model.rows}) for column in columns]
                 for row in rows[:5] + rows[-1:]:
@@ -212,19 +253,25 @@ class Replaced(unittest.TestCase):
         for path, model in models():
             with self.subTest(path.name):
                 rows = [mpslp.Row(name, 1, 2) for name in ("~~new", "!new")]
-                columns = [mpslp.Column(name, entries={"~~new": 1, "!new": Fraction(1, 8)}) for name in ("~~column", "!column")]
+                columns = [
+                    mpslp.Column(name, entries={"~~new": 1, "!new": Fraction(1, 8)}) for name in ("~~column", "!column")
+                ]
                 old = next(iter(model.columns.values()))
                 self.same_as_anew(model, rows=rows)
                 self.same_as_anew(model, columns=[mpslp.Column("~~empty")])
                 self.same_as_anew(model, rows=rows, columns=columns)
-                self.same_as_anew(model, rows=rows, columns=[columns[0], dataclasses.replace(old, entries={**old.entries, "!new": 3})])
+                self.same_as_anew(
+                    model, rows=rows, columns=[columns[0], dataclasses.replace(old, entries={**old.entries, "!new": 3})]
+                )
 
     def test_mappings(self):
         model = sample()
         column = dataclasses.replace(model.columns["x"], upper=2.5)
         self.assertEqual(model.replace(columns={"x": column}), model.replace(columns=[column]))
         self.assertEqual(model.replace(columns={"x": column}).columns["x"], column)
-        self.assertEqual(model.replace(rows={"both": mpslp.Row("both", 1)}).rows["both"].entries, model.rows["both"].entries)
+        self.assertEqual(
+            model.replace(rows={"both": mpslp.Row("both", 1)}).rows["both"].entries, model.rows["both"].entries
+        )
 
     def test_what_is_no_model(self):
         model = sample()
@@ -235,13 +282,23 @@ class Replaced(unittest.TestCase):
             "the objective: constant: inf is not finite": {"constant": float("inf")},
             "the key 'x' has the column 'y': the key of a column is its name": {"columns": {"x": mpslp.Column("y")}},
             "row 'both' is there twice": {"rows": [mpslp.Row("both"), mpslp.Row("both")]},
-            "column 'x' has an entry in row 'none', which does not exist": {"columns": [mpslp.Column("x", entries={"none": 1})]},
-            "column 'new' has an entry in row 'none', which does not exist": {"columns": [mpslp.Column("new", entries={"none": 1})]},
+            "column 'x' has an entry in row 'none', which does not exist": {
+                "columns": [mpslp.Column("x", entries={"none": 1})]
+            },
+            "column 'new' has an entry in row 'none', which does not exist": {
+                "columns": [mpslp.Column("new", entries={"none": 1})]
+            },
         }.items():
             with self.subTest(message), self.assertRaises(ValueError) as caught:
                 model.replace(**changes)
             self.assertEqual(str(caught.exception), message)
-        for changes in ({"rows": [mpslp.Column("x")]}, {"columns": [("x", 1)]}, {"columns": 7}, {"objective": 7}, {"constant": "1"}):
+        for changes in (
+            {"rows": [mpslp.Column("x")]},
+            {"columns": [("x", 1)]},
+            {"columns": 7},
+            {"objective": 7},
+            {"constant": "1"},
+        ):
             with self.subTest(changes), self.assertRaises(TypeError):
                 model.replace(**changes)
 
@@ -279,7 +336,11 @@ class Parts(unittest.TestCase):
     def test_parts_that_are_made_again(self):
         """Like a tuple, a part that is made stays as it is."""
         for path in (None, EXAMPLES / "small.lp"):
-            model = mpslp.Model(rows=[mpslp.Row("r", 1)], columns=[mpslp.Column("x", entries={"r": 2})]) if path is None else mpslp.load(path)
+            model = (
+                mpslp.Model(rows=[mpslp.Row("r", 1)], columns=[mpslp.Column("x", entries={"r": 2})])
+                if path is None
+                else mpslp.load(path)
+            )
             text, digest = mpslp.dumps(model, "mps"), model.digest
             model.__init__("maximize", columns=[mpslp.Column("z")])
             self.assertEqual((mpslp.dumps(model, "mps"), model.digest, hash(model)), (text, digest, hash(digest)))
@@ -292,10 +353,16 @@ class Parts(unittest.TestCase):
         model, other = sample(), sample()
         self.assertIsNot(model, other)
         self.assertEqual(len({model, other}), 1)
-        self.assertEqual(len({mpslp.load(path) for path in model_files(EXAMPLES)}),
-                         len({path.name.split(".")[0] for path in model_files(EXAMPLES)}))
-        for part, same in ((model.rows["both"], other.rows["both"]), (model.columns["x"], other.columns["x"]),
-                           (model.columns["x"].entries, other.columns["x"].entries), (model.rows, other.rows)):
+        self.assertEqual(
+            len({mpslp.load(path) for path in model_files(EXAMPLES)}),
+            len({path.name.split(".")[0] for path in model_files(EXAMPLES)}),
+        )
+        for part, same in (
+            (model.rows["both"], other.rows["both"]),
+            (model.columns["x"], other.columns["x"]),
+            (model.columns["x"].entries, other.columns["x"].entries),
+            (model.rows, other.rows),
+        ):
             self.assertEqual((part, hash(part)), (same, hash(same)))
 
     def test_made_and_loaded_parts_are_one(self):
@@ -321,7 +388,14 @@ class Parts(unittest.TestCase):
 
     def test_pickles_have_public_names(self):
         model = sample()
-        for part in (model, model.rows["both"], model.columns["x"], model.columns["x"].entries, mpslp.Row("r"), mpslp.Column("x")):
+        for part in (
+            model,
+            model.rows["both"],
+            model.columns["x"],
+            model.columns["x"].entries,
+            mpslp.Row("r"),
+            mpslp.Column("x"),
+        ):
             for protocol in range(2, pickle.HIGHEST_PROTOCOL + 1):
                 text = pickle.dumps(part, protocol)
                 copied = pickle.loads(text)
@@ -338,12 +412,23 @@ class Parts(unittest.TestCase):
             self.assertIs(copy.deepcopy(part), part)
 
     def test_models_that_differ_in_one_thing(self):
-        texts = [b"min o: x + y\nst\nr: x + y <= 2\nend\n", b"max o: x + y\nst\nr: x + y <= 2\nend\n", b"min p: x + y\nst\nr: x + y <= 2\nend\n",
-                 b"min o: x + y + 1\nst\nr: x + y <= 2\nend\n", b"min o: x + y\nst\nr: x + y >= 2\nend\n", b"min o: x + y\nst\ns: x + y <= 2\nend\n",
-                 b"min o: x + y\nst\nr: x + 2 y <= 2\nend\n", b"min o: x + y\nst\nr: x <= 2\nend\n", b"min o: x + 2 y\nst\nr: x + y <= 2\nend\n",
-                 b"min o: x + y\nst\nr: x + y <= 2\nbounds\nx <= 1\nend\n", b"min o: x + y\nst\nr: x + y <= 2\nbounds\nx >= 1\nend\n",
-                 b"min o: x + y\nst\nr: x + y <= 2\ngenerals\nx\nend\n", b"min o: x + z\nst\nr: x + z <= 2\nend\n",
-                 b"min o: x + y\nst\nr: x + y <= 2\nt: x <= 3\nend\n", b"min o: x + y + z\nst\nr: x + y <= 2\nend\n"]
+        texts = [
+            b"min o: x + y\nst\nr: x + y <= 2\nend\n",
+            b"max o: x + y\nst\nr: x + y <= 2\nend\n",
+            b"min p: x + y\nst\nr: x + y <= 2\nend\n",
+            b"min o: x + y + 1\nst\nr: x + y <= 2\nend\n",
+            b"min o: x + y\nst\nr: x + y >= 2\nend\n",
+            b"min o: x + y\nst\ns: x + y <= 2\nend\n",
+            b"min o: x + y\nst\nr: x + 2 y <= 2\nend\n",
+            b"min o: x + y\nst\nr: x <= 2\nend\n",
+            b"min o: x + 2 y\nst\nr: x + y <= 2\nend\n",
+            b"min o: x + y\nst\nr: x + y <= 2\nbounds\nx <= 1\nend\n",
+            b"min o: x + y\nst\nr: x + y <= 2\nbounds\nx >= 1\nend\n",
+            b"min o: x + y\nst\nr: x + y <= 2\ngenerals\nx\nend\n",
+            b"min o: x + z\nst\nr: x + z <= 2\nend\n",
+            b"min o: x + y\nst\nr: x + y <= 2\nt: x <= 3\nend\n",
+            b"min o: x + y + z\nst\nr: x + y <= 2\nend\n",
+        ]
         loaded = [mpslp.load(text, "lp") for text in texts]
         for number, model in enumerate(loaded):
             self.assertEqual([model == other for other in loaded], [number == other for other in range(len(loaded))])

@@ -7,7 +7,7 @@ import sys
 import unittest
 from unittest import mock
 
-from mpslp._output import OutputError, encoded, write_all, write_lines
+from mpslp._files._output import OutputError, encoded, write_all, write_lines
 
 
 class Raw(io.RawIOBase):
@@ -31,7 +31,10 @@ class Output(unittest.TestCase):
     def test_short_writes(self):
         for is_buffered in (False, True):
             raw = Raw(3)
-            write_all(io.TextIOWrapper(io.BufferedWriter(raw) if is_buffered else raw, write_through=True), b"0123456789" * 100)
+            write_all(
+                io.TextIOWrapper(io.BufferedWriter(raw) if is_buffered else raw, write_through=True),
+                b"0123456789" * 100,
+            )
             self.assertEqual(raw.taken, b"0123456789" * 100)
 
     def test_what_was_written_before_comes_first(self):

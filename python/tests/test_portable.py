@@ -1,4 +1,5 @@
-"""What other programs may read differently: the call and the command; the rules are tested by tests/portable_rules.py, too."""
+"""What other programs may read differently: the call and the command; the rules are tested by
+python/tests/portable_rules.py, too."""
 
 import gzip
 import io
@@ -8,6 +9,7 @@ import unittest
 from dataclasses import FrozenInstanceError
 
 import mpslp
+import portable_rules
 from mpslp import _mpslp
 from mpslp._portable import AGREED, KINDS, PROGRAMS, grouped, remarks_of
 from mpslp._portable._lp import LpFile
@@ -15,18 +17,22 @@ from mpslp._portable._mps import MpsFile
 from repository import EXAMPLES, VECTORS, model_files
 from test_tools import BROKEN, CANONICAL_LP, Directory
 
-import models  # from tests/ of the repository
-import portable_rules
-import spellings
+from shared import models, spellings
 
 MAX = b"NAME\nOBJSENSE\n    MAX\nROWS\n N  C\nCOLUMNS\n    x/2  C  1\nBOUNDS\n UP  BND  x/2  0\nENDATA\nmore\n"
-MANY = b"min c: x\nst\n" + b"".join(b" r%d: 1 <= x <= %d\n" % (number, number + 2) for number in range(5)) + b"bounds\n x <= 0\nend\n"
-NO_OBJECTIVE = b"NAME\nROWS\n L  R\nCOLUMNS\n    X  R  1\nRHS\n    RHS  R  4\n    RHS  obj  5\nENDATA\n"
+MANY = (
+    b"min c: x\nst\n"
+    + b"".join(b" r%d: 1 <= x <= %d\n" % (number, number + 2) for number in range(5))
+    + b"bounds\n x <= 0\nend\n"
+)
+NO_OBJECTIVE = b"NAME  T  FREE\nROWS\n L  R\nCOLUMNS\n    X  R  1\nRHS\n    RHS  R  4\n    RHS  obj  5\nENDATA\n"
 
 
 def summary(path, remarks):
     """What the command prints of remarks without --all."""
     return "".join(f"{path}:{line}\n" for line in grouped(each for each in remarks if each.kind not in AGREED))
+
+
 LINES = ("3: objsense: ", "7: name-like-arithmetic: ", "9: upper-zero: ", "11: text-after-end: ")
 
 
@@ -45,9 +51,23 @@ class Calls(unittest.TestCase):
         self.assertEqual(str(found[2]), f"9: upper-zero: {found[2].text}")
 
     def test_the_objective_of_a_file_without_an_n_row(self):
-        text = b"NAME\nROWS\n L  R\nCOLUMNS\n    X  R  1\nRHS\n    RHS  obj  5  R  1e25\nENDATA\n"
-        self.assertEqual([(each.line, each.kind) for each in mpslp.portability(text, "mps")], [(7, "large-limit"), (7, "objective-rhs")])
+        text = b"NAME  T  FREE\nROWS\n L  R\nCOLUMNS\n    X  R  1\nRHS\n    RHS  obj  5  R  1e25\nENDATA\n"
+        self.assertEqual(
+            [(each.line, each.kind) for each in mpslp.portability(text, "mps")],
+            [(7, "large-limit"), (7, "objective-rhs")],
+        )
         self.assertEqual(mpslp.portability(text.replace(b"obj  5", b"obj  1e25"), "mps")[0].kind, "large-limit")
+
+    def test_fields_that_are_joined(self):
+        """CoinUtils reads fixed columns up to the first line that cannot be read so, and not in files that say FREE."""
+        text = b"NAME  T\nROWS\n N  C\n L  R\nCOLUMNS\n    X  R  1\n    Y  C  2\nRHS\n    S  R  4\nENDATA\n"
+        self.assertEqual(
+            [(each.line, each.kind) for each in mpslp.portability(text, "mps")],
+            [(6, "short-fields"), (7, "short-fields"), (9, "short-fields")],
+        )
+        self.assertEqual(mpslp.portability(text.replace(b"\n", b"\r\n"), "mps"), mpslp.portability(text, "mps"))
+        self.assertEqual([each.line for each in mpslp.portability(text.replace(b"Y  C", b"long_name  C"), "mps")], [6])
+        self.assertEqual(mpslp.portability(text.replace(b"NAME  T", b"NAME  T  FREE"), "mps"), ())
 
     def test_remarks_are_records(self):
         remark = mpslp.portability(MAX, "mps")[0]
@@ -70,18 +90,26 @@ class Calls(unittest.TestCase):
             self.assertEqual(found, tuple(each for each in everything if program in each.programs))
         self.assertEqual([each.kind for each in mpslp.portability(MAX, "mps", target="clp")], ["objsense"])
         self.assertEqual(mpslp.portability(MAX, "mps", target="lp_solve"), ())
-        with self.assertRaisesRegex(ValueError, "'highs' is none of glpsol, clp"):
-            mpslp.portability(MAX, "mps", target="highs")
+        free = b"NAME\nROWS\n N  cost\n N  next\nCOLUMNS\n    x  cost  1  next  2\nRHS\nENDATA\n"
+        for program in ("highs", "scip", "glpsol"):
+            self.assertIn(
+                "further-n-row", [each.kind for each in mpslp.portability(free, "mps", target=program)], program
+            )
+        self.assertEqual(mpslp.portability(MAX, "mps", target="highs"), ())
+        with self.assertRaisesRegex(ValueError, "'gurobi' is none of glpsol, clp"):
+            mpslp.portability(MAX, "mps", target="gurobi")
 
     def test_a_file_without_an_n_row(self):
         """Its objective has the name obj, which RHS may have."""
-        self.assertEqual([(each.line, each.kind) for each in mpslp.portability(NO_OBJECTIVE, "mps")], [(8, "objective-rhs")])
+        self.assertEqual(
+            [(each.line, each.kind) for each in mpslp.portability(NO_OBJECTIVE, "mps")], [(8, "objective-rhs")]
+        )
         large = NO_OBJECTIVE.replace(b"obj  5", b"obj  1e25")
         self.assertEqual([each.kind for each in mpslp.portability(large, "mps")], ["objective-rhs"])
 
     def test_a_last_column_that_is_integer(self):
         """lp_solve keeps it, also without an RHS section and without bounds."""
-        marked = b"NAME\nROWS\n N  C\nCOLUMNS\n    M  'MARKER'  'INTORG'\n    X  C  1\nENDATA\n"
+        marked = b"NAME  T  FREE\nROWS\n N  C\nCOLUMNS\n    M  'MARKER'  'INTORG'\n    X  C  1\nENDATA\n"
         self.assertEqual([each.kind for each in mpslp.portability(marked, "mps")], ["marked-without-bound"])
 
     def test_a_text_that_is_rejected(self):
@@ -105,7 +133,8 @@ class Calls(unittest.TestCase):
         self.assertGreater(len(found), 5)
 
     def test_what_is_read_of_random_models(self):
-        """However a model is spelled, it is read to its end: all rows, columns and numbers are found, and lines have what is said of them."""
+        """However a model is spelled, it is read to its end: all rows, columns and numbers are found, and lines have
+        what is said of them."""
         source = random.Random(4)
         for _ in range(300):
             model = models.drawn_model(source)
@@ -132,7 +161,10 @@ class Calls(unittest.TestCase):
         self.assertEqual({row.label for row in file.rows if row.label} - set(model.rows), set())
         self.assertLessEqual(set(model.columns), set(file.names))
         self.assertLessEqual(set(file.names), {*model.columns, *model.rows, model.objective})
-        two_limits = sum(row.lower is not None and row.upper is not None and not models.same(row.lower, row.upper) for row in model.rows.values())
+        two_limits = sum(
+            row.lower is not None and row.upper is not None and not models.same(row.lower, row.upper)
+            for row in model.rows.values()
+        )
         self.assertGreaterEqual(sum(len(row.sides) == 2 for row in file.rows), two_limits)
 
 
@@ -157,7 +189,11 @@ class Command(Directory):
     def test_all_lines(self):
         """With --all each line is printed, in their order, and also the kinds in which all programs agree."""
         self.file("b.mps", MAX)
-        self.prints(["check", "--portable", "--all", "b.mps"], 1, "".join(f"b.mps:{each}\n" for each in mpslp.portability(MAX, "mps")))
+        self.prints(
+            ["check", "--portable", "--all", "b.mps"],
+            1,
+            "".join(f"b.mps:{each}\n" for each in mpslp.portability(MAX, "mps")),
+        )
         self.file("agreed.lp", b"min x\nst\n x >= -1\nbounds\n x <= 0\nend\n")
         self.prints(["check", "--portable", "agreed.lp"], 0)
         self.assertEqual(self.run_tools("check", "--portable", "--all", "agreed.lp").returncode, 1)
@@ -166,7 +202,11 @@ class Command(Directory):
         self.file("many.lp", MANY)
         remarks = mpslp.portability(MANY, "lp")
         shown = "".join(f"many.lp:{each}\n" for each in remarks[:3])
-        self.prints(["check", "--portable", "many.lp"], 1, "many.lp: ranged-row: 5 lines, of which the first 3 follow; --all prints each\n" + shown)
+        self.prints(
+            ["check", "--portable", "many.lp"],
+            1,
+            "many.lp: ranged-row: 5 lines, of which the first 3 follow; --all prints each\n" + shown,
+        )
 
     def test_targets(self):
         self.file("b.mps", MAX)
@@ -175,7 +215,7 @@ class Command(Directory):
         self.prints(["check", "--portable", "--target", "lp_solve", "--all", "b.mps"], 0)
         self.assertEqual(self.run_tools("check", "--target", "clp", "b.mps").returncode, 3)
         self.assertEqual(self.run_tools("check", "--all", "b.mps").returncode, 3)
-        self.assertEqual(self.run_tools("check", "--portable", "--target", "highs", "b.mps").returncode, 3)
+        self.assertEqual(self.run_tools("check", "--portable", "--target", "gurobi", "b.mps").returncode, 3)
 
     def test_kinds_that_are_left_out(self):
         self.file("b.mps", MAX)
@@ -184,7 +224,11 @@ class Command(Directory):
         self.prints(["check", "--portable", "--all", "b.mps", *words], 1, f"b.mps:{found[0]}\n")
         self.prints(["check", "--portable", "--all", "b.mps", *words, "--ignore", found[0].kind], 0)
         self.assertEqual(self.run_tools("check", "--portable", "--ignore", "sense", "b.mps").returncode, 3)
-        self.prints(["check", "--ignore", "objsense", "b.mps"], 3, error="python3 -m mpslp: error: --ignore leaves out remarks of --portable\n")
+        self.prints(
+            ["check", "--ignore", "objsense", "b.mps"],
+            3,
+            error="python3 -m mpslp: error: --ignore leaves out remarks of --portable\n",
+        )
 
 
 if __name__ == "__main__":

@@ -1,4 +1,5 @@
-"""What the documents of the package show is what happens; those of README.md are run as tests/docs_check.py says."""
+"""What the documents of the package show is what happens; those of README.md are run by
+tests/documents/docs_check.py."""
 
 import doctest
 import importlib.util
@@ -13,10 +14,10 @@ from unittest import mock
 import mpslp
 from repository import ROOT
 
-import docs_check  # from tests/ of the repository
+from shared import pages
 
 
-class Page(docs_check.Document):
+class Page(pages.Document):
     """A page whose comment `needs` may name a module of Python, too."""
 
     def need(self, number, what):
@@ -33,7 +34,7 @@ class Recipes(Page):
         super().__init__(path, scratch)
         paragraphs = [[]]
         for line in self.lines:
-            if docs_check.PARAGRAPH.match(line):
+            if pages.PARAGRAPH.match(line):
                 paragraphs.append([])
             paragraphs[-1].append(line)
         self.lines = [line if self.MARK in lines else "" for lines in paragraphs for line in lines]
@@ -44,7 +45,7 @@ class Shown(unittest.TestCase):
         # Its commands find this Python first, and call only the package.
         found = f"{Path(sys.executable).parent}{os.pathsep}{os.environ['PATH']}"
         with tempfile.TemporaryDirectory() as folder, mock.patch.dict(os.environ, PATH=found):
-            page = kind(ROOT / path, docs_check.Scratch(folder, shutil.which("false")))
+            page = kind(ROOT / path, pages.Scratch(folder, shutil.which("false")))
             page.check()
         self.assertEqual(page.wrong, [])
         self.assertGreater(page.tried, 5)

@@ -8,14 +8,13 @@ from unittest import mock
 
 import mpslp
 from mpslp import _mpslp
-from mpslp._adapt._names import is_lp_name
+from mpslp._errors._own_checks import OwnCheckError
+from mpslp._files._sources import Text
 from mpslp._rename import RenameError, _call, lp_name, names_back, original_name, renamed, table, table_of, words_back
-from mpslp._own_checks import OwnCheckError
-from mpslp._sources import Text
+from mpslp._text._names import is_lp_name
 from test_tools import Directory
 
-import models  # from tests/ of the repository
-import spellings
+from shared import models, spellings
 
 MPS = b"""\
 NAME
@@ -63,8 +62,24 @@ Generals
 End
 """
 TABLE = b'{\n "2y": "_x32y",\n "cap[1,2]": "cap_x5B1,2_x5D",\n "free": "_x66ree",\n "x[1]": "x_x5B1_x5D"\n}\n'
-NAMES = {"x[1,2]": "x_x5B1,2_x5D", "2x": "_x32x", ".5": "_x2E5", "e": "_x65", "E1": "_x451", "free": "_x66ree", "Inf": "_x49nf", "s.t.": "_x73.t.",
-         "a*b": "a_x2Ab", "_x5B": "_x5Fx5B", "a_x5B_x5D": "a_x5Fx5B_x5Fx5D", "_[": "__x5B", "_x5[": "_x5_x5B", "_x[41": "_x_x5B41", "[": "_x5B", "9": "_x39"}
+NAMES = {
+    "x[1,2]": "x_x5B1,2_x5D",
+    "2x": "_x32x",
+    ".5": "_x2E5",
+    "e": "_x65",
+    "E1": "_x451",
+    "free": "_x66ree",
+    "Inf": "_x49nf",
+    "s.t.": "_x73.t.",
+    "a*b": "a_x2Ab",
+    "_x5B": "_x5Fx5B",
+    "a_x5B_x5D": "a_x5Fx5B_x5Fx5D",
+    "_[": "__x5B",
+    "_x5[": "_x5_x5B",
+    "_x[41": "_x_x5B41",
+    "[": "_x5B",
+    "9": "_x39",
+}
 SAME = ("x", "x_", "_x5", "_x5b", "_xG1", "__x", "y(1,2)", "x/2", "element", "e_1", "_2x", "x.5", "freedom")
 
 
@@ -140,14 +155,21 @@ class Models(unittest.TestCase):
                 continue
             self.assertTrue(mpslp.is_canonical(done.text, "lp"))
             self.assertTrue(mpslp.same(names_back(text_of(done.text, "lp"), None), content, "mps", "mps"))
-            self.assertEqual(set(done.names), {name for name in (model.objective, *model.rows, *model.columns) if lp_name(name) != name})
+            self.assertEqual(
+                set(done.names),
+                {name for name in (model.objective, *model.rows, *model.columns) if lp_name(name) != name},
+            )
             changed += bool(done.names)
         self.assertGreater(changed, 5)
 
     def test_another_model_is_not_returned(self):
-        with mock.patch.object(_call, "lp_name", return_value="x"), self.assertRaises((OwnCheckError, mpslp.ModelFileError)):
+        with mock.patch.object(_call, "lp_name", return_value="x"), self.assertRaises(
+            (OwnCheckError, mpslp.ModelFileError)
+        ):
             renamed(text_of(MPS))
-        with mock.patch.object(_call, "original_name", side_effect=lambda name: f"{original_name(name)}!"), self.assertRaises(OwnCheckError):
+        with mock.patch.object(
+            _call, "original_name", side_effect=lambda name: f"{original_name(name)}!"
+        ), self.assertRaises(OwnCheckError):
             renamed(text_of(MPS))
 
     def test_names_that_would_be_the_same(self):
@@ -189,10 +211,55 @@ class Command(Directory):
         self.prints(["canon", "--names-back", "-o", "b.sol", "a.sol"], 0)
         self.leaves(a_json=TABLE, a_sol=b"x_x5B1_x5D 4\n", b_sol=b"x[1] 4\n")
 
+    def test_nothing_is_replaced(self):
+        """A warning and status 1, unless the map has no names."""
+        self.file("a.json", TABLE)
+        self.file("empty.json", b"{}\n")
+        self.file("a.sol", b"x 4\n")
+        self.file("a.lp", b"min x\nend\n")
+        by_rule = "no name in it is one that --rename writes; for names that --for replaced, give --map\n"
+        by_map = "none of the names that a.json has as written is in it\n"
+        text = mpslp.canonical(b"min x\nend\n", "lp", "mps").decode()
+        self.prints(["canon", "--names-back", "a.sol"], 1, "x 4\n", error=f"warning: a.sol: {by_rule}")
+        self.prints(
+            ["canon", "--names-back", "--map", "a.json", "a.sol"], 1, "x 4\n", error=f"warning: a.sol: {by_map}"
+        )
+        self.prints(["canon", "--names-back", "--map", "a.json", "a.lp"], 1, text, error=f"warning: a.lp: {by_map}")
+        self.prints(["canon", "--names-back", "a.lp"], 1, text, error=f"warning: a.lp: {by_rule}")
+        self.prints(["canon", "--names-back", "--map", "empty.json", "a.sol"], 0, "x 4\n")
+        self.prints(
+            ["adapt", "--names-back", "--map", "a.json", "a.sol"], 1, "x 4\n", error=f"warning: a.sol: {by_map}"
+        )
+        self.prints(["adapt", "--names-back", "--map", "empty.json", "a.sol"], 0, "x 4\n")
+
+    def test_the_names_of_a_solver(self):
+        self.file("a.mps", MPS)
+        self.prints(["canon", "--for", "cbc", "--no-warnings", "--map", "a.json", "-o", "a.lp", "a.mps"], 0)
+        names = mpslp.text_for(mpslp.load(MPS, "mps"), "cbc", "lp").names
+        self.assertIn("x[1]", names)
+        self.assertEqual(
+            table_of((self.folder / "a.json").read_bytes()), {written: name for name, written in names.items()}
+        )
+        written = (self.folder / "a.lp").read_bytes()
+        self.assertTrue(all(name.encode() in written for name in names.values()))
+        self.file("a.sol", " ".join(names.values()).encode())
+        self.prints(["canon", "--names-back", "--map", "a.json", "a.sol"], 0, " ".join(names))
+        self.prints(["canon", "--for", "glpsol", "--no-warnings", "--map", "b.json", "-o", "a.glp", "a.mps"], 0)
+        self.assertEqual((self.folder / "b.json").read_bytes(), b"{}\n")
+        self.assertEqual(
+            self.run_tools("canon", "--for", "cbc", "--map", "c.json", "--out-dir", "out", "a.mps").returncode, 3
+        )
+        hint = self.run_tools("canon", "--for", "cbc", "-o", "a.lp", "a.mps").stderr
+        self.assertIn("--names-back --map FILE restores them", hint if isinstance(hint, str) else hint.decode())
+
     def test_names_that_are_too_long(self):
         name = "[" * 64
         self.file("a.mps", MPS.replace(b"2y", name.encode()))
-        self.prints(["canon", "-t", "lp", "--rename", "--map", "a.json", "a.mps"], 2, error=f"a.mps: renamed for LP, a name has 256 bytes, and 255 are the most: {name}\n")
+        self.prints(
+            ["canon", "-t", "lp", "--rename", "--map", "a.json", "a.mps"],
+            2,
+            error=f"a.mps: renamed for LP, a name has 256 bytes, and 255 are the most: {name}\n",
+        )
         self.assertFalse((self.folder / "a.json").exists())
 
     def test_errors(self):
@@ -205,10 +272,24 @@ class Command(Directory):
         self.prints(["canon", "--names-back", "b.lp"], 2, error="b.lp: --rename writes no such name: x_x41\n")
         self.prints(["canon", "-t", "lp", "--rename", "c.lp"], 2, error="c.lp:1: BadToken: y\n")
         self.prints(["canon", "-t", "lp", "--names-back", "d.lp"], 2, error="d.lp: NotLp: objective free\n")
-        self.prints(["canon", "--rename", "a.mps"], 3, error="--rename writes LP: give -t lp, or -o with a path that ends in .lp\n")
-        self.prints(["canon", "--map", "a.json", "a.mps"], 3, error=usage + "--map goes with --rename or --names-back\n")
-        self.prints(["canon", "--names-back", "--map", "bad.json", "d.lp"], 3, error="bad.json: it is not a JSON object of names\n")
-        self.prints(["canon", "--names-back", "--map", "absent.json", "d.lp"], 4, error="absent.json: No such file or directory\n")
+        self.prints(
+            ["canon", "--rename", "a.mps"],
+            3,
+            error="--rename writes LP: give -t lp, or -o with a path that ends in .lp\n",
+        )
+        self.prints(
+            ["canon", "--map", "a.json", "a.mps"], 3, error=usage + "--map goes with --rename, --for or --names-back\n"
+        )
+        self.prints(
+            ["canon", "--names-back", "--map", "bad.json", "d.lp"],
+            3,
+            error="bad.json: it is not a JSON object of names\n",
+        )
+        self.prints(
+            ["canon", "--names-back", "--map", "absent.json", "d.lp"],
+            4,
+            error="absent.json: No such file or directory\n",
+        )
         self.prints(["canon", "--names-back", "absent.sol"], 4, error="absent.sol: No such file or directory\n")
         for words in (["-i"], ["--for", "glpsol"], ["a.mps"], ["--names-back"]):
             self.assertEqual(self.run_tools("canon", "-t", "lp", "--rename", *words, "a.mps").returncode, 3, words)
@@ -217,7 +298,11 @@ class Command(Directory):
     def test_another_model_is_not_written(self):
         self.file("a.mps", MPS)
         with mock.patch.object(_call, "original_name", side_effect=lambda name: f"{original_name(name)}!"):
-            self.prints(["canon", "--rename", "-o", "a.lp", "--map", "a.json", "a.mps"], 2, error="a.mps: internal error: the result is not the same model\n")
+            self.prints(
+                ["canon", "--rename", "-o", "a.lp", "--map", "a.json", "a.mps"],
+                2,
+                error="a.mps: internal error: the result is not the same model\n",
+            )
         self.leaves(a_mps=MPS)
 
 

@@ -9,146 +9,25 @@ import zlib
 from base64 import b64decode
 from collections import Counter
 from decimal import Decimal
-from html.parser import HTMLParser
 from pathlib import Path
 from unittest import mock
 
 import mpslp
 from mpslp import _main
-from mpslp._lp_words import TOKEN
-from mpslp._numbers import number_text
+from mpslp._files._sources import read
+from mpslp._models._numbers import number_text
 from mpslp._report import page
-from mpslp._report._declared import LOWER, UPPER, _Lp, declared_by
+from mpslp._report._declared import LOWER, UPPER, declared_by
 from mpslp._report._markup import element
-from mpslp._sources import read
-from repository import EXAMPLES, VECTORS, large_text, model_files
-from test_load import entries
+from mpslp._text import _lp
+from mpslp._text._lp_tokens import TOKEN
+from report_pages import SAMPLE, Reader, models, number, read_page
+from repository import EXAMPLES, large_text
 
-import models as random_models  # from tests/ of the repository
-import spellings
+from shared import models as random_models, spellings
 
 INFINITY = Decimal("Infinity")
-VOID = {"meta", "br"}
 SORTS = ("coefficients", "objective coefficients", "row limits (RHS)", "column bounds")
-
-SAMPLE = """\
-*SENSE:Maximize
-NAME  WEEK-PLAN
-ROWS
- N  COST
- N  CO2
- L  HOURS
- G  <script>alert(1)</script>
- E  EVEN
- E  LOW
- L  SAME
- G  BIG&BOLD
- L  EMPTY
-COLUMNS
-    FIRST  COST  3.25  HOURS  1
-    FIRST  BIG&BOLD  1e7  EVEN  1
-    M  'MARKER'  'INTORG'
-    LINE"1"  COST  -2  HOURS  0.000001
-    LINE"1"  LOW  -1
-    LINE'2'  COST  12  HOURS  4
-    LINE'2'  SAME  1  LOW  0
-    THREE  COST  1  <script>alert(1)</script>  3
-    M  'MARKER'  'INTEND'
-    <b>FOUR</b>  HOURS  2.5  EVEN  -1
-    FIVE  SAME  1
-    SIX  COST  0
-    SEVEN  COST  5
-    EIGHT  HOURS  1
-RHS
-    RHS  COST  -125  HOURS  40
-    RHS  BIG&BOLD  5e11  LOW  6
-    RHS  CO2  5  SAME  1e30
-    RHS  EVEN  3
-RANGES
-    RNG  HOURS  30  EVEN  4
-    RNG  LOW  -2  <script>alert(1)</script>  5
-BOUNDS
- UP BND  FIRST  8
- LO BND  LINE'2'  2
- FR BND  FIVE
- UP BND  <b>FOUR</b>  -1
- MI BND  <b>FOUR</b>
- UP BND  THREE  1e30
- UP BND  EIGHT  0
-ENDATA
-that was all
-"""
-
-
-class Reader(HTMLParser):
-    """Reads a page: its tables by their captions, its elements, and whether each is closed."""
-
-    def __init__(self, text):
-        super().__init__()
-        self.open, self.elements, self.wrong = [], [], []
-        self.tables, self.text = {}, {}
-        self._row = self._caption = None
-        self.feed(text)
-        self.close()
-        if self.open:
-            self.wrong.append(f"open at the end: {self.open}")
-
-    def handle_starttag(self, tag, attributes):
-        self.elements.append((tag, dict(attributes), list(self.open)))
-        if tag not in VOID:
-            self.open.append(tag)
-        if tag == "caption":
-            self._caption = ""
-        elif tag == "tr":
-            self._row = []
-        elif tag in ("th", "td"):
-            self._row.append("")
-
-    def handle_endtag(self, tag):
-        if not self.open or self.open.pop() != tag:
-            self.wrong.append(f"</{tag}> closes another element")
-        if tag == "caption":
-            self.tables[self._caption] = []
-        elif tag == "tr":
-            self.tables[list(self.tables)[-1]].append(self._row)
-            self._row = None
-
-    def handle_data(self, data):
-        if self.open:
-            self.text[self.open[-1]] = self.text.get(self.open[-1], "") + data + "\n"
-        if "caption" in self.open:
-            self._caption += data
-        elif self._row:
-            self._row[-1] += data
-
-    def found(self, tag):
-        return [attributes for each, attributes, _ in self.elements if each == tag]
-
-    def table(self, caption):
-        """The lines of a table without its head, by their first cells."""
-        return {line[0]: line[1:] for line in self.tables[caption][1:]}
-
-
-def read_page(*sources, **options):
-    """The page about files, or about texts of MPS, which go to files first."""
-    with tempfile.TemporaryDirectory() as directory:
-        paths = []
-        for number, source in enumerate(sources):
-            if isinstance(source, str):
-                path = Path(directory, f"{'ab'[number]}.mps")
-                path.write_text(source)
-                source = path
-            paths.append(source)
-        return Reader(page(paths, **options))
-
-
-def models():
-    """All files of examples/ and vectors/ that define models."""
-    return model_files(EXAMPLES) + [VECTORS / entry.input for entry in entries() if entry.answer == "model"]
-
-
-def number(text):
-    return int(text.replace(",", "") or "0")
 
 
 class Pages(unittest.TestCase):
@@ -192,14 +71,31 @@ class Pages(unittest.TestCase):
         reader = read_page(SAMPLE)
         self.check(reader)
         self.assertEqual(reader.found("b"), [])
-        self.assertIn("<script>alert(1)</script>", reader.table("Smallest and largest numbers")["coefficients"][2] + reader.text["title"])
+        self.assertIn(
+            "<script>alert(1)</script>",
+            reader.table("Smallest and largest numbers")["coefficients"][2] + reader.text["title"],
+        )
         self.assertIn("<b>FOUR</b>, FIVE", reader.table("Column bounds that the file gives")["lower and upper"][2])
 
     def test_each_byte_of_names(self):
         byte = [chr(code) for code in range(33, 127)]
         lines = [f" L  {each}" for each in byte] + ["COLUMNS"] + [f"    {each}  {each}  1" for each in byte]
         self.check(read_page("\n".join(["ROWS", " N  <objective>", *lines, "ENDATA", ""])))
-        self.check(read_page("\n".join(["ROWS", ' N  "onload="', " E  r", "COLUMNS", *(f"    {each * 255}  r  1" for each in byte), "ENDATA", ""])))
+        self.check(
+            read_page(
+                "\n".join(
+                    [
+                        "ROWS",
+                        ' N  "onload="',
+                        " E  r",
+                        "COLUMNS",
+                        *(f"    {each * 255}  r  1" for each in byte),
+                        "ENDATA",
+                        "",
+                    ]
+                )
+            )
+        )
 
     def test_attributes_are_escaped(self):
         made = Reader(element("a", "<&>\"'", title="\"><b>'&amp;"))
@@ -249,7 +145,9 @@ class Pages(unittest.TestCase):
         with tempfile.TemporaryDirectory() as directory:
             made = Path(directory, "page.html")
             status = _main.main(["report", "-o", str(made), str(EXAMPLES / "small.mps"), str(EXAMPLES / "semi.mps")])
-            self.assertEqual((status, made.read_text("utf-8")), (0, page([str(EXAMPLES / "small.mps"), str(EXAMPLES / "semi.mps")])))
+            self.assertEqual(
+                (status, made.read_text("utf-8")), (0, page([str(EXAMPLES / "small.mps"), str(EXAMPLES / "semi.mps")]))
+            )
 
 
 class Counts(unittest.TestCase):
@@ -268,7 +166,10 @@ class Counts(unittest.TestCase):
         self.assertEqual(facts["SHA-256 of the canonical MPS text"], [model.digest])
         rows = {kind: number(cells[0]) for kind, cells in reader.table("Rows by kind").items()}
         self.assertEqual(rows, self.rows(model))
-        lines = {bounds: [number(cell) for cell in cells] for bounds, cells in reader.table("Columns by bounds and type").items()}
+        lines = {
+            bounds: [number(cell) for cell in cells]
+            for bounds, cells in reader.table("Columns by bounds and type").items()
+        }
         self.assertEqual(lines, self.columns(model))
         self.check_lengths(reader.table("Nonzeros of rows and columns"), model)
 
@@ -276,7 +177,12 @@ class Counts(unittest.TestCase):
         counts = dict.fromkeys(("equation", "at most", "at least", "ranged", "free", "all rows"), 0)
         for row in model.rows.values():
             has_lower, has_upper = row.lower.is_finite(), row.upper.is_finite()
-            kind = {(True, True): "ranged", (True, False): "at least", (False, True): "at most", (False, False): "free"}[has_lower, has_upper]
+            kind = {
+                (True, True): "ranged",
+                (True, False): "at least",
+                (False, True): "at most",
+                (False, False): "free",
+            }[has_lower, has_upper]
             counts["equation" if row.lower == row.upper else kind] += 1
             counts["all rows"] += 1
         return counts
@@ -286,9 +192,14 @@ class Counts(unittest.TestCase):
         for column in model.columns.values():
             lower, upper = column.lower, column.upper
             what = {
-                (True, True): "lower and upper bound", (True, False): "lower bound only", (False, True): "upper bound only", (False, False): "free",
+                (True, True): "lower and upper bound",
+                (True, False): "lower bound only",
+                (False, True): "upper bound only",
+                (False, False): "free",
             }[lower.is_finite(), upper.is_finite()]
-            what = {(0, 1): "0 to 1", (0, INFINITY): "0 to infinity"}.get((lower, upper), "fixed" if lower == upper else what)
+            what = {(0, 1): "0 to 1", (0, INFINITY): "0 to infinity"}.get(
+                (lower, upper), "fixed" if lower == upper else what
+            )
             for line in (what, "all columns"):
                 cells = counts.setdefault(line, [0, 0, 0, 0])
                 cells[("continuous", "integer", "semi-continuous").index(column.kind)] += 1
@@ -302,26 +213,47 @@ class Counts(unittest.TestCase):
                 self.assertEqual({cells[place] for cells in lines.values()}, {""})
                 continue
             for line, wanted in (
-                ("fewest", lengths[0]), ("median", lengths[len(lengths) // 2]), ("most", lengths[-1]),
-                ("with no nonzero", lengths.count(0)), ("with one nonzero", lengths.count(1)),
+                ("fewest", lengths[0]),
+                ("median", lengths[len(lengths) // 2]),
+                ("most", lengths[-1]),
+                ("with no nonzero", lengths.count(0)),
+                ("with one nonzero", lengths.count(1)),
             ):
                 self.assertEqual(number(lines[line][place]), wanted)
             self.assertEqual(len(parts[lines["most in"][place]].entries), lengths[-1])
 
     def test_a_sample(self):
         reader = read_page(SAMPLE)
-        self.assertEqual(reader.table("Rows by kind"), {"equation": ["0"], "at most": ["1"], "at least": ["1"], "ranged": ["4"], "free": ["2"], "all rows": ["8"]})
-        self.assertEqual(reader.table("Columns by bounds and type"), {
-            "0 to infinity": ["2", "1", "0", "3"], "0 to 1": ["0", "1", "0", "1"], "lower and upper bound": ["1", "0", "0", "1"],
-            "lower bound only": ["0", "1", "0", "1"], "upper bound only": ["1", "0", "0", "1"], "fixed": ["1", "0", "0", "1"], "free": ["1", "0", "0", "1"],
-            "all columns": ["6", "3", "0", "9"],
-        })
-        self.assertEqual(reader.table("The model")["share of all places"], ["16.7 %"])
+        self.assertEqual(
+            reader.table("Rows by kind"),
+            {"equation": ["0"], "at most": ["1"], "at least": ["1"], "ranged": ["4"], "free": ["2"], "all rows": ["8"]},
+        )
+        self.assertEqual(
+            reader.table("Columns by bounds and type"),
+            {
+                "0 to infinity": ["2", "1", "0", "3"],
+                "0 to 1": ["0", "1", "0", "1"],
+                "lower and upper bound": ["1", "0", "0", "1"],
+                "lower bound only": ["0", "1", "0", "1"],
+                "upper bound only": ["1", "0", "0", "1"],
+                "fixed": ["1", "0", "0", "1"],
+                "free": ["1", "0", "0", "1"],
+                "all columns": ["6", "3", "0", "9"],
+            },
+        )
+        self.assertEqual(reader.table("The model")["density"], ["16.7 %"])
 
     def test_rows_and_columns_that_doubles_do_not_distinguish(self):
-        reader = read_page("ROWS\n N  c\n G  near\n G  same\nCOLUMNS\n    x  near  1  same  1\n    y  c  1\nRHS\n    near  1  same  1\nRANGES\n"
-                           "    near  1e-30\n    same  0\nBOUNDS\n LO  x  1\n UP  x  1.0000000000000000000000000000001\n UP  y  1e-400\nENDATA\n")
-        self.assertEqual(reader.table("Rows by kind"), {"equation": ["1"], "at most": ["0"], "at least": ["0"], "ranged": ["1"], "free": ["0"], "all rows": ["2"]})
+        reader = read_page(
+            "ROWS\n N  c\n G  near\n G  same\nCOLUMNS\n    x  near  1  same  1\n    y  c  1\nRHS\n"
+            "    near  1  same  1\nRANGES\n"
+            "    near  1e-30\n    same  0\nBOUNDS\n LO  x  1\n UP  x  1.0000000000000000000000000000001\n"
+            " UP  y  1e-400\nENDATA\n"
+        )
+        self.assertEqual(
+            reader.table("Rows by kind"),
+            {"equation": ["1"], "at most": ["0"], "at least": ["0"], "ranged": ["1"], "free": ["0"], "all rows": ["2"]},
+        )
         self.assertEqual(list(reader.table("Columns by bounds and type")), ["lower and upper bound", "all columns"])
 
 
@@ -331,7 +263,11 @@ class Magnitudes(unittest.TestCase):
         rows, columns = model.rows.values(), model.columns.values()
         sides = [[{each.lower, each.upper} for each in parts] for parts in (rows, columns)]
         coefficients = [value for column in columns for value in column.entries.values()]
-        numbers = [coefficients, [column.cost for column in columns], *([each for pair in both for each in pair] for both in sides)]
+        numbers = [
+            coefficients,
+            [column.cost for column in columns],
+            *([each for pair in both for each in pair] for both in sides),
+        ]
         return dict(zip(SORTS, ([each for each in found if each.is_finite()] for found in numbers)))
 
     def check(self, model, reader):
@@ -367,49 +303,102 @@ class Magnitudes(unittest.TestCase):
 
     def test_a_sample(self):
         reader = read_page(SAMPLE)
-        self.assertEqual(reader.table("Smallest and largest numbers")["coefficients"], ["12", "0.000001", 'HOURS, LINE"1"', "1e7", "BIG&BOLD, FIRST", "1e13"])
-        self.assertEqual(reader.table("How many numbers have each power of ten"), {
-            "1e11": ["", "", "1", ""], "1e10": [""] * 4, "1e9": [""] * 4, "1e8": [""] * 4, "1e7": ["1", "", "", ""], "1e6 to 1e2": [""] * 4,
-            "1e1": ["", "1", "2", ""], "1e0": ["10", "4", "5", "4"], "1e-1 to 1e-5": [""] * 4, "1e-6": ["1", "", "", ""], "zero": ["", "4", "2", "6"],
-        })
+        self.assertEqual(
+            reader.table("Smallest and largest numbers")["coefficients"],
+            ["12", "0.000001", 'HOURS, LINE"1"', "1e7", "BIG&BOLD, FIRST", "1e13"],
+        )
+        self.assertEqual(
+            reader.table("How many numbers have each power of ten"),
+            {
+                "1e11": ["", "", "1", ""],
+                "1e10": [""] * 4,
+                "1e9": [""] * 4,
+                "1e8": [""] * 4,
+                "1e7": ["1", "", "", ""],
+                "1e6 to 1e2": [""] * 4,
+                "1e1": ["", "1", "2", ""],
+                "1e0": ["10", "4", "5", "4"],
+                "1e-1 to 1e-5": [""] * 4,
+                "1e-6": ["1", "", "", ""],
+                "zero": ["", "4", "2", "6"],
+            },
+        )
 
     def test_each_power_of_ten(self):
         """Powers of ten, their neighbours of 15 digits, and numbers that no double has."""
-        literals = [f"{mantissa}e{power - len(mantissa) + 1}" for power in range(-470, 471) for mantissa in ("1", "999999999999999", "100000000000001", "5")]
+        literals = [
+            f"{mantissa}e{power - len(mantissa) + 1}"
+            for power in range(-470, 471)
+            for mantissa in ("1", "999999999999999", "100000000000001", "5")
+        ]
         lines = [f"    x{place:05}  r  {'-' if place % 2 else ''}{literal}" for place, literal in enumerate(literals)]
         text = "\n".join(["ROWS", " N  c", " L  r", "COLUMNS", *lines, "ENDATA", ""])
         reader = read_page(text)
         self.check(mpslp.load(text.encode(), "mps"), reader)
-        self.assertIn(f"Coefficients of a magnitude that no double has: {4 * (470 - 308) + 4 * (470 - 324):,}.", reader.text["li"])
+        self.assertIn(
+            f"Coefficients of a magnitude that no double has: {4 * (470 - 308) + 4 * (470 - 324):,}.", reader.text["li"]
+        )
 
     def test_coefficients_that_doubles_do_not_distinguish(self):
-        text = "ROWS\n N  c\n L  r\nCOLUMNS\n    x  r  10\n    y  r  -9.99999999999999999\n    z  r  10.00000000000000001\nENDATA\n"
+        text = (
+            "ROWS\n N  c\n L  r\nCOLUMNS\n    x  r  10\n    y  r  -9.99999999999999999\n"
+            "    z  r  10.00000000000000001\nENDATA\n"
+        )
         reader = read_page(text)
         self.check(mpslp.load(text.encode(), "mps"), reader)
-        self.assertEqual(reader.table("Smallest and largest numbers")["coefficients"][1:5], ["-9.99999999999999999", "r, y", "10.00000000000000001", "r, z"])
+        self.assertEqual(
+            reader.table("Smallest and largest numbers")["coefficients"][1:5],
+            ["-9.99999999999999999", "r, y", "10.00000000000000001", "r, z"],
+        )
 
     def test_limits_and_bounds_that_no_double_has(self):
-        text = "ROWS\n N  c\n E  r\n L  s\nCOLUMNS\n    x  c  1e-470  r  1\n    y  s  1\nRHS\n    r  -3e-450\nBOUNDS\n UP  x  2e-400\nENDATA\n"
+        text = (
+            "ROWS\n N  c\n E  r\n L  s\nCOLUMNS\n    x  c  1e-470  r  1\n    y  s  1\nRHS\n    r  -3e-450\n"
+            "BOUNDS\n UP  x  2e-400\nENDATA\n"
+        )
         self.check(mpslp.load(text.encode(), "mps"), read_page(text))
 
     def test_ratios(self):
-        for second, shown in (("4.6", "4.6"), ("1", "1"), ("998.4", "998"), ("999.6", "1e3"), ("1049", "1e3"), ("1051", "1.1e3"), ("1e400", "1e400")):
+        for second, shown in (
+            ("4.6", "4.6"),
+            ("1", "1"),
+            ("998.4", "998"),
+            ("999.6", "1e3"),
+            ("1049", "1e3"),
+            ("1051", "1.1e3"),
+            ("1e400", "1e400"),
+        ):
             with self.subTest(second):
                 reader = read_page(f"ROWS\n N  c\n L  r\nCOLUMNS\n    x  r  1\n    y  r  -{second}\nENDATA\n")
                 self.assertEqual(reader.table("Smallest and largest numbers")["coefficients"][5], shown)
 
     def test_remarks_on_ranges(self):
-        for first, second, words in (("1", "1000000", None), ("1", "1000001", "wide"), ("0.001", "1e6", "wide"), ("0.001", "1000001", "very wide")):
+        for first, second, words in (
+            ("1", "1000000", None),
+            ("1", "1000001", "wide"),
+            ("0.001", "1e6", "wide"),
+            ("0.001", "1000001", "very wide"),
+        ):
             with self.subTest(first=first, second=second):
                 text = f"ROWS\n N  c\n L  r\nCOLUMNS\n    x  r  {first}\n    y  r  {second}\nENDATA\n"
                 remarks = read_page(text).text.get("li", "")
-                self.assertEqual(f"the range is {words}," in remarks if words else "the range is" in remarks, bool(words))
+                self.assertEqual(
+                    f"the range is {words}," in remarks if words else "the range is" in remarks, bool(words)
+                )
 
     def test_remarks_on_numbers(self):
-        text = ("ROWS\n N  c\n L  r\nCOLUMNS\n    x  r  9e-10\n    y  r  1e15\n    z  c  1  r  1e400\nRHS\n    r  1e10\nBOUNDS\n UP  x  99999999999\n UP  y  9e9\nENDATA\n")
+        text = (
+            "ROWS\n N  c\n L  r\nCOLUMNS\n    x  r  9e-10\n    y  r  1e15\n    z  c  1  r  1e400\nRHS\n"
+            "    r  1e10\nBOUNDS\n UP  x  99999999999\n UP  y  9e9\nENDATA\n"
+        )
         remarks = read_page(text).text["li"]
-        for words in ("magnitude below 1e-9: 1.", "magnitude 1e15 or more: 2.", "Row limits (RHS) of magnitude 1e10 or more: 1.",
-                      "Column bounds of magnitude 1e10 or more: 1.", "Coefficients of a magnitude that no double has: 1."):
+        for words in (
+            "magnitude below 1e-9: 1.",
+            "magnitude 1e15 or more: 2.",
+            "Row limits (RHS) of magnitude 1e10 or more: 1.",
+            "Column bounds of magnitude 1e10 or more: 1.",
+            "Coefficients of a magnitude that no double has: 1.",
+        ):
             self.assertIn(words, remarks)
         self.assertIn("There are no remarks.", read_page(EXAMPLES / "small.mps").text["p"])
 
@@ -430,8 +419,13 @@ class Pictures(unittest.TestCase):
 
     def test_places_of_a_small_model(self):
         """Rows and columns are in the order of the file."""
-        reader = read_page("ROWS\n N  c\n L  second\n L  first\nCOLUMNS\n    y  second  1\n    x  first  -1e-400  second  2.00000000000000001\nENDATA\n")
-        places = [(attributes["class"], float(attributes["x"]), float(attributes["y"])) for attributes in reader.found("rect")]
+        reader = read_page(
+            "ROWS\n N  c\n L  second\n L  first\nCOLUMNS\n    y  second  1\n"
+            "    x  first  -1e-400  second  2.00000000000000001\nENDATA\n"
+        )
+        places = [
+            (attributes["class"], float(attributes["x"]), float(attributes["y"])) for attributes in reader.found("rect")
+        ]
         frame, *squares = places
         steps = [(sign, round((x - frame[1]) // 18), round((y - frame[2]) // 18)) for sign, x, y in squares]
         self.assertEqual(sorted(steps), [("negative", 1, 1), ("positive", 0, 0), ("positive", 1, 0)])
@@ -439,7 +433,8 @@ class Pictures(unittest.TestCase):
             self.assertIn(title, reader.text["title"])
 
     def png(self, reader):
-        """The width, the height and the lines of pixels of the PNG of a page, which are numbers of the palette; and the palette's alphas."""
+        """The width, the height and the lines of pixels of the PNG of a page, which are numbers of the palette; and the
+        palette's alphas."""
         (image,) = reader.found("image")
         content = b64decode(image["href"].removeprefix("data:image/png;base64,"), validate=True)
         self.assertEqual(content[:8], b"\x89PNG\r\n\x1a\n")
@@ -457,14 +452,23 @@ class Pictures(unittest.TestCase):
         lines = zlib.decompress(chunks[b"IDAT"])
         self.assertEqual(len(lines), height * (width + 1))
         self.assertEqual(set(lines[:: width + 1]), {0})
-        return width, height, [lines[start + 1 : start + 1 + width] for start in range(0, len(lines), width + 1)], chunks[b"tRNS"]
+        return (
+            width,
+            height,
+            [lines[start + 1 : start + 1 + width] for start in range(0, len(lines), width + 1)],
+            chunks[b"tRNS"],
+        )
 
     def text(self, rows, columns, places):
         """A model with its nonzeros at these places."""
         by_column = {}
         for row, column in places:
             by_column.setdefault(column, []).append(row)
-        lines = [f"    x{column}  {f'r{row}  1' if by_column.get(column) else 'c  1'}" for column in range(columns) for row in by_column.get(column, [0])]
+        lines = [
+            f"    x{column}  {f'r{row}  1' if by_column.get(column) else 'c  1'}"
+            for column in range(columns)
+            for row in by_column.get(column, [0])
+        ]
         return "\n".join(["ROWS", " N  c", *(f" L  r{row}" for row in range(rows)), "COLUMNS", *lines, "ENDATA", ""])
 
     def test_a_point_for_each_place(self):
@@ -484,7 +488,10 @@ class Pictures(unittest.TestCase):
         width, height, lines, alphas = self.png(reader)
         counts = Counter((row * height // rows, column * width // columns) for row, column in places)
         self.assertEqual({(y, x) for y, line in enumerate(lines) for x, pixel in enumerate(line) if pixel}, set(counts))
-        ink = {count: {alphas[lines[y][x]] for (y, x), each in counts.items() if each == count} for count in sorted(set(counts.values()))}
+        ink = {
+            count: {alphas[lines[y][x]] for (y, x), each in counts.items() if each == count}
+            for count in sorted(set(counts.values()))
+        }
         self.assertTrue(all(len(shades) == 1 for shades in ink.values()))
         shades = [min(each) for each in ink.values()]
         self.assertEqual(shades, sorted(shades))
@@ -494,7 +501,9 @@ class Pictures(unittest.TestCase):
     def test_few_rows_or_few_columns(self):
         for rows, columns in ((1, 5000), (5000, 1), (3, 700), (700, 3)):
             with self.subTest(rows=rows, columns=columns):
-                width, height, lines, _ = self.png(read_page(self.text(rows, columns, {(0, 0), (rows - 1, columns - 1)})))
+                width, height, lines, _ = self.png(
+                    read_page(self.text(rows, columns, {(0, 0), (rows - 1, columns - 1)}))
+                )
                 self.assertLessEqual(max(width, height), 640)
                 self.assertGreaterEqual(min(width, height), min(rows, columns))
                 self.assertTrue(lines[0][0] and lines[-1][-1])
@@ -523,100 +532,145 @@ class Defaults(unittest.TestCase):
                 self.assertEqual(column.lower, 0)
             if not given & UPPER:
                 self.assertEqual(column.upper, 1 if column.name in declared.columns_with_upper_1() else INFINITY)
-        self.assertLessEqual(declared.bounds.keys() | declared.marked.keys() | declared.binaries.keys(), model.columns.keys())
+        self.assertLessEqual(
+            declared.bounds.keys() | declared.marked.keys() | declared.binaries.keys(), model.columns.keys()
+        )
 
     def test_bounds_of_a_sample(self):
-        self.assertEqual(read_page(SAMPLE).table("Column bounds that the file gives"), {
-            "none": ["0 to infinity", "2", "SEVEN, SIX"],
-            "none, between markers": ["0 to 1", "1", 'LINE"1"'],
-            "lower": ["the given one to infinity", "1", "LINE'2'"],
-            "upper": ["0 to the given one", "3", "EIGHT, FIRST, THREE"],
-            "lower and upper": ["the given ones", "2", "<b>FOUR</b>, FIVE"],
-        })
+        self.assertEqual(
+            read_page(SAMPLE).table("Column bounds that the file gives"),
+            {
+                "none": ["0 to infinity", "2", "SEVEN, SIX"],
+                "none, between markers": ["0 to 1", "1", 'LINE"1"'],
+                "lower": ["the given one to infinity", "1", "LINE'2'"],
+                "upper": ["0 to the given one", "3", "EIGHT, FIRST, THREE"],
+                "lower and upper": ["the given ones", "2", "<b>FOUR</b>, FIVE"],
+            },
+        )
 
     def test_bounds_of_each_type(self):
         for kinds, given in (
-            (("LO", "MI", "LI"), "lower"), (("UP", "PL", "UI", "SC"), "upper"), (("FX", "FR", "BV"), "lower and upper"),
+            (("LO", "MI", "LI"), "lower"),
+            (("UP", "PL", "UI", "SC"), "upper"),
+            (("FX", "FR", "BV"), "lower and upper"),
         ):
             for kind in kinds:
-                for line in (f" {kind}  x", f" {kind}  B  x", f" {kind}  B  x  ignored") if kind in ("MI", "PL", "FR", "BV") else (f" {kind}  x  3", f" {kind}  B  x  3"):
+                for line in (
+                    (f" {kind}  x", f" {kind}  B  x", f" {kind}  B  x  ignored")
+                    if kind in ("MI", "PL", "FR", "BV")
+                    else (f" {kind}  x  3", f" {kind}  B  x  3")
+                ):
                     with self.subTest(line):
                         reader = read_page(f"ROWS\n N  c\nCOLUMNS\n    x  c  1\n    y  c  1\nBOUNDS\n{line}\nENDATA\n")
-                        lines = {given: cells[2] for given, cells in reader.table("Column bounds that the file gives").items()}
+                        lines = {
+                            given: cells[2]
+                            for given, cells in reader.table("Column bounds that the file gives").items()
+                        }
                         self.assertEqual(lines, {"none": "y", given: "x"})
 
     def test_rules_of_a_sample(self):
         reader = read_page(SAMPLE)
-        self.assertEqual(reader.table("Rules that apply to the file"), {
-            "the comment *SENSE:Maximize": ["", "ignored, as every comment; the sense is minimize"],
-            "no OBJSENSE": ["", "minimize"],
-            "no OBJNAME": ["", "the first N row is the objective: COST"],
-            "a number on the objective in RHS": ["", "the objective has the negative as its constant: 125"],
-            "N rows other than the objective": ["1", "kept as free rows: CO2"],
-            "N rows with a number in RHS": ["1", "the number is ignored: CO2"],
-            "rows without a number in RHS": ["2", "the right-hand side is 0"],
-            "right-hand sides of magnitude 1e20 or more": ["1", "no limit: a row without another one is free"],
-            "numbers R in RANGES on L rows": ["1", "from RHS - |R| to RHS"],
-            "numbers R in RANGES on G rows": ["1", "from RHS to RHS + |R|"],
-            "numbers R in RANGES on E rows, R above 0": ["1", "from RHS to RHS + R"],
-            "numbers R in RANGES on E rows, R below 0": ["1", "from RHS - |R| to RHS"],
-            "columns between markers": ["3", "integer"],
-            "bounds of type MI": ["1", "no lower bound; the upper bound stays what it is"],
-            "columns between markers without a bound": ["1", 'the bounds are 0 and 1: LINE"1"'],
-            "columns between markers with a lower bound only": ["1", "no upper bound: LINE'2'"],
-            "upper bounds of 0 without a lower bound": ["1", "fixed at 0: EIGHT"],
-            "upper bounds below 0": ["1", "each has its lower bound in the file, as is required: <b>FOUR</b>"],
-            "bounds of magnitude 1e20 or more": ["1", "infinite: no bound"],
-            "coefficients of 0": ["2", "accepted, and not part of the model"],
-            "columns without a coefficient": ["1", "part of the model: SIX"],
-            "the problem name WEEK-PLAN": ["", "not part of the model"],
-            "text after ENDATA": ["", "ignored"],
-        })
-        for words in ("Rows without a nonzero (2): ", "Columns that are only in the objective (1): ", "The comment *SENSE:Maximize: ", "Text after ENDATA: "):
+        self.assertEqual(
+            reader.table("Rules that apply to the file"),
+            {
+                "the comment *SENSE:Maximize": ["", "ignored, as every comment; the sense is minimize"],
+                "no OBJSENSE": ["", "minimize"],
+                "no OBJNAME": ["", "the first N row is the objective: COST"],
+                "a number on the objective in RHS": ["", "the objective has the negative as its constant: 125"],
+                "N rows other than the objective": ["1", "kept as free rows: CO2"],
+                "N rows with a number in RHS": ["1", "the number is ignored: CO2"],
+                "rows without a number in RHS": ["2", "the right-hand side is 0"],
+                "right-hand sides of magnitude 1e20 or more": ["1", "no limit: a row without another one is free"],
+                "numbers R in RANGES on L rows": ["1", "from RHS - |R| to RHS"],
+                "numbers R in RANGES on G rows": ["1", "from RHS to RHS + |R|"],
+                "numbers R in RANGES on E rows, R above 0": ["1", "from RHS to RHS + R"],
+                "numbers R in RANGES on E rows, R below 0": ["1", "from RHS - |R| to RHS"],
+                "columns between markers": ["3", "integer"],
+                "bounds of type MI": ["1", "no lower bound; the upper bound stays what it is"],
+                "columns between markers without a bound": ["1", 'the bounds are 0 and 1: LINE"1"'],
+                "columns between markers with a lower bound only": ["1", "no upper bound: LINE'2'"],
+                "upper bounds of 0 without a lower bound": ["1", "fixed at 0: EIGHT"],
+                "upper bounds below 0": ["1", "each has its lower bound in the file, as is required: <b>FOUR</b>"],
+                "bounds of magnitude 1e20 or more": ["1", "infinite: no bound"],
+                "coefficients of 0": ["2", "accepted, and not part of the model"],
+                "columns without a coefficient": ["1", "part of the model: SIX"],
+                "the problem name WEEK-PLAN": ["", "not part of the model"],
+                "text after ENDATA": ["", "ignored"],
+            },
+        )
+        for words in (
+            "Rows without a nonzero (2): ",
+            "Columns that are only in the objective (1): ",
+            "The comment *SENSE:Maximize: ",
+            "Text after ENDATA: ",
+        ):
             self.assertIn(words, reader.text["li"])
 
     def test_other_rules_of_mps(self):
-        text = ("OBJSENSE MAX\nOBJNAME\n    B\nROWS\n N  A\n N  B\n L  r\n G  s\n E  t\nCOLUMNS\n    x  r  1\n    y  s  1\n    z  t  1\nRANGES\n    r  -0.0  s  -2\n    t  0e5\n"
-                "BOUNDS\n BV  x\n LI  y  2\n UI  z  2\nENDATA\n")
-        self.assertEqual(read_page(text).table("Rules that apply to the file"), {
-            "OBJNAME": ["", "it names the objective: B"],
-            "N rows other than the objective": ["1", "kept as free rows: A"],
-            "rows without a number in RHS": ["3", "the right-hand side is 0"],
-            "numbers R in RANGES on G rows": ["1", "from RHS to RHS + |R|"],
-            "zeros in RANGES on L or G rows": ["1", "both limits are RHS: an equation"],
-            "zeros in RANGES on E rows": ["1", "the row stays an equation"],
-            "bounds of type BV, LI or UI": ["3", "the column is integer"],
-        })
-        self.assertIn("No other rule of the format changes what the file says.", read_page(EXAMPLES / "production.lp").text["p"])
+        text = (
+            "OBJSENSE MAX\nOBJNAME\n    B\nROWS\n N  A\n N  B\n L  r\n G  s\n E  t\nCOLUMNS\n    x  r  1\n"
+            "    y  s  1\n    z  t  1\nRANGES\n    r  -0.0  s  -2\n    t  0e5\n"
+            "BOUNDS\n BV  x\n LI  y  2\n UI  z  2\nENDATA\n"
+        )
+        self.assertEqual(
+            read_page(text).table("Rules that apply to the file"),
+            {
+                "OBJNAME": ["", "it names the objective: B"],
+                "N rows other than the objective": ["1", "kept as free rows: A"],
+                "rows without a number in RHS": ["3", "the right-hand side is 0"],
+                "numbers R in RANGES on G rows": ["1", "from RHS to RHS + |R|"],
+                "zeros in RANGES on L or G rows": ["1", "both limits are RHS: an equation"],
+                "zeros in RANGES on E rows": ["1", "the row stays an equation"],
+                "bounds of type BV, LI or UI": ["3", "the column is integer"],
+            },
+        )
+        self.assertIn(
+            "No other rule of the format changes what the file says.", read_page(EXAMPLES / "production.lp").text["p"]
+        )
         text = "NAME\nROWS\n L  r\nCOLUMNS\n    x  r  1\nENDATA\n"
-        self.assertEqual(read_page(text).table("Rules that apply to the file")["no N row"], ["", "an empty objective called obj"])
+        self.assertEqual(
+            read_page(text).table("Rules that apply to the file")["no N row"], ["", "an empty objective called obj"]
+        )
 
     def test_rules_of_lp(self):
-        text = ("max 2 x - y + 3 z + 5 \\ 7 w :\nsubject to\n r: x + y <= 4 3 <= x + y\n <= 1e1 s: x + 0 y >= - 1e20 -1e21 <= x - z <= + inf\n"
-                "bounds\n x <= 0 y <= -1 y >= -inf\n-1e30 <= z <= 1e19\n 2 = u\n v free\n 3 <= w\n 1 >= b\nbinaries b c\ngeneral x\nend \\ it\nmore\n")
+        text = (
+            "max 2 x - y + 3 z + 5 \\ 7 w :\nsubject to\n r: x + y <= 4 3 <= x + y\n"
+            " <= 1e1 s: x + 0 y >= - 1e20 -1e21 <= x - z <= + inf\n"
+            "bounds\n x <= 0 y <= -1 y >= -inf\n-1e30 <= z <= 1e19\n 2 = u\n v free\n 3 <= w\n 1 >= b\n"
+            "binaries b c\ngeneral x\nend \\ it\nmore\n"
+        )
         with tempfile.TemporaryDirectory() as directory:
             path = Path(directory, "a.lp")
             path.write_text(text)
             model, reader = mpslp.load(path), read_page(path)
         self.assertEqual(len(model.rows), 4)
-        self.assertEqual(reader.table("Rules that apply to the file"), {
-            "no label on the objective": ["", "its name is obj"],
-            "rows without a label": ["2", "named c and the position among all rows"],
-            "sides of rows that are inf, or of magnitude 1e20 or more": ["3", "no limit: a row without another one is free"],
-            "columns under Binaries": ["2", "integer; the bounds that are not given are 0 and 1"],
-            "upper bounds of 0 without a lower bound": ["1", "fixed at 0: x"],
-            "upper bounds below 0": ["1", "each has its lower bound in the file, as is required: y"],
-            "bounds that are inf, or of magnitude 1e20 or more": ["2", "infinite: no bound"],
-            "coefficients of 0": ["1", "accepted, and not part of the model"],
-            "columns without a coefficient": ["5", "part of the model: b, c, u, v, w"],
-            "text after end": ["", "ignored"],
-        })
-        self.assertEqual(reader.table("Column bounds that the file gives"), {
-            "none, under Binaries": ["0 to 1", "1", "c"],
-            "lower": ["the given one to infinity", "1", "w"],
-            "upper": ["0 to the given one", "2", "b, x"],
-            "lower and upper": ["the given ones", "4", "u, v, y, z"],
-        })
+        self.assertEqual(
+            reader.table("Rules that apply to the file"),
+            {
+                "no label on the objective": ["", "its name is obj"],
+                "rows without a label": ["2", "named c and the position among all rows"],
+                "sides of rows that are inf, or of magnitude 1e20 or more": [
+                    "3",
+                    "no limit: a row without another one is free",
+                ],
+                "columns under Binaries": ["2", "integer; the bounds that are not given are 0 and 1"],
+                "upper bounds of 0 without a lower bound": ["1", "fixed at 0: x"],
+                "upper bounds below 0": ["1", "each has its lower bound in the file, as is required: y"],
+                "bounds that are inf, or of magnitude 1e20 or more": ["2", "infinite: no bound"],
+                "coefficients of 0": ["1", "accepted, and not part of the model"],
+                "columns without a coefficient": ["5", "part of the model: b, c, u, v, w"],
+                "text after end": ["", "ignored"],
+            },
+        )
+        self.assertEqual(
+            reader.table("Column bounds that the file gives"),
+            {
+                "none, under Binaries": ["0 to 1", "1", "c"],
+                "lower": ["the given one to infinity", "1", "w"],
+                "upper": ["0 to the given one", "2", "b, x"],
+                "lower and upper": ["the given ones", "4", "u, v, y, z"],
+            },
+        )
 
 
 class DrawnModels(unittest.TestCase):
@@ -648,7 +702,7 @@ class DrawnModels(unittest.TestCase):
             if form == "lp":
                 with self.subTest(seed):
                     found = declared_by(read(text, "lp"), "")
-                    with mock.patch.object(_Lp, "_TERM", TOKEN):
+                    with mock.patch.object(_lp, "TERM", TOKEN):
                         self.assertEqual(declared_by(read(text, "lp"), ""), found)
 
 
@@ -661,10 +715,19 @@ class Differences(unittest.TestCase):
     def test_two_models(self):
         reader = read_page(SAMPLE, SAMPLE.replace("12  HOURS  4\n", "13  HOURS  4.5\n").replace(" L  EMPTY\n", ""))
         self.assertIn("The files define different models: 3 differences.", reader.text["p"])
-        self.assertEqual(reader.table("Differences of a.mps and b.mps"), {
-            "rows that only one model has": ["1"], "types, bounds and objective coefficients of columns": ["1"], "coefficients in rows": ["1"],
-        })
-        for line in ("- row EMPTY: -inf to 0, 0 entries\n", "column LINE'2': cost 12 -> 13\n", "entry HOURS LINE'2': 4 -> 4.5\n"):
+        self.assertEqual(
+            reader.table("Differences of a.mps and b.mps"),
+            {
+                "rows that only one model has": ["1"],
+                "types, bounds and objective coefficients of columns": ["1"],
+                "coefficients in rows": ["1"],
+            },
+        )
+        for line in (
+            "- row EMPTY: -inf to 0, 0 entries\n",
+            "column LINE'2': cost 12 -> 13\n",
+            "entry HOURS LINE'2': 4 -> 4.5\n",
+        ):
             self.assertIn(line, reader.text["code"])
         self.assertEqual(reader.table("The model")["rows"], ["8", "7", "differs"])
         self.assertEqual(reader.table("The model")["columns"], ["9", "9", ""])
@@ -674,8 +737,12 @@ class Differences(unittest.TestCase):
     def test_what_is_compared(self):
         first = "ROWS\n N  c\n L  r\nCOLUMNS\n    x  r  1  c  2\nENDATA\n"
         second = first.replace("r", "<r>").replace("1", "1.0001")
-        self.assertIn("2 differences if they are compared to 3 digits", read_page(first, second, digits=3).text["p"] + " ")
-        self.assertIn("1 difference if they are compared by position", read_page(first, second, by_position=True).text["p"])
+        self.assertIn(
+            "2 differences if they are compared to 3 digits", read_page(first, second, digits=3).text["p"] + " "
+        )
+        self.assertIn(
+            "1 difference if they are compared by position", read_page(first, second, by_position=True).text["p"]
+        )
         both = read_page(first, second, digits=3, by_position=True)
         self.assertIn("there is no difference if they are compared to 3 digits and by position.", both.text["p"])
 
@@ -684,7 +751,9 @@ class Differences(unittest.TestCase):
         reader = read_page(first, first.replace("  1e1\n", "  11\n"))
         self.assertEqual(reader.table("Differences of a.mps and b.mps"), {"coefficients in rows": ["1,500"]})
         self.assertEqual(reader.text["summary"], "The first 100 differences; mpslp-tools diff prints all\n")
-        self.assertEqual(len(reader.found("li")) - len(read_page(first).found("li")), 100 + 1)  # and a link to the section
+        self.assertEqual(
+            len(reader.found("li")) - len(read_page(first).found("li")), 100 + 1
+        )  # and a link to the section
 
 
 if __name__ == "__main__":

@@ -1,4 +1,5 @@
-"""Names whose hashes are equal for whoever knows the seed are as fast as other names, since each call has a seed of its own."""
+"""Names whose hashes are equal for whoever knows the seed are as fast as other names, since each call has a seed of its
+own."""
 
 import sys
 import time
@@ -38,7 +39,9 @@ class Seeds(unittest.TestCase):
 
     def assert_as_fast(self, call, form):
         """A call takes about as long on what names that collide make as on what others make."""
-        taken, usual = (seconds(lambda: call(text_of_names)) for text_of_names in (text_of(colliding, form), text_of(alike, form)))
+        taken, usual = (
+            seconds(lambda: call(text_of_names)) for text_of_names in (text_of(colliding, form), text_of(alike, form))
+        )
         self.assertLess(taken, self.MOST * usual)
 
     def test_texts(self):

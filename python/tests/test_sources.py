@@ -37,8 +37,15 @@ class Buffers(unittest.TestCase):
 
         spread = bytearray(2 * len(TEXT))
         spread[::2] = TEXT
-        for source in (TEXT, Named(TEXT), bytearray(TEXT), memoryview(TEXT), memoryview(bytearray(TEXT)), memoryview(spread)[::2],
-                       array.array("B", TEXT)):
+        for source in (
+            TEXT,
+            Named(TEXT),
+            bytearray(TEXT),
+            memoryview(TEXT),
+            memoryview(bytearray(TEXT)),
+            memoryview(spread)[::2],
+            array.array("B", TEXT),
+        ):
             with self.subTest(type(source)):
                 self.assertEqual(mpslp.canonical(source, "mps"), CANONICAL)
                 self.assertIs(mpslp.is_canonical(source, "mps"), False)
@@ -64,9 +71,16 @@ class Buffers(unittest.TestCase):
 
     def test_what_is_no_text(self):
         for source in (None, 7, 1.5, ["NAME"], object(), mpslp.load(TEXT, "mps")):
-            for call in (mpslp.canonical, mpslp.is_canonical, mpslp.load, lambda *words: mpslp.same(TEXT, words[0], "mps", *words[1:])):
+            for call in (
+                mpslp.canonical,
+                mpslp.is_canonical,
+                mpslp.load,
+                lambda *words: mpslp.same(TEXT, words[0], "mps", *words[1:]),
+            ):
                 for words in ((), ("mps",), ("qps",)):
-                    with self.subTest(source, words=words), self.assertRaisesRegex(TypeError, "^a text is bytes, a path or an open binary file, not "):
+                    with self.subTest(source, words=words), self.assertRaisesRegex(
+                        TypeError, "^a text is bytes, a path or an open binary file, not "
+                    ):
                         call(source, *words)
 
 
@@ -91,7 +105,15 @@ class Paths(unittest.TestCase):
 
     def test_the_format_is_known_from_the_ending(self):
         lp = (EXAMPLES / "small.lp").read_bytes()
-        for name, text in (("a.mps", TEXT), (".mps", TEXT), ("a.MPS", TEXT), ("a.lp.mps", TEXT), ("a.lp", lp), ("a.Lp", lp), ("a.mps.lp", lp)):
+        for name, text in (
+            ("a.mps", TEXT),
+            (".mps", TEXT),
+            ("a.MPS", TEXT),
+            ("a.lp.mps", TEXT),
+            ("a.lp", lp),
+            ("a.Lp", lp),
+            ("a.mps.lp", lp),
+        ):
             with self.subTest(name):
                 self.assertEqual(mpslp.canonical(self.file(name, text), to_format="mps"), CANONICAL)
 
@@ -114,13 +136,18 @@ class Paths(unittest.TestCase):
         path = self.file("broken.lp", b"min x y\nend\n")
         good = EXAMPLES / "small.lp"
         for call, source in (
-            (mpslp.canonical, path), (mpslp.is_canonical, str(path)), (mpslp.load, BytesPath(path)),
-            (lambda source: mpslp.same(source, good), path), (lambda source: mpslp.same(good, source), path),
+            (mpslp.canonical, path),
+            (mpslp.is_canonical, str(path)),
+            (mpslp.load, BytesPath(path)),
+            (lambda source: mpslp.same(source, good), path),
+            (lambda source: mpslp.same(good, source), path),
             (lambda source: mpslp.same(b"min x\nend\n", source, "lp"), path),
         ):
             with self.subTest(type(source)), self.assertRaises(mpslp.ModelFileError) as caught:
                 call(source)
-            self.assertEqual((caught.exception.filename, str(caught.exception)), (str(path), f"{path}: line 1: BadToken"))
+            self.assertEqual(
+                (caught.exception.filename, str(caught.exception)), (str(path), f"{path}: line 1: BadToken")
+            )
             for other in (pickle.loads(pickle.dumps(caught.exception)), copy.copy(caught.exception)):
                 self.assertEqual((other.filename, str(other)), (str(path), f"{path}: line 1: BadToken"))
         with self.assertRaises(mpslp.ModelFileError) as caught:
@@ -164,7 +191,10 @@ class CompressedFiles(unittest.TestCase):
 
     def test_a_text_as_str(self):
         for text in ("min x\nend\n", "NAME\nROWS\n N  COST\nENDATA"):
-            with self.assertRaisesRegex(ValueError, "^a str is the path of a file, and this one has several lines: give a text as bytes, with its format$"):
+            with self.assertRaisesRegex(
+                ValueError,
+                "^a str is the path of a file, and this one has several lines: give a text as bytes, with its format$",
+            ):
                 mpslp.load(text)
 
     def test_paths_give_compression_and_format(self):
@@ -191,7 +221,13 @@ class CompressedFiles(unittest.TestCase):
     def test_files_that_are_broken(self):
         for ending, pack in self.packs.items():
             whole = pack(TEXT * 20)
-            for content in (TEXT, whole[:-1], whole[: len(whole) // 2], whole[:3], whole[:20] + b"\xff" * 20 + whole[40:]):
+            for content in (
+                TEXT,
+                whole[:-1],
+                whole[: len(whole) // 2],
+                whole[:3],
+                whole[:20] + b"\xff" * 20 + whole[40:],
+            ):
                 path = self.file(f"a.mps{ending}", content)
                 with self.subTest(ending, len=len(content)), self.assertRaises(OSError) as caught:
                     mpslp.load(path)
@@ -214,7 +250,14 @@ class CompressedFiles(unittest.TestCase):
 
     def test_zeros_after_the_end(self):
         """They are legal for gzip, and for xz in fours; also between parts."""
-        for ending, zeros, is_legal in ((".gz", 1, True), (".gz", 5000, True), (".xz", 4, True), (".xz", 4096, True), (".xz", 3, False), (".bz2", 4, False)):
+        for ending, zeros, is_legal in (
+            (".gz", 1, True),
+            (".gz", 5000, True),
+            (".xz", 4, True),
+            (".xz", 4096, True),
+            (".xz", 3, False),
+            (".bz2", 4, False),
+        ):
             pack = self.packs[ending]
             for content in (pack(TEXT) + bytes(zeros), pack(TEXT[:40]) + bytes(zeros) + pack(TEXT[40:])):
                 path = self.file(f"a.mps{ending}", content)
@@ -254,7 +297,9 @@ class OpenFiles(unittest.TestCase):
                 self.assertEqual(file.read(), b"")
             with open(path, "rb", buffering=0) as file:
                 self.assertEqual(mpslp.load(file), mpslp.load(path))
-        with open(EXAMPLES / "small.mps", "rb") as file, self.assertRaisesRegex(mpslp.ModelFileError, "small.mps: line "):
+        with open(EXAMPLES / "small.mps", "rb") as file, self.assertRaisesRegex(
+            mpslp.ModelFileError, "small.mps: line "
+        ):
             mpslp.load(file, "lp")
 
     def test_files_without_a_path(self):
@@ -274,7 +319,9 @@ class OpenFiles(unittest.TestCase):
                 self.assertEqual(mpslp.canonical(file), CANONICAL)
 
     def test_files_of_text(self):
-        with open(EXAMPLES / "small.mps") as file, self.assertRaisesRegex(TypeError, "open binary file, not TextIOWrapper"):
+        with open(EXAMPLES / "small.mps") as file, self.assertRaisesRegex(
+            TypeError, "open binary file, not TextIOWrapper"
+        ):
             mpslp.load(file)
         with self.assertRaisesRegex(TypeError, "open binary file, not StringIO"):
             mpslp.load(io.StringIO("min x"), "lp")

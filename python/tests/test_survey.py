@@ -17,7 +17,8 @@ from pathlib import Path
 from unittest import mock
 
 import mpslp
-from mpslp import _survey, _workers
+from mpslp import _survey
+from mpslp._files import _workers
 from repository import EXAMPLES, VECTORS, form_of, model_files
 from test_tools import CANONICAL_LP, SMALL, TOOLS, Directory, read_to_the_end
 
@@ -30,11 +31,26 @@ class Collection(Directory):
 
     def setUp(self):
         super().setUp()
-        for name, content in (("a.mps", SMALL), ("b.lp", ADAPTABLE), ("deep/c.lp", CANONICAL_LP), ("deep/d.lp.gz", gzip.compress(QUADRATIC)), ("e.mps.gz", b"no gzip"),
-                              ("f.mps", b"ROWS\n"), (".hidden/g.mps", SMALL), ("notes.txt", b"")):
+        for name, content in (
+            ("a.mps", SMALL),
+            ("b.lp", ADAPTABLE),
+            ("deep/c.lp", CANONICAL_LP),
+            ("deep/d.lp.gz", gzip.compress(QUADRATIC)),
+            ("e.mps.gz", b"no gzip"),
+            ("f.mps", b"ROWS\n"),
+            (".hidden/g.mps", SMALL),
+            ("notes.txt", b""),
+        ):
             self.file(name, content)
 
-    RESULTS = {"./a.mps": "accepted", "./b.lp": "adapted", "./deep/c.lp": "accepted", "./deep/d.lp.gz": "rejected", "./e.mps.gz": "unreadable", "./f.mps": "rejected"}
+    RESULTS = {
+        "./a.mps": "accepted",
+        "./b.lp": "adapted",
+        "./deep/c.lp": "accepted",
+        "./deep/d.lp.gz": "rejected",
+        "./e.mps.gz": "unreadable",
+        "./f.mps": "rejected",
+    }
 
 
 class Calls(Collection):
@@ -42,14 +58,21 @@ class Calls(Collection):
         found = mpslp.survey(".")
         self.assertEqual({file.path: file.result for file in found.files}, self.RESULTS)
         a, b, c, d, e, f = found.files
-        self.assertEqual((a.rows, a.columns, a.entries, a.bytes, a.format, a.error, a.note), (2, 2, 2, len(SMALL), "mps", "", ""))
+        self.assertEqual(
+            (a.rows, a.columns, a.entries, a.bytes, a.format, a.error, a.note), (2, 2, 2, len(SMALL), "mps", "", "")
+        )
         self.assertEqual((a.digest, c.digest), (mpslp.digest(SMALL, "mps"), a.digest))
         self.assertEqual((b.rows, b.columns, b.entries, b.format), (2, 1, 2, "lp"))
-        self.assertEqual((b.error, b.line, dict(b.changes)), ("ConstantInRow", 3, {"constant-in-row": 1, "product": 1, "added-constants": 1}))
+        self.assertEqual(
+            (b.error, b.line, dict(b.changes)),
+            ("ConstantInRow", 3, {"constant-in-row": 1, "product": 1, "added-constants": 1}),
+        )
         self.assertEqual(b.digest, mpslp.digest(mpslp.adapt(ADAPTABLE, "lp").text, "lp"))
-        self.assertEqual((d.error, d.line, d.rows, d.digest, d.bytes), ("Quadratic", 3, None, None, len(gzip.compress(QUADRATIC))))
+        self.assertEqual(
+            (d.error, d.line, d.rows, d.digest, d.bytes), ("Quadratic", 3, None, None, len(gzip.compress(QUADRATIC)))
+        )
         self.assertIn("a quadratic term", d.reason)
-        self.assertEqual(d.note, f"line 3: Quadratic; {d.reason}")
+        self.assertEqual(d.note, "line 3: Quadratic" + d.reason.removeprefix("line 3"))
         self.assertEqual((e.reason, e.error, e.bytes), ("not a complete .gz file: Not a gzipped file (b'no')", "", 7))
         self.assertEqual((f.error, f.line, f.reason), ("MissingEnd", None, ""))
         self.assertGreater(min(file.seconds for file in found.files), 0)
@@ -74,7 +97,9 @@ class Calls(Collection):
         self.assertEqual(results["none.lp"], ("unreadable", "No such file or directory"))
         self.assertEqual(results["notes.txt"][0], "unreadable")
         self.assertIn("has to be given", results["notes.txt"][1])
-        self.assertEqual((results["c.lp"][0], results["d.lp.gz"][0], results["f.mps"][0]), ("accepted", "rejected", "rejected"))
+        self.assertEqual(
+            (results["c.lp"][0], results["d.lp.gz"][0], results["f.mps"][0]), ("accepted", "rejected", "rejected")
+        )
         self.assertEqual(mpslp.survey().files, ())
 
     def test_processes_find_the_same(self):
@@ -100,7 +125,10 @@ class Calls(Collection):
 
         with mock.patch("os.walk", walk):
             found = mpslp.survey(".")
-        self.assertEqual([(file.path, file.result, file.reason, file.format) for file in found.files], [(".", "unreadable", "Permission denied", None)])
+        self.assertEqual(
+            [(file.path, file.result, file.reason, file.format) for file in found.files],
+            [(".", "unreadable", "Permission denied", None)],
+        )
 
     def test_records(self):
         found = mpslp.survey(".")
@@ -118,9 +146,10 @@ class Calls(Collection):
                     self.assertIn(file.result, ("adapted", "rejected"))
                     self.assertEqual((file.error, file.line), (error.kind, error.line))
                     if file.result == "adapted":
-                        self.assertEqual(file.digest, mpslp.digest(mpslp.adapt(file.path).text, form_of(Path(file.path))))
+                        self.assertEqual(
+                            file.digest, mpslp.digest(mpslp.adapt(file.path).text, form_of(Path(file.path)))
+                        )
         self.assertEqual(len(mpslp.survey(EXAMPLES, VECTORS).files), len(paths))
-
 
     def test_a_dialect(self):
         """Each file is adapted, also one that is accepted."""
@@ -128,7 +157,14 @@ class Calls(Collection):
         self.assertEqual([file.result for file in mpslp.survey("pulp.mps").files], ["accepted"])
         found = mpslp.survey("pulp.mps", "a.mps", "f.mps", dialect="pulp")
         results = {file.path: (file.result, dict(file.changes), file.error) for file in found.files}
-        self.assertEqual(results, {"pulp.mps": ("adapted", {"pulp-sense": 1}, ""), "a.mps": ("accepted", {}, ""), "f.mps": ("rejected", {}, "MissingEnd")})
+        self.assertEqual(
+            results,
+            {
+                "pulp.mps": ("adapted", {"pulp-sense": 1}, ""),
+                "a.mps": ("accepted", {}, ""),
+                "f.mps": ("rejected", {}, "MissingEnd"),
+            },
+        )
         self.assertEqual(found.files[2].digest, mpslp.digest(mpslp.adapt("pulp.mps", dialect="pulp").text, "mps"))
         self.assertEqual(mpslp.survey(".", dialect="none").results, mpslp.survey(".").results)
         with self.assertRaisesRegex(ValueError, "unknown dialect"):
@@ -139,10 +175,21 @@ class Written(Collection):
     def test_text(self):
         text = str(mpslp.survey("."))
         self.assertRegex(text, r"(?m)^accepted +2 +2 +2 +147 +\d\.\d\d  \./a\.mps$")
-        self.assertRegex(text, r"(?m)^adapted +2 +1 +2 +39 +\d\.\d\d  \./b\.lp  \(constant-in-row 1, added-constants 1, product 1\)$")
-        self.assertRegex(text, r"(?m)^rejected +- +- +- +\d+ +\d\.\d\d  \./deep/d\.lp\.gz  \(line 3: Quadratic; line 3: a quadratic term.*\)$")
-        self.assertRegex(text, r"(?m)^6 files, [\d,]+ bytes, \d\.\d seconds: 2 accepted, 1 adapted, 2 rejected, 1 unreadable$")
-        self.assertIn("\nerrors of the files as found:\n     1  ConstantInRow\n     1  MissingEnd\n     1  Quadratic\n\nfiles adapted, by change:\n", text)
+        self.assertRegex(
+            text, r"(?m)^adapted +2 +1 +2 +39 +\d\.\d\d  \./b\.lp  \(constant-in-row 1, added-constants 1, product 1\)$"
+        )
+        self.assertRegex(
+            text,
+            r"(?m)^rejected +- +- +- +\d+ +\d\.\d\d  \./deep/d\.lp\.gz  \(line 3: Quadratic: a quadratic term.*\)$",
+        )
+        self.assertRegex(
+            text, r"(?m)^6 files, [\d,]+ bytes, \d\.\d seconds: 2 accepted, 1 adapted, 2 rejected, 1 unreadable$"
+        )
+        self.assertIn(
+            "\nerrors of the files as found:\n     1  ConstantInRow\n     1  MissingEnd\n     1  Quadratic\n\n"
+            "files adapted, by change:\n",
+            text,
+        )
         self.assertTrue(text.endswith("\nequal models:\n  ./a.mps ./deep/c.lp"))
         self.assertRegex(str(mpslp.survey("a.mps")), r"\A.*\n.*\n\n1 file, 147 bytes, \d\.\d seconds: 1 accepted\Z")
         self.assertEqual(str(mpslp.Survey(())).splitlines()[1:], ["", "0 files, 0 bytes, 0.0 seconds: none"])
@@ -151,7 +198,10 @@ class Written(Collection):
         rows = list(csv.DictReader(io.StringIO(mpslp.survey(".").csv())))
         self.assertEqual({row["path"]: row["result"] for row in rows}, self.RESULTS)
         self.assertEqual([row["group"] for row in rows], ["1", "", "1", "", "", ""])
-        self.assertEqual((rows[0]["rows"], rows[0]["digest"], rows[0]["error"], rows[0]["changes"]), ("2", mpslp.digest(SMALL, "mps"), "", ""))
+        self.assertEqual(
+            (rows[0]["rows"], rows[0]["digest"], rows[0]["error"], rows[0]["changes"]),
+            ("2", mpslp.digest(SMALL, "mps"), "", ""),
+        )
         self.assertEqual((rows[1]["line"], rows[1]["changes"]), ("3", "constant-in-row:1 added-constants:1 product:1"))
         self.assertEqual((rows[3]["rows"], rows[3]["error"]), ("", "Quadratic"))
 
@@ -159,13 +209,17 @@ class Written(Collection):
         found = mpslp.survey(".")
         content = json.loads(found.json())
         self.assertEqual({file["path"]: file["result"] for file in content["files"]}, self.RESULTS)
-        self.assertEqual((content["results"], content["errors"], content["changes"]), (found.results, found.errors, found.changes))
+        self.assertEqual(
+            (content["results"], content["errors"], content["changes"]), (found.results, found.errors, found.changes)
+        )
         self.assertEqual(content["groups"], [["./a.mps", "./deep/c.lp"]])
         self.assertEqual(content["files"][1]["changes"], {"constant-in-row": 1, "product": 1, "added-constants": 1})
-        self.assertEqual((content["files"][3]["rows"], content["bytes"]), (None, sum(file.bytes for file in found.files)))
+        self.assertEqual(
+            (content["files"][3]["rows"], content["bytes"]), (None, sum(file.bytes for file in found.files))
+        )
 
     def test_names_of_any_bytes(self):
-        name = os.fsdecode(b"\xff,\".mps")
+        name = os.fsdecode(b'\xff,".mps')
         self.file(name)
         found = mpslp.survey(name)
         self.assertEqual(next(csv.DictReader(io.StringIO(found.csv())))["path"], name)
@@ -174,7 +228,11 @@ class Written(Collection):
 
 class Command(Collection):
     def test_forms_and_statuses(self):
-        for words, pattern in ((["deep"], rb"\Aresult .*\n2 files, .*: 1 accepted, 1 rejected\n"), (["--csv", "deep"], rb"\Apath,result,"), (["--json", "-j", "1", "deep"], rb'\A\{\n "files": \[')):
+        for words, pattern in (
+            (["deep"], rb"\Aresult .*\n2 files, .*: 1 accepted, 1 rejected\n"),
+            (["--csv", "deep"], rb"\Apath,result,"),
+            (["--json", "-j", "1", "deep"], rb'\A\{\n "files": \['),
+        ):
             done = self.run_tools("survey", *words)
             self.assertEqual((done.returncode, done.stderr), (0, b""), words)
             self.assertRegex(done.stdout, re.compile(pattern, re.S))
@@ -182,7 +240,11 @@ class Command(Collection):
         self.file("pulp.txt", b"*SENSE:Maximize\nROWS\n N  C\nCOLUMNS\n    X  C  1\nENDATA\n")
         done = self.run_tools("survey", "-f", "mps", "--from", "pulp", "--csv", "pulp.txt")
         self.assertRegex(done.stdout, rb"\npulp.txt,adapted,mps,")
-        for words, content, result in ((["-f", "lp"], b"min x\nend\n", b"accepted,lp,10,"), (["-f", "mps"], Path("pulp.txt").read_bytes(), b"accepted,mps,54,"), (["-f", "lp"], b"min x", b"rejected,lp,5,")):
+        for words, content, result in (
+            (["-f", "lp"], b"min x\nend\n", b"accepted,lp,10,"),
+            (["-f", "mps"], Path("pulp.txt").read_bytes(), b"accepted,mps,54,"),
+            (["-f", "lp"], b"min x", b"rejected,lp,5,"),
+        ):
             done = self.run_tools("survey", "--csv", *words, "-", content=content)
             self.assertEqual((done.returncode, done.stderr), (0, b""))
             self.assertRegex(done.stdout, b"\n-," + result)
@@ -203,35 +265,53 @@ class Command(Collection):
     def test_progress_on_a_terminal(self):
         os.mkfifo("deep/e.lp")
         main, terminal = pty.openpty()
-        running = subprocess.Popen([*TOOLS, "survey", "-j", "1", "deep"], cwd=self.folder, stdout=subprocess.PIPE, stderr=terminal)
+        running = subprocess.Popen(
+            [*TOOLS, "survey", "-j", "1", "deep"], cwd=self.folder, stdout=subprocess.PIPE, stderr=terminal
+        )
         os.close(terminal)
         writer = self.opened_as_reader_is_there("deep/e.lp")
         time.sleep(2)
         os.close(writer)
-        running.communicate(timeout=60)
+        running.communicate(timeout=600)
         self.assertEqual(running.returncode, 0)
         self.assertRegex(read_to_the_end(main), rb"\A(\r\x1b\[K2 of 3 files, \d s)+\r\x1b\[K\Z")
 
     def test_interrupted_runs_begin_no_further_file(self):
-        """The processes are interrupted, as at a terminal, while they read pipes, which give no end of file before that."""
-        for jobs, pipes in (("1", ["0.mps"]), ("2", ["0.mps", "1.mps"]), ("3", ["0.mps", "1.mps"])):  # the third is idle
+        """The processes are interrupted, as at a terminal, while they read pipes, which give no end of file before
+        that."""
+        files = ["a.mps", "b.lp"]
+        for jobs, before, pipes, after in (
+            ("1", [], ["0.mps"], files),
+            ("1", files, ["0.mps"], []),
+            ("2", [], ["0.mps", "1.mps"], files),
+            ("3", [], ["0.mps", "1.mps"], files),  # the third process is idle, or will be
+        ):
             for name in pipes:
                 os.mkfifo(name)
-            running = self.begun("survey", "-j", jobs, *pipes, "a.mps", "b.lp", start_new_session=True)
+            running = self.begun("survey", "-j", jobs, *before, *pipes, *after, start_new_session=True)
             writers = [self.opened_as_reader_is_there(name) for name in pipes]
-            time.sleep(1)  # a further process is done with the other files
+            time.sleep(1)  # a further process may be done with the other files
             os.killpg(running.pid, signal.SIGINT)
             time.sleep(1)  # the signal is handled while the pipes are read
             for writer in writers:
                 os.close(writer)
-            output, error = running.communicate(timeout=60)
-            with self.subTest(jobs=jobs):
-                self.assertEqual((running.returncode, output, error), (128 + signal.SIGINT, b"", b""))
+            output, error = running.communicate(timeout=600)
+            with self.subTest(jobs=jobs, before=before):
+                self.assertEqual((running.returncode, error), (128 + signal.SIGINT, b"mpslp-tools: interrupted\n"))
+                done = re.findall(r"(?m)^(?:accepted|adapted) +\d.*  (\S+)(?:  \(.*\))?$", output.decode())
+                if jobs == "3":
+                    self.assertIn(done, ([], files[:1], files))
+                else:
+                    self.assertEqual(done, before)
+                self.assertEqual(len(re.findall(rb"(?m)^2 files, .* seconds: ", output)), done == files)
+                self.assertEqual(output == b"", not done)
             for name in pipes:
                 os.unlink(name)
 
     def test_a_process_that_is_killed(self):
-        with mock.patch.object(_survey, "results_in_order", side_effect=ChildProcessError("a process ended before its file was done")):
+        with mock.patch.object(
+            _survey, "results_as_done", side_effect=ChildProcessError("a process ended before its file was done")
+        ):
             self.prints(["survey", "."], 4, error="a process ended before its file was done\n")
 
 

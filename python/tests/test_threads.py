@@ -94,7 +94,8 @@ def ticks_during(call):
 
 
 def longest_share_without_ticks(call):
-    """The longest time in which this thread did not run while another one was within a call, as a share of that call's."""
+    """The longest time in which this thread did not run while another one was within a call, as a share of that
+    call's."""
     caller = threading.Thread(target=call)
     longest = 0.0
     begin = last = time.perf_counter()

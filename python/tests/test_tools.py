@@ -23,7 +23,7 @@ from mpslp import _main
 from repository import EXAMPLES, ROOT, VECTORS, large_text, model_files
 from test_load import entries
 
-import independent_reader  # from tests/ of the repository
+from shared import independent_reader
 
 TOOLS = [sys.executable, "-m", "mpslp"]
 SMALL = (EXAMPLES / "small.mps").read_bytes()
@@ -33,7 +33,8 @@ BROKEN = b"min x y\nend\n"
 
 
 def read_to_the_end(terminal):
-    """What was written to a terminal whose other end is closed. The kernel hands it on in pieces, and then reports an error."""
+    """What was written to a terminal whose other end is closed. The kernel hands it on in pieces, and then reports an
+    error."""
     pieces = []
     with suppress(OSError):
         while piece := os.read(terminal, 10000):
@@ -42,11 +43,12 @@ def read_to_the_end(terminal):
     return b"".join(pieces)
 
 
-MORE_OF_A_MESSAGE = re.compile(r"^(?: +\d+ \| .*| +\| [ ^]+|  (?:cause|fix): .+)\n", re.M)
+MORE_OF_A_MESSAGE = re.compile(r"^(?: +\d+ \| .*| +\| [ ^]+|  cause: .+|  fix: .+(?:\n    .+)*)\n", re.M)
 
 
 def first_lines(error):
-    """What is printed on standard error, with the first line only of each message about a rejected file; test_messages has the rest."""
+    """What is printed on standard error, with the first line only of each message about a rejected file; test_messages
+    has the rest."""
     text = os.fsdecode(error) if isinstance(error, bytes) else error
     return os.fsencode(MORE_OF_A_MESSAGE.sub("", text)) if isinstance(error, bytes) else MORE_OF_A_MESSAGE.sub("", text)
 
@@ -70,7 +72,10 @@ class Directory(unittest.TestCase):
 
     def run_tools(self, *words, content=b""):
         """What the command prints, and its exit status, in this process."""
-        streams = [io.TextIOWrapper(io.BytesIO(each), "utf-8", "surrogateescape", newline="", write_through=True) for each in (content, b"", b"")]
+        streams = [
+            io.TextIOWrapper(io.BytesIO(each), "utf-8", "surrogateescape", newline="", write_through=True)
+            for each in (content, b"", b"")
+        ]
         with mock.patch.multiple(sys, stdin=streams[0], stdout=streams[1], stderr=streams[2]):
             try:
                 status = int(_main.main([str(word) for word in words], "python3 -m mpslp"))
@@ -80,12 +85,19 @@ class Directory(unittest.TestCase):
 
     def run_process(self, *words, **options):
         """The same in a process of its own."""
-        return subprocess.run([*TOOLS, *map(str, words)], capture_output=True, cwd=self.folder, timeout=60, **options)
+        return subprocess.run([*TOOLS, *map(str, words)], capture_output=True, cwd=self.folder, timeout=600, **options)
 
     def begun(self, *words, **options):
-        """The command, which takes interrupts also where the tests run in the background of a shell, which ignores them."""
-        return subprocess.Popen([*TOOLS, *words], cwd=self.folder, stdout=subprocess.PIPE, stderr=subprocess.PIPE,
-                                preexec_fn=lambda: signal.signal(signal.SIGINT, signal.SIG_DFL), **options)
+        """The command, which takes interrupts also where the tests run in the background of a shell, which ignores
+        them."""
+        return subprocess.Popen(
+            [*TOOLS, *words],
+            cwd=self.folder,
+            stdout=subprocess.PIPE,
+            stderr=subprocess.PIPE,
+            preexec_fn=lambda: signal.signal(signal.SIGINT, signal.SIG_DFL),
+            **options,
+        )
 
     def opened_as_reader_is_there(self, name):
         """The end of a pipe that is written to, once its other end is open."""
@@ -103,14 +115,22 @@ class Directory(unittest.TestCase):
 
     def leaves(self, **files):
         """The directory has these files, and no other ones."""
-        self.assertEqual({path.name: path.read_bytes() for path in self.folder.iterdir()}, {name.replace("_", "."): text for name, text in files.items()})
+        self.assertEqual(
+            {path.name: path.read_bytes() for path in self.folder.iterdir()},
+            {name.replace("_", "."): text for name, text in files.items()},
+        )
 
 
 class Canon(Directory):
     def test_one_file(self):
         self.file("a.mps")
-        for words, wanted in ((["a.mps"], CANONICAL), (["a.mps", "-t", "lp"], CANONICAL_LP), (["-o", "-", "a.mps"], CANONICAL), (["-", "-f", "mps"], CANONICAL),
-                              (["-", "-f", "mps", "-t", "lp"], CANONICAL_LP)):
+        for words, wanted in (
+            (["a.mps"], CANONICAL),
+            (["a.mps", "-t", "lp"], CANONICAL_LP),
+            (["-o", "-", "a.mps"], CANONICAL),
+            (["-", "-f", "mps"], CANONICAL),
+            (["-", "-f", "mps", "-t", "lp"], CANONICAL_LP),
+        ):
             self.prints(["canon", *words], 0, wanted.decode(), content=SMALL)
         self.leaves(a_mps=SMALL)
 
@@ -119,8 +139,8 @@ class Canon(Directory):
         for name, wanted in (("b.mps", CANONICAL), ("b.lp", CANONICAL_LP), ("b", CANONICAL), ("a.mps", CANONICAL)):
             self.prints(["canon", "a.mps", "-o", name], 0)
             self.assertEqual((self.folder / name).read_bytes(), wanted)
-        self.prints(["canon", "a.mps", "-o", "b.mps", "--to", "lp"], 0)
-        self.assertEqual((self.folder / "b.mps").read_bytes(), CANONICAL_LP)
+        self.prints(["canon", "a.mps", "-o", "b.txt", "--to", "lp"], 0)
+        self.assertEqual((self.folder / "b.txt").read_bytes(), CANONICAL_LP)
         self.prints(["canon", "a.mps", "-o", "b.lp.gz"], 0)
         self.assertEqual(gzip.decompress((self.folder / "b.lp.gz").read_bytes()), CANONICAL_LP)
 
@@ -142,15 +162,28 @@ class Canon(Directory):
     def test_no_text_leaves_the_file(self):
         self.file("a.lp", BROKEN)
         self.file("names.mps", b"ROWS\n N  C\nCOLUMNS\n    x[1]  C  1\nENDATA\n")
-        for words, error in ((["a.lp", "-o", "b.lp"], "a.lp:1: BadToken: y\n"), (["names.mps", "-o", "b.lp"], "names.mps: NotLp: column x[1]\n"),
-                             (["a.lp"], "a.lp:1: BadToken: y\n"), (["names.mps", "-t", "lp"], "names.mps: NotLp: column x[1]\n")):
+        for words, error in (
+            (["a.lp", "-o", "b.lp"], "a.lp:1: BadToken: y\n"),
+            (["names.mps", "-o", "b.lp"], "names.mps: NotLp: column x[1]\n"),
+            (["a.lp"], "a.lp:1: BadToken: y\n"),
+            (["names.mps", "-t", "lp"], "names.mps: NotLp: column x[1]\n"),
+        ):
             self.file("b.lp", b"old")
             self.prints(["canon", *words], 2, error=error)
             self.assertEqual((self.folder / "b.lp").read_bytes(), b"old")
 
     def test_usage(self):
         self.file("a.mps")
-        for words in (["a.mps", "a.mps"], ["."], ["-i", "-", "-f", "mps"], ["-i", "-t", "lp", "a.mps"], ["-i", "-o", "b", "a.mps"], [], ["-j", "0", "a.mps"], ["-t", "qps", "a.mps"]):
+        for words in (
+            ["a.mps", "a.mps"],
+            ["."],
+            ["-i", "-", "-f", "mps"],
+            ["-i", "-t", "lp", "a.mps"],
+            ["-i", "-o", "b", "a.mps"],
+            [],
+            ["-j", "0", "a.mps"],
+            ["-t", "qps", "a.mps"],
+        ):
             done = self.run_tools("canon", *words)
             self.assertEqual((done.returncode, done.stdout), (3, b""), words)
             self.assertIn(b"error: ", done.stderr)
@@ -159,7 +192,8 @@ class Canon(Directory):
 
 class InPlace(Directory):
     def test_all_models(self):
-        """Every file of examples/ and vectors/ in one directory: those that are rejected stay, the others become canonical."""
+        """Every file of examples/ and vectors/ in one directory: those that are rejected stay, the others become
+        canonical."""
         answers = {entry.input: entry.answer for entry in entries()}
         for path in [*model_files(EXAMPLES), *model_files(VECTORS)]:
             shutil.copy(path, self.folder)
@@ -185,7 +219,13 @@ class InPlace(Directory):
             where = "" if error.line is None else f":{error.line}"
             self.assertRegex(line, rf"^\./[^:]+{where}: {error.kind}(: .+)?$")
         after = {path.name: path.read_bytes() for path in self.folder.iterdir()}
-        self.assertEqual(after, {name: mpslp.canonical(text, name.rsplit(".")[-1]) if name in changed else text for name, text in before.items()})
+        self.assertEqual(
+            after,
+            {
+                name: mpslp.canonical(text, name.rsplit(".")[-1]) if name in changed else text
+                for name, text in before.items()
+            },
+        )
         self.assertEqual(self.run_tools("canon", "-i", ".").stdout, b"")
 
     def test_what_is_kept(self):
@@ -193,7 +233,9 @@ class InPlace(Directory):
         path.chmod(0o604)
         link.symlink_to("a.mps")
         self.prints(["canon", "-i", "link.mps", "b.mps.gz"], 0, "link.mps\nb.mps.gz\n")
-        self.assertEqual((os.readlink(link), path.read_bytes(), stat.S_IMODE(path.stat().st_mode)), ("a.mps", CANONICAL, 0o604))
+        self.assertEqual(
+            (os.readlink(link), path.read_bytes(), stat.S_IMODE(path.stat().st_mode)), ("a.mps", CANONICAL, 0o604)
+        )
         self.assertEqual(gzip.decompress(packed.read_bytes()), CANONICAL)
         stamps = [(each.stat().st_mtime_ns, each.stat().st_ino) for each in (path, packed)]
         self.prints(["canon", "-i", "link.mps", "b.mps.gz"], 0)
@@ -201,7 +243,7 @@ class InPlace(Directory):
 
     def test_a_write_that_fails(self):
         self.file("a.mps")
-        large = self.file("b.mps", large_text(300))
+        self.file("b.mps", large_text(300))
 
         def limit():
             signal.signal(signal.SIGXFSZ, signal.SIG_IGN)
@@ -222,7 +264,7 @@ class InPlace(Directory):
                 running = self.begun("canon", "-i", "-j", jobs, ".")
                 running.stdout.readline()  # a file is done
                 running.send_signal(number)
-                _, error = running.communicate(timeout=60)
+                _, error = running.communicate(timeout=600)
                 with self.subTest(number, jobs=jobs):
                     # At its end it no longer takes signals.
                     self.assertIn(running.returncode, (0, -number, 128 + number))
@@ -236,7 +278,9 @@ class InPlace(Directory):
         """They are interrupted while they read pipes, which give no end of file before that."""
         for number in (signal.SIGINT, signal.SIGTERM):
             for jobs, pipes in (("1", ["3.mps"]), ("2", ["0.mps", "1.mps"])):
-                done, left = [f"{each}.mps" for each in range(3) if jobs == "1"], [f"{each}.mps" for each in range(4, 9)]
+                done, left = [f"{each}.mps" for each in range(3) if jobs == "1"], [
+                    f"{each}.mps" for each in range(4, 9)
+                ]
                 for name in done + left:
                     self.file(name)
                 for name in pipes:
@@ -247,10 +291,14 @@ class InPlace(Directory):
                 time.sleep(1)  # the signal is handled while the pipes are read
                 for writer in writers:
                     os.close(writer)
-                _, error = running.communicate(timeout=60)
+                _, error = running.communicate(timeout=600)
                 with self.subTest(number, jobs=jobs):
-                    self.assertEqual((running.returncode, error), (128 + number, b""))
-                    self.assertEqual({name: Path(name).read_bytes() for name in done + left}, {**dict.fromkeys(done, CANONICAL), **dict.fromkeys(left, SMALL)})
+                    line = b"mpslp-tools: interrupted\n" if number == signal.SIGINT else b""
+                    self.assertEqual((running.returncode, error), (128 + number, line))
+                    self.assertEqual(
+                        {name: Path(name).read_bytes() for name in done + left},
+                        {**dict.fromkeys(done, CANONICAL), **dict.fromkeys(left, SMALL)},
+                    )
                 for name in os.listdir():
                     os.unlink(name)
 
@@ -268,11 +316,30 @@ class Check(Directory):
         self.prints(["check", "-", "-f", "mps"], 1, "-\n", content=SMALL)
 
     def test_directories(self):
-        for name in ("a.mps", "b.LP", "deep/er/c.mps.gz", "deep/d.MPS.xz", ".git/e.mps", "deep/.hidden/f.lp", "g.txt", "mps", "deep/h.mps.old"):
+        for name in (
+            "a.mps",
+            "b.LP",
+            "deep/er/c.mps.gz",
+            "deep/d.MPS.xz",
+            ".git/e.mps",
+            "deep/.hidden/f.lp",
+            "g.txt",
+            "mps",
+            "deep/h.mps.old",
+        ):
             self.file(name, b"")
-        self.prints(["check", "."], 4, error="".join([
-            "./a.mps: MissingEnd\n", "./b.LP: MissingEnd\n", "./deep/d.MPS.xz: not a complete .xz file: it is empty\n",
-            "./deep/er/c.mps.gz: not a complete .gz file: it is empty\n"]))
+        self.prints(
+            ["check", "."],
+            4,
+            error="".join(
+                [
+                    "./a.mps: MissingEnd\n",
+                    "./b.LP: MissingEnd\n",
+                    "./deep/d.MPS.xz: not a complete .xz file: it is empty\n",
+                    "./deep/er/c.mps.gz: not a complete .gz file: it is empty\n",
+                ]
+            ),
+        )
         self.file("deep/er/c.mps.gz", gzip.compress(b""))
         self.prints(["check", "deep/er", "a.mps"], 2, error="deep/er/c.mps.gz: MissingEnd\na.mps: MissingEnd\n")
 
@@ -284,26 +351,40 @@ class Check(Directory):
         self.assertEqual(one.stdout.decode().split(), [f"./{number:02}.lp" for number in range(2, 40, 3)])
 
     def test_progress_on_a_terminal(self):
-        """It is shown for what takes more than a second, here to read a pipe, and erased before something else is printed."""
+        """It is shown for what takes more than a second, here to read a pipe, and erased before something else is
+        printed."""
         for number in range(3):
             self.file(f"{number}.lp", BROKEN if number == 1 else CANONICAL_LP)
         os.mkfifo("3.lp")
         main, terminal = pty.openpty()
-        running = subprocess.Popen([*TOOLS, "check", "-j", "1", "."], cwd=self.folder, stdout=subprocess.PIPE, stderr=terminal, env={**os.environ, "NO_COLOR": "1"})
+        running = subprocess.Popen(
+            [*TOOLS, "check", "-j", "1", "."],
+            cwd=self.folder,
+            stdout=subprocess.PIPE,
+            stderr=terminal,
+            env={**os.environ, "NO_COLOR": "1"},
+        )
         os.close(terminal)
         writer = self.opened_as_reader_is_there("3.lp")
         time.sleep(2)
         os.write(writer, BROKEN)
         os.close(writer)
-        output, _ = running.communicate(timeout=60)
+        output, _ = running.communicate(timeout=600)
         printed = read_to_the_end(main).decode().replace("\r\n", "\n")
         self.assertEqual((running.returncode, output), (2, b""))
         shown = re.findall(r"\r\x1b\[K(\d of \d files, \d+ s)", printed)
         self.assertIn("3 of 4 files, 1 s", shown)
-        self.assertTrue(first_lines(printed).endswith("\r\x1b[K./3.lp:1: BadToken: y\npython3 -m mpslp explain KIND prints what to do about a kind of error\n"), printed)
+        self.assertTrue(
+            first_lines(printed).endswith(
+                "\r\x1b[K./3.lp:1: BadToken: y\npython3 -m mpslp explain KIND prints what to do about a kind of error\n"
+            ),
+            printed,
+        )
         self.assertTrue(first_lines(printed).startswith("./1.lp:1: BadToken: y\n\r\x1b[K"), printed)
         for words, error in ((["check", "0.lp", "1.lp"], b"1.lp:1: BadToken: y\n"), (["check", "0.lp"], b"")):
-            self.assertEqual(first_lines(self.run_tools(*words).stderr), error, "no progress where there is no terminal")
+            self.assertEqual(
+                first_lines(self.run_tools(*words).stderr), error, "no progress where there is no terminal"
+            )
 
 
 class Files(Directory):
@@ -315,14 +396,22 @@ class Files(Directory):
         for command in ("canon", "show"):
             self.prints([command, "a.mps"], 4, error="a.mps: No such file or directory\n")
             self.prints([command, "none"], 4, error="none: No such file or directory\n")
-            self.prints([command, "broken.mps.gz"], 4, error="broken.mps.gz: not a complete .gz file: Not a gzipped file (b'no')\n")
+            self.prints(
+                [command, "broken.mps.gz"],
+                4,
+                error="broken.mps.gz: not a complete .gz file: Not a gzipped file (b'no')\n",
+            )
         self.prints(["show", "d.mps"], 0, error="warning: d.mps: no model files\n")
         self.prints(["show", "-q", "d.mps"], 0)
         for command in ("same", "diff"):
             self.prints([command, "a.mps", "d.mps"], 4, error="a.mps: No such file or directory\n")
         self.prints(["same", EXAMPLES / "small.mps", "d.mps"], 4, error="d.mps: Is a directory\n")
         (self.folder / "plans").mkdir()
-        self.prints(["diff", "plans", EXAMPLES / "small.mps"], 3, error="python3 -m mpslp: error: plans is a directory: give a file\n")
+        self.prints(
+            ["diff", "plans", EXAMPLES / "small.mps"],
+            3,
+            error="python3 -m mpslp: error: plans is a directory: give a file\n",
+        )
         self.prints(["diff", "plans", "missing"], 4, error="missing: No such file or directory\n")
 
     def test_a_file_that_may_not_be_read(self):
@@ -339,13 +428,21 @@ class Files(Directory):
     def test_a_compression_that_is_missing(self):
         self.file("a.mps.zst", b"\x28\xb5\x2f\xfd")
         with mock.patch.dict(sys.modules, {"compression": None, "compression.zstd": None, "zstandard": None}):
-            self.prints(["check", "a.mps.zst"], 4, error="a.mps.zst: import of zstandard halted; None in sys.modules; install it, or use Python 3.14\n")
+            self.prints(
+                ["check", "a.mps.zst"],
+                4,
+                error="a.mps.zst: import of zstandard halted; None in sys.modules; install it, or use Python 3.14\n",
+            )
 
     def test_formats_that_are_not_known(self):
         self.file("a.txt")
         for words in (["check", "a.txt"], ["show", "a.txt"]):
             self.prints(words, 3, error="a.txt: its name ends neither in .mps nor in .lp: give -f mps or -f lp\n")
-        self.prints(["same", "a.txt", EXAMPLES / "small.lp"], 3, error="python3 -m mpslp: error: a.txt: its name ends neither in .mps nor in .lp: give -f mps or -f lp\n")
+        self.prints(
+            ["same", "a.txt", EXAMPLES / "small.lp"],
+            3,
+            error="python3 -m mpslp: error: a.txt: its name ends neither in .mps nor in .lp: give -f mps or -f lp\n",
+        )
         self.prints(["check", "-"], 3, error="standard input has no extension: give -f mps or -f lp\n")
         self.prints(["same", "a.txt", EXAMPLES / "small.lp", "-f", "mps"], 0, "same\n")
         self.prints(["canon", "-f", "mps", "a.txt"], 0, CANONICAL.decode())
@@ -357,7 +454,10 @@ class Files(Directory):
         self.file(os.fsdecode(b"\xfe.lp"), BROKEN)
         for locale in ("C", "C.UTF-8"):
             done = self.run_process("check", ".", env={**os.environ, "LC_ALL": locale})
-            self.assertEqual((done.returncode, done.stdout, first_lines(done.stderr)), (2, b"./\xff \xc3\xa9\n.mps\n", b"./\xfe.lp:1: BadToken: y\n"))
+            self.assertEqual(
+                (done.returncode, done.stdout, first_lines(done.stderr)),
+                (2, b"./\xff \xc3\xa9\n.mps\n", b"./\xfe.lp:1: BadToken: y\n"),
+            )
         self.prints(["canon", "-i", name], 0, name + "\n")
         self.assertEqual((self.folder / name).read_bytes(), CANONICAL)
 
@@ -366,11 +466,28 @@ class Files(Directory):
         full, closed = "standard output: No space left on device\n", "standard output: it is closed\n"
         for unbuffered in ("", "1"):
             environment = {**os.environ, "PYTHONUNBUFFERED": unbuffered}
-            for words, output, wanted in (("canon a.mps", ">/dev/full", full), ("check a.mps", ">/dev/full", full), ("show a.mps", ">/dev/full", full),
-                                          ("diff a.mps a.mps", ">/dev/full", full), ("--help", ">/dev/full", full), ("--version", ">/dev/full", full),
-                                          ("explain", ">&-", closed), ("canon -h", ">&-", closed), ("show a.mps", "2>&- >/dev/full", ""),
-                                          ("check b.mps", "2>/dev/full", ""), ("check -", "2>/dev/full", "")):
-                done = subprocess.run(f"exec {sys.executable} -m mpslp {words} {output}", shell=True, cwd=self.folder, capture_output=True, env=environment, text=True, timeout=60)
+            for words, output, wanted in (
+                ("canon a.mps", ">/dev/full", full),
+                ("check a.mps", ">/dev/full", full),
+                ("show a.mps", ">/dev/full", full),
+                ("diff a.mps a.mps", ">/dev/full", full),
+                ("--help", ">/dev/full", full),
+                ("--version", ">/dev/full", full),
+                ("explain", ">&-", closed),
+                ("canon -h", ">&-", closed),
+                ("show a.mps", "2>&- >/dev/full", ""),
+                ("check b.mps", "2>/dev/full", ""),
+                ("check -", "2>/dev/full", ""),
+            ):
+                done = subprocess.run(
+                    f"exec {sys.executable} -m mpslp {words} {output}",
+                    shell=True,
+                    cwd=self.folder,
+                    capture_output=True,
+                    env=environment,
+                    text=True,
+                    timeout=600,
+                )
                 self.assertEqual((done.returncode, done.stdout, done.stderr), (4, "", wanted), words)
 
     def test_a_reader_that_is_gone(self):
@@ -379,7 +496,14 @@ class Files(Directory):
         for unbuffered in ("", "1"):
             reader, writer = os.pipe()
             os.close(reader)
-            done = subprocess.run([*TOOLS, "show", "a.mps"], cwd=self.folder, stdout=writer, stderr=subprocess.PIPE, env={**os.environ, "PYTHONUNBUFFERED": unbuffered}, timeout=60)
+            done = subprocess.run(
+                [*TOOLS, "show", "a.mps"],
+                cwd=self.folder,
+                stdout=writer,
+                stderr=subprocess.PIPE,
+                env={**os.environ, "PYTHONUNBUFFERED": unbuffered},
+                timeout=600,
+            )
             os.close(writer)
             self.assertEqual((done.returncode, done.stderr), (-signal.SIGPIPE, b""))
 
@@ -392,7 +516,12 @@ class Files(Directory):
             for blocks in (True, False):
                 reader, writer = os.pipe()
                 os.set_blocking(writer, blocks)
-                running = subprocess.Popen([*TOOLS, "canon", "--no-warnings", "a.mps"], cwd=self.folder, stdout=writer, env={**os.environ, "PYTHONUNBUFFERED": unbuffered})
+                running = subprocess.Popen(
+                    [*TOOLS, "canon", "--no-warnings", "a.mps"],
+                    cwd=self.folder,
+                    stdout=writer,
+                    env={**os.environ, "PYTHONUNBUFFERED": unbuffered},
+                )
                 os.close(writer)
                 with os.fdopen(reader, "rb", 0) as file:
                     found = b"".join(iter(lambda: file.read(5000), b""))
@@ -400,8 +529,12 @@ class Files(Directory):
 
     def test_standard_input_that_is_closed(self):
         for words in ("canon -f lp -", "show -f mps -", f"same -f lp - {EXAMPLES / 'small.lp'}", "digest -f lp -"):
-            done = subprocess.run(f"exec {sys.executable} -m mpslp {words} <&-", shell=True, capture_output=True, text=True, timeout=60)
-            self.assertEqual((done.returncode, done.stdout, done.stderr), (4, "", "-: standard input is closed\n"), words)
+            done = subprocess.run(
+                f"exec {sys.executable} -m mpslp {words} <&-", shell=True, capture_output=True, text=True, timeout=600
+            )
+            self.assertEqual(
+                (done.returncode, done.stdout, done.stderr), (4, "", "-: standard input is closed\n"), words
+            )
 
     def test_names_of_files_in_other_encodings(self):
         self.file("é.lp", BROKEN)
@@ -409,21 +542,31 @@ class Files(Directory):
             for words in (["check", "é.lp"], ["survey", "é.lp"], ["survey", "--json", "."]):
                 done = self.run_process(*words, env={**os.environ, "PYTHONIOENCODING": encoding})
                 self.assertEqual(done.returncode, 2 if words[0] == "check" else 0, done.stderr)
-                self.assertIn(b"\\u00e9.lp" if "--json" in words else "é.lp".encode(), done.stderr if words[0] == "check" else done.stdout)
+                self.assertIn(
+                    b"\\u00e9.lp" if "--json" in words else "é.lp".encode(),
+                    done.stderr if words[0] == "check" else done.stdout,
+                )
 
 
 class Models(Directory):
     def test_same(self):
-        for first, second, status, output in (("small.mps", "small.lp", 0, "same\n"), ("small.mps", "semi.lp", 1, "not the same\n")):
+        for first, second, status, output in (
+            ("small.mps", "small.lp", 0, "same\n"),
+            ("small.mps", "semi.lp", 1, "not the same\n"),
+        ):
             self.prints(["same", EXAMPLES / first, EXAMPLES / second], status, output)
         self.prints(["same", EXAMPLES / "small.mps", "-", "-f", "lp"], 0, "same\n", content=CANONICAL_LP)
         self.file("a.lp", BROKEN)
         self.prints(["same", EXAMPLES / "small.mps", "a.lp"], 2, error="a.lp:1: BadToken: y\n")
         self.prints(["same", "a.lp", EXAMPLES / "small.mps"], 2, error="a.lp:1: BadToken: y\n")
-        self.prints(["same", "-", "-", "-f", "lp"], 3, error="python3 -m mpslp: error: at most one file is standard input\n")
+        self.prints(
+            ["same", "-", "-", "-f", "lp"], 3, error="python3 -m mpslp: error: at most one file is standard input\n"
+        )
 
     def test_diff(self):
-        small, other = EXAMPLES / "small.mps", self.file("b.mps", CANONICAL.replace(b"1.5", b"1.5000001").replace(b"COST", b"OBJROW"))
+        small, other = EXAMPLES / "small.mps", self.file(
+            "b.mps", CANONICAL.replace(b"1.5", b"1.5000001").replace(b"COST", b"OBJROW")
+        )
         self.prints(["diff", small, EXAMPLES / "small.lp"], 0, "same\n")
         self.prints(["diff", small, EXAMPLES / "small.lp", "--digits", "3", "--by-position"], 0, "same\n")
         self.prints(["diff", small, other], 1, "objective: COST -> OBJROW\nentry MYG Y: 1.5 -> 1.5000001\n")
@@ -444,13 +587,16 @@ class Models(Directory):
         for entry in entries():
             if entry.answer == "model" and entry.show != "-":
                 self.prints(["show", VECTORS / entry.input], 0, (VECTORS / entry.show).read_text())
-        from mpslp._shown import shown
+        from mpslp._models._shown import shown
 
         for path in [*model_files(EXAMPLES), *model_files(VECTORS)]:
             model = independent_reader.read(path.read_bytes(), path.suffix[1:])
             if isinstance(model, independent_reader.Model):
                 with self.subTest(path.name):
-                    self.assertEqual("".join(f"{line}\n" for line in shown(mpslp.load(path))), independent_reader.show(model).decode())
+                    self.assertEqual(
+                        "".join(f"{line}\n" for line in shown(mpslp.load(path))),
+                        independent_reader.show(model).decode(),
+                    )
 
     def test_digest(self):
         paths = model_files(EXAMPLES)
@@ -465,7 +611,14 @@ class Models(Directory):
         self.prints(["explain", "badbyte", "Sos"], 0, f"{mpslp.explain('BadByte')}\n\n{mpslp.explain('Sos')}\n")
         listed = self.run_tools("explain")
         self.assertEqual((listed.returncode, listed.stdout.split()[:2]), (0, [b"BadByte", b"BadMarker"]))
-        self.prints(["explain", "BadBite"], 3, error="python3 -m mpslp: error: no such kind: 'BadBite'; did you mean BadByte? 'mpslp-tools explain' prints all kinds\n")
+        self.prints(
+            ["explain", "BadBite"],
+            3,
+            error=(
+                "python3 -m mpslp: error: no such kind: 'BadBite'; did you mean BadByte? 'mpslp-tools explain' "
+                "prints all kinds\n"
+            ),
+        )
 
     def test_control_characters_do_not_reach_the_terminal(self):
         self.file("a.mps", b"NAME\n\x1b[2J\xe2\x80\xae\nENDATA\n")
@@ -505,7 +658,12 @@ class Command(Directory):
         """What the other tests call is what a process does."""
         self.file("a.lp", BROKEN)
         self.file("b.mps")
-        for words, content in ((["check", "."], b""), (["canon", "-", "-f", "lp"], CANONICAL_LP), (["digest", "b.mps"], b""), (["canon", "b.mps", "a.lp"], b"")):
+        for words, content in (
+            (["check", "."], b""),
+            (["canon", "-", "-f", "lp"], CANONICAL_LP),
+            (["digest", "b.mps"], b""),
+            (["canon", "b.mps", "a.lp"], b""),
+        ):
             one, other = self.run_tools(*words, content=content), self.run_process(*words, input=content)
             self.assertEqual((one.returncode, one.stdout, one.stderr), (other.returncode, other.stdout, other.stderr))
 
@@ -513,18 +671,41 @@ class Command(Directory):
         command = Path(sys.executable).parent / "mpslp-tools"
         if not command.exists():
             self.skipTest("the package is not installed beside this Python")
-        done = subprocess.run([command, "same", EXAMPLES / "small.mps", EXAMPLES / "small.lp"], capture_output=True, text=True, timeout=60)
+        done = subprocess.run(
+            [command, "same", EXAMPLES / "small.mps", EXAMPLES / "small.lp"],
+            capture_output=True,
+            text=True,
+            timeout=600,
+        )
         self.assertEqual((done.returncode, done.stdout), (0, "same\n"))
-        self.assertTrue(subprocess.run([command, "-h"], capture_output=True, text=True, timeout=60).stdout.startswith("usage: mpslp-tools "))
+        self.assertTrue(
+            subprocess.run([command, "-h"], capture_output=True, text=True, timeout=600).stdout.startswith(
+                "usage: mpslp-tools "
+            )
+        )
         self.assertFalse((Path(sys.executable).parent / "mpslp").exists(), "the command of the program is not hidden")
 
 
 class Completions(Directory):
     WANTED = {
-        "": "canon fmt check same diff show digest explain adapt survey report --help --version", "d": "diff digest", "s": "same show survey", "check --p": "--portable",
-        "survey --": "--help --format --from --jobs --quiet --csv --json", "canon -t ": "mps lp glp", "check -f l": "lp",
-        "diff --": "--help --format --ignore-objective-name --digits --by-position --json --quiet --no-warnings", "canon -i sm": "small.lp small.mps",
-        "explain DuplicateR": "DuplicateRange DuplicateRhs DuplicateRow", "diff --digits ": "", "adapt --from q": "qsopt", "adapt --in": "--in-place", "canon --out-dir d": "deep",
+        "": "canon fmt check same diff merge setup-git show digest explain adapt survey report --help --version",
+        "d": "diff digest",
+        "s": "same setup-git show survey",
+        "check --p": "--portable",
+        "survey --": "--help --format --from --jobs --quiet --csv --json",
+        "canon -t ": "mps lp glp",
+        "canon --for h": "highs",
+        "check -f l": "lp",
+        "diff --": (
+            "--help --format --ignore-objective-name --all --digits --by-position --any-names --json --quiet "
+            "--no-warnings"
+        ),
+        "canon -i sm": "small.lp small.mps",
+        "explain DuplicateR": "DuplicateRange DuplicateRhs DuplicateRow",
+        "diff --digits ": "",
+        "adapt --from q": "qsopt",
+        "adapt --in": "--in-place",
+        "canon --out-dir d": "deep",
     }
 
     def setUp(self):
@@ -541,22 +722,40 @@ class Completions(Directory):
         if shutil.which(shell) is None:
             self.skipTest(f"{shell} is missing")
         for line, words in wanted.items():
-            done = subprocess.run([shell, "-c", script.format(line=line)], capture_output=True, text=True, env=self.environment, timeout=60)
-            self.assertEqual((sorted(done.stdout.split()), done.stderr), (sorted(words.split()), ""), f"{shell}: {line!r}")
+            done = subprocess.run(
+                [shell, "-c", script.format(line=line)],
+                capture_output=True,
+                text=True,
+                env=self.environment,
+                timeout=600,
+            )
+            self.assertEqual(
+                (sorted(done.stdout.split()), done.stderr), (sorted(words.split()), ""), f"{shell}: {line!r}"
+            )
 
     def test_bash(self):
-        script = "compopt() {{ :; }}; source " + str(ROOT / "completions" / "mpslp-tools.bash") + """
+        script = (
+            "compopt() {{ :; }}; source "
+            + str(ROOT / "completions" / "mpslp-tools.bash")
+            + """
 read -ra COMP_WORDS <<< 'mpslp-tools {line}'
 case '{line}' in '' | *' ') COMP_WORDS+=('') ;; esac
 COMP_CWORD=$((${{#COMP_WORDS[@]}} - 1))
 _mpslp_tools
 printf '%s\\n' "${{COMPREPLY[@]}}"
 """
+        )
         self.check("bash", script, {**self.WANTED, "same -W": "-Werror"})
 
     def test_fish(self):
-        script = "source " + str(ROOT / "completions" / "mpslp-tools.fish") + "; complete -C 'mpslp-tools {line}' | string replace -r '\\t.*' ''"
-        wanted = {line: words.replace(" --help --version", "").replace("deep", "deep/") for line, words in self.WANTED.items()}
+        script = (
+            "source "
+            + str(ROOT / "completions" / "mpslp-tools.fish")
+            + "; complete -C 'mpslp-tools {line}' | string replace -r '\\t.*' ''"
+        )
+        wanted = {
+            line: words.replace(" --help --version", "").replace("deep", "deep/") for line, words in self.WANTED.items()
+        }
         self.check("fish", script, wanted)
 
 

@@ -5,7 +5,7 @@ import unittest
 import mpslp
 from repository import VECTORS, form_of
 
-import vectors  # from tests/ of the repository
+from shared import vector_suite as vectors
 
 
 class Calls(vectors.Checker):

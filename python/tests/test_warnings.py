@@ -1,4 +1,5 @@
-"""What is accepted and rarely meant: the call and the commands; the rules are tested by tests/warning_rules.py, too."""
+"""What is accepted and rarely meant: the call and the commands; the rules are tested by python/tests/warning_rules.py,
+too."""
 
 import os
 import pickle
@@ -10,6 +11,7 @@ from pathlib import Path
 from unittest import mock
 
 import mpslp
+import warning_rules
 from mpslp import _mpslp
 from mpslp._portable._mps import MpsFile
 from mpslp._warnings import KINDS, _lp, warnings_in
@@ -17,14 +19,14 @@ from mpslp._warnings._lp import LpText
 from repository import EXAMPLES, VECTORS, form_of, model_files
 from test_tools import CANONICAL, Directory
 
-import models  # from tests/ of the repository
-import spellings
-import warning_rules
+from shared import models, spellings
 
 PULP = b"*SENSE:Maximize\nNAME  plan\nROWS\n N  C\nCOLUMNS\n    x  C  1\nENDATA\n"
-COMMENT = "1: sense-in-comment: the comment is ignored, and the model is minimised; OBJSENSE has the sense"
+COMMENT = "1: sense-in-comment: the comment is ignored, and the model is minimised; write the sense in OBJSENSE"
 LATE = b"max production\nst\nc: production <= 40\nbounds\nprodution <= 30\nend\n"
-NAME = "5: late-name: prodution first appears in Bounds, as a new column that is in no row; the name production is there"
+NAME = (
+    "5: late-name: prodution first appears in Bounds, as a new column that is in no row; the name production is there"
+)
 
 
 def opens_more_than_it_closes(name):
@@ -47,23 +49,47 @@ class Calls(unittest.TestCase):
         self.assertEqual(pickle.loads(pickle.dumps(warning)), warning)
         with self.assertRaises(FrozenInstanceError):
             warning.line = 1
-        self.assertEqual(mpslp.warnings_of(PULP, "mps"), (mpslp.ModelFileWarning(1, "sense-in-comment", COMMENT.split(": ", 2)[2]),))
+        self.assertEqual(
+            mpslp.warnings_of(PULP, "mps"), (mpslp.ModelFileWarning(1, "sense-in-comment", COMMENT.split(": ", 2)[2]),)
+        )
 
     def test_a_text_that_is_rejected(self):
         with self.assertRaisesRegex(mpslp.ModelFileError, "^line 1: BadToken$"):
             mpslp.warnings_of(b"min x y\nend\n", "lp")
 
     def test_order_of_lines(self):
-        text = b"*SENSE:Maximize\nROWS\n N  C\nCOLUMNS\n    m  'MARKER'  'INTORG'\n    x  C  1\nRHS\n    RHS  C  2\nENDATA\nQUADOBJ\n"
+        text = (
+            b"*SENSE:Maximize\nROWS\n N  C\nCOLUMNS\n    m  'MARKER'  'INTORG'\n    x  C  1\nRHS\n    RHS  C  2\n"
+            b"ENDATA\nQUADOBJ\n"
+        )
         found = mpslp.warnings_of(text, "mps")
-        self.assertEqual([(each.line, each.kind) for each in found],
-                         [(1, "no-name"), (1, "sense-in-comment"), (6, "integer-without-bound"), (8, "objective-rhs"), (10, "section-after-end")])
-        self.assertEqual([(each.line, each.kind) for each in mpslp.warnings_of(text.replace(b"\n", b"\r\n"), "mps")], [(each.line, each.kind) for each in found])
+        self.assertEqual(
+            [(each.line, each.kind) for each in found],
+            [
+                (1, "no-name"),
+                (1, "sense-in-comment"),
+                (5, "marker-not-closed"),
+                (8, "objective-rhs"),
+                (10, "section-after-end"),
+            ],
+        )
+        self.assertEqual(
+            [(each.line, each.kind) for each in mpslp.warnings_of(text.replace(b"\n", b"\r\n"), "mps")],
+            [(each.line, each.kind) for each in found],
+        )
 
     def test_names_with_signs_of_comments(self):
-        """A set may be named as a comment starts, a comment may have the word of markers, and a bound without a number text after its column."""
-        text = b"NAME\nROWS\n N  C\nCOLUMNS\n M 'MARKER' 'INTORG'\n X C 1\n* 'MARKER'\n 'MARKER'5 C 1\n Y C 1\n Z C 1\n M 'MARKER' 'INTEND'\nRHS\n *R C 5\n*  R C 6\nBOUNDS\n UP B X 4\n BV B 'MARKER'5\n FR B Y any\nENDATA\n"
-        self.assertEqual([(each.line, each.kind) for each in mpslp.warnings_of(text, "mps")], [(10, "integer-without-bound"), (13, "objective-rhs")])
+        """A set may be named as a comment starts, a comment may have the word of markers, and a bound without a number
+        text after its column."""
+        text = (
+            b"NAME\nROWS\n N  C\nCOLUMNS\n M 'MARKER' 'INTORG'\n X C 1\n* 'MARKER'\n 'MARKER'5 C 1\n Y C 1\n"
+            b" Z C 1\n M 'MARKER' 'INTEND'\nRHS\n *R C 5\n*  R C 6\nBOUNDS\n UP B X 4\n BV B 'MARKER'5\n"
+            b" FR B Y any\nENDATA\n"
+        )
+        self.assertEqual(
+            [(each.line, each.kind) for each in mpslp.warnings_of(text, "mps")],
+            [(10, "integer-without-bound"), (13, "objective-rhs")],
+        )
 
 
 def mpslp_accepts(text, form):
@@ -103,9 +129,20 @@ class Properties(unittest.TestCase):
         for number in range(300):
             names = [f"x{each}" for each in range(6)]
             rows = [f"c{each}: {source.choice(names[:4])} + {source.choice(names[:4])}2 >= {each}" for each in range(3)]
-            bounds = [f"{source.choice(['', '-1e5 <= '])}{source.choice(names)} <= {source.choice(['1e30', '2e5', 'inf'])}" for _ in range(2)]
-            lists = [f"{source.choice(['generals', 'Integers', 'BIN'])}\n {source.choice(names)} {source.choice(names)} \\ {source.choice(names)} upper"]
-            text = "\n".join([f"min {source.choice(names[:4])}", "st \\ x5 x4", *rows, "Bounds", *bounds, *lists, "end", "x5 x4"]) + "\n"
+            bounds = [
+                f"{source.choice(['', '-1e5 <= '])}{source.choice(names)} <= {source.choice(['1e30', '2e5', 'inf'])}"
+                for _ in range(2)
+            ]
+            lists = [
+                f"{source.choice(['generals', 'Integers', 'BIN'])}\n"
+                f" {source.choice(names)} {source.choice(names)} \\ {source.choice(names)} upper"
+            ]
+            text = (
+                "\n".join(
+                    [f"min {source.choice(names[:4])}", "st \\ x5 x4", *rows, "Bounds", *bounds, *lists, "end", "x5 x4"]
+                )
+                + "\n"
+            )
             try:
                 model = mpslp.load(text.encode(), "lp")
             except mpslp.ModelFileError:
@@ -118,7 +155,8 @@ class Properties(unittest.TestCase):
         self.assertGreater(count, 100)
 
     def test_random_models(self):
-        """However a model is spelled, both readers of the package find the same: this one and that of check --portable."""
+        """However a model is spelled, both readers of the package find the same: this one and that of check
+        --portable."""
         source, found = random.Random(4), set()
         for _ in range(400):
             model = models.drawn_model(source)
@@ -143,11 +181,18 @@ class Properties(unittest.TestCase):
         lines = {kind: [each.line for each in warnings if each.kind == kind] for kind in KINDS}
         remarks = mpslp.portability(text, "mps")
         self.assertEqual(lines["objective-rhs"], [each.line for each in remarks if each.kind == "objective-rhs"])
-        self.assertLessEqual({each.line for each in remarks if each.kind == "sense-in-comment"}, set(lines["sense-in-comment"]))
-        marked = {name: column.line for name, column in file.columns.items() if column.is_marked and name not in file.bounds}
+        self.assertLessEqual(
+            {each.line for each in remarks if each.kind == "sense-in-comment"}, set(lines["sense-in-comment"])
+        )
+        marked = {
+            name: column.line for name, column in file.columns.items() if column.is_marked and name not in file.bounds
+        }
         self.assertEqual(lines["integer-without-bound"], sorted(marked.values())[:1])
         if len(marked) > 1:
-            self.assertIn("as is one more" if len(marked) == 2 else f"as are {len(marked) - 1} more", next(each.text for each in warnings if each.kind == "integer-without-bound"))
+            self.assertIn(
+                "as is one more" if len(marked) == 2 else f"as are {len(marked) - 1} more",
+                next(each.text for each in warnings if each.kind == "integer-without-bound"),
+            )
         self.assertEqual(lines["no-name"], [] if re.search(rb"^NAME", text, re.M) else [1])
         return {each.kind for each in warnings}
 
@@ -166,16 +211,30 @@ class Properties(unittest.TestCase):
                 lines = lines[:place] + b"\n" + lines[place:]
             self.assertEqual({each.name for each in LpText(lines).late_names}, late)
         model, kinds = mpslp.load(text, "lp"), {each.kind for each in warnings_in(text, _mpslp.LP)}
-        odd = {name for name in (model.objective, *model.rows, *model.columns) if name.startswith("(") or opens_more_than_it_closes(name)}
+        odd = {
+            name
+            for name in (model.objective, *model.rows, *model.columns)
+            if name.startswith("(") or opens_more_than_it_closes(name)
+        }
         self.assertEqual("sum-in-parentheses" in kinds, bool(odd), odd)
         return kinds
 
     def test_parentheses_and_commas(self):
         """A line has one warning for all parts of its sums; in a large file only the first part is searched."""
-        text = b"min 3 (x + y)\nst\nc1: 2(x + y) - 4 (x + z)(1) >= 10(y) \\ (a\nc2: x(1) >= 3,5\n+ y,1 + 1,25z <= 4\n\\ 3,5 (x\nend\n(x\n3,5\n"
+        text = (
+            b"min 3 (x + y)\nst\nc1: 2(x + y) - 4 (x + z)(1) >= 10(y) \\ (a\nc2: x(1) >= 3,5\n+ y,1 + 1,25z <= 4\n"
+            b"\\ 3,5 (x\nend\n(x\n3,5\n"
+        )
         found = [(each.line, each.kind, each.text.partition(" read ")[0]) for each in warnings_in(text, _mpslp.LP)]
-        self.assertEqual(found, [(1, "sum-in-parentheses", "(x and y) are"), (3, "sum-in-parentheses", "(x and y) are"),
-                                 (4, "decimal-comma", "3,5 is"), (5, "decimal-comma", "1,25z is")])
+        self.assertEqual(
+            found,
+            [
+                (1, "sum-in-parentheses", "(x and y) are"),
+                (3, "sum-in-parentheses", "(x and y) are"),
+                (4, "decimal-comma", "3,5 is"),
+                (5, "decimal-comma", "1,25z is"),
+            ],
+        )
         with mock.patch.object(_lp, "_BLOCK", text.index(b"c2") + 4):
             self.assertEqual([each.line for each in warnings_in(text, _mpslp.LP)], [1, 3])
 
@@ -183,7 +242,9 @@ class Properties(unittest.TestCase):
         """Names are found in whichever block of the rows they are, and as parts of words."""
         names = [f"x{number}" for number in range(3000)]
         rows = [f" c{number}: 2{name}-y>=1" for number, name in enumerate(names)]
-        text = "\n".join(["min y", "st", *rows, "bounds", *(f" {name} <= 9" for name in names), " late <= 1", "end"]).encode()
+        text = "\n".join(
+            ["min y", "st", *rows, "bounds", *(f" {name} <= 9" for name in names), " late <= 1", "end"]
+        ).encode()
         with mock.patch.object(_lp, "_BLOCK", 1000), mock.patch.object(_lp, "_MOST_READ_IN_FULL", 0):
             self.assertEqual([each.name for each in LpText(text).late_names], [b"late"])
 
@@ -195,8 +256,10 @@ class Commands(Directory):
         both = f"warning: a.mps:{COMMENT}\nwarning: b.lp:{NAME}\n"
         text = mpslp.canonical(PULP, "mps").decode()
         for words, status, output, error in (
-            (["check", "a.mps", "b.lp"], 1, "a.mps\nb.lp\n", both), (["canon", "a.mps"], 0, text, both.splitlines(True)[0]),
-            (["same", "a.mps", "b.lp"], 1, "not the same\n", both), (["diff", "a.mps", "a.mps"], 0, "same\n", f"warning: a.mps:{COMMENT}\n" * 2),
+            (["check", "a.mps", "b.lp"], 1, "a.mps\nb.lp\n", both),
+            (["canon", "a.mps"], 0, text, both.splitlines(True)[0]),
+            (["same", "a.mps", "b.lp"], 1, "not the same\n", both),
+            (["diff", "a.mps", "a.mps"], 0, "same\n", f"warning: a.mps:{COMMENT}\n" * 2),
             (["diff", "b.lp", os.devnull], 1, "- model: 1 rows, 2 columns, 1 entries\n", both.splitlines(True)[1]),
         ):
             self.prints(words, status, output, error)
@@ -222,7 +285,13 @@ class Commands(Directory):
         new = mpslp.canonical(PULP, "mps")
         self.file("a.mps", PULP)
         self.file("b.mps")
-        for words in (["-i", "a.mps"], ["-i", "--no-warnings", "a.mps"], ["-i", "-Wno-sense-in-comment", "a.mps"], ["a.mps", "-o", "a.mps"], ["a.mps", "-o", "./a.mps"]):
+        for words in (
+            ["-i", "a.mps"],
+            ["-i", "--no-warnings", "a.mps"],
+            ["-i", "-Wno-sense-in-comment", "a.mps"],
+            ["a.mps", "-o", "a.mps"],
+            ["a.mps", "-o", "./a.mps"],
+        ):
             self.prints(["canon", *words], 2, error=said)
             self.assertEqual(Path("a.mps").read_bytes(), PULP)
         os.symlink("a.mps", "link.mps")
@@ -243,7 +312,11 @@ class Commands(Directory):
         self.leaves(b_lp=LATE)
 
     def test_a_comment_that_agrees(self):
-        for text in (PULP.replace(b"Maximize", b"Minimize"), PULP.replace(b"ROWS", b"OBJSENSE\n    MAX\nROWS"), PULP.replace(b"ROWS", b"OBJSENSE MAXIMIZE\nROWS")):
+        for text in (
+            PULP.replace(b"Maximize", b"Minimize"),
+            PULP.replace(b"ROWS", b"OBJSENSE\n    MAX\nROWS"),
+            PULP.replace(b"ROWS", b"OBJSENSE MAXIMIZE\nROWS"),
+        ):
             self.file("a.mps", text)
             self.prints(["canon", "-i", "a.mps"], 0, "a.mps\n")
             self.assertEqual(Path("a.mps").read_bytes(), mpslp.canonical(text, "mps"))

@@ -3,8 +3,8 @@
 from __future__ import annotations
 
 from mpslp import _mpslp
-from mpslp._illegal_names import naming_what_is_not_legal
-from mpslp._sources import Format, Source, format_number, naming, read
+from mpslp._errors._illegal_names import naming_what_is_not_legal
+from mpslp._files._sources import Format, Source, format_number, naming, read
 
 
 def canonical(source: Source, from_format: Format | None = None, to_format: Format | None = None) -> bytes:
@@ -13,8 +13,8 @@ def canonical(source: Source, from_format: Format | None = None, to_format: Form
     ``from_format`` is the format of the source; it is optional for a path that ends in ``.mps`` or ``.lp``.
     ``to_format`` is that of the canonical text; by default it is the format of the source.
 
-    Raises ModelFileError if the text declares no model, or if a name is not legal in LP and ``to_format`` is LP; its ``name``
-    is that name.
+    Raises ModelFileError if the text declares no model, or if a name is not legal in LP and ``to_format`` is LP; its
+    ``name`` is that name.
 
     >>> mpslp.canonical(b"max 2.50 x\\nend\\n", "lp")
     b'Maximize\\n obj:\\n  + 2.5 x\\nSubject To\\nEnd\\n'

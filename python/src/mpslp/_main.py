@@ -12,7 +12,7 @@ from typing import NoReturn
 from mpslp._commands import COMMANDS, command_of
 from mpslp._commands._outcomes import Status, UsageError
 from mpslp._commands._parser import parser
-from mpslp._output import OutputError, write_line
+from mpslp._files._output import OutputError, printable, shown_path, write_line
 
 
 def main(arguments: Sequence[str] | None = None, prog: str | None = None) -> int:
@@ -23,7 +23,7 @@ def main(arguments: Sequence[str] | None = None, prog: str | None = None) -> int
     try:
         status = command_of(options.command).run(options)
     except UsageError as error:
-        write_line(sys.stderr, f"{made.prog}: error: {error}")
+        write_line(sys.stderr, printable(f"{made.prog}: error: {error}"))
         return Status.USAGE
     except ChildProcessError as error:
         write_line(sys.stderr, str(error))
@@ -48,6 +48,7 @@ def run(prog: str | None = None) -> int:
     try:
         return main(prog=prog)
     except KeyboardInterrupt:
+        _write_last_line("mpslp-tools: interrupted")
         return 128 + signal.SIGINT
     except MemoryError:
         _write_last_line("out of memory")
@@ -56,6 +57,11 @@ def run(prog: str | None = None) -> int:
         if error.is_closed_pipe:
             _end_by_closed_pipe()
         _write_last_line(f"{error.filename}: {error.strerror}")
+        return Status.FAILED
+    except OSError as error:  # such as too many open files
+        _write_last_line(
+            shown_path(": ".join(str(part) for part in (error.filename, error.strerror or error) if part is not None))
+        )
         return Status.FAILED
 
 

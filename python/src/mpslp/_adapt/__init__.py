@@ -28,8 +28,8 @@ if not TYPE_CHECKING:  # a checker of types would take every name for one of the
 
 def command(arguments: Sequence[str]) -> int:
     """Runs the command adapt with its arguments, and returns its exit status."""
+    from mpslp._files._output import OutputError
     from mpslp._main import main  # with argparse, which the calls do not need
-    from mpslp._output import OutputError
 
     try:
         return main(["adapt", *arguments], "python3 -m mpslp")

@@ -3,18 +3,18 @@
 from __future__ import annotations
 
 from collections.abc import Sequence
-from typing import TYPE_CHECKING, Optional
+from typing import TYPE_CHECKING
 
 from mpslp import _mpslp
 from mpslp._adapt._changes import AdaptError
-from mpslp._faults import ModelFileError
-from mpslp._sources import Format, format_number
+from mpslp._errors._faults import ModelFileError
+from mpslp._files._sources import Format, format_number
 
 if TYPE_CHECKING:
     from mpslp._mpslp import Arrays
 
 
-def accepted(content: bytes, format: Format) -> Optional[Arrays]:
+def accepted(content: bytes, format: Format) -> Arrays | None:
     """The arrays of a text that mpslp accepts, or None."""
     try:
         return _mpslp.load(content, format_number(format))

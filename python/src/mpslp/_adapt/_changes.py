@@ -2,11 +2,11 @@
 
 from collections.abc import Collection, Sequence
 from dataclasses import dataclass
-from typing import TYPE_CHECKING, Optional
+from typing import TYPE_CHECKING, NamedTuple
 
 if TYPE_CHECKING:
     from mpslp._adapt._writers import Writer
-    from mpslp._faults import ModelFileError
+    from mpslp._errors._faults import ModelFileError
 
 DIALECTS = ("coinutils", "glpsol", "lp_solve", "pulp", "qsopt")
 """The programs whose habits are known, beside what every file may have."""
@@ -18,17 +18,51 @@ FILE_KINDS = ("byte-order-mark", "compressed", "end-of-file-byte", "line-ends", 
 """Kinds of changes of whole files, in both formats."""
 
 MPS_KINDS = (
-    "bound-value", "column-in-bounds", "continued-column", "fixed-columns", "indent", "integer-bound", "letter-case", "marker-name", "name",
-    "negative-upper", "number", "objective-rhs", "objsense", "pulp-sense", "range-on-free", "section-again", "section-order",
-    "set-left-out", "trailing-text",
-)  # fmt: skip
+    "bound-value",
+    "column-in-bounds",
+    "continued-column",
+    "fixed-columns",
+    "indent",
+    "integer-bound",
+    "letter-case",
+    "marker-name",
+    "name",
+    "negative-upper",
+    "number",
+    "objective-rhs",
+    "objsense",
+    "pulp-sense",
+    "range-on-free",
+    "section-again",
+    "section-order",
+    "set-left-out",
+    "trailing-text",
+)
 """Kinds of changes in MPS: the names of its rules."""
 
 LP_KINDS = (
-    "added-constants", "added-terms", "bound-again", "constant-in-row", "free-and-bound", "glpsol-constant", "infinity", "integer-bound",
-    "keyword", "name", "negative-upper", "number", "number-first", "objective-constant", "problem-name", "product", "qsopt-range",
-    "row-without-terms", "section-again", "symbol", "terms-on-the-right",
-)  # fmt: skip
+    "added-constants",
+    "added-terms",
+    "bound-again",
+    "constant-in-row",
+    "free-and-bound",
+    "glpsol-constant",
+    "infinity",
+    "integer-bound",
+    "keyword",
+    "name",
+    "negative-upper",
+    "number",
+    "number-first",
+    "objective-constant",
+    "problem-name",
+    "product",
+    "qsopt-range",
+    "row-without-terms",
+    "section-again",
+    "symbol",
+    "terms-on-the-right",
+)
 """Kinds of changes in LP: the names of its rules."""
 
 KINDS = tuple(sorted({*FILE_KINDS, *MPS_KINDS, *LP_KINDS}))
@@ -72,18 +106,18 @@ class Note:
 class AdaptError(ValueError):
     """A text that is left, since its meaning would have to be guessed, or since mpslp rejects what it declares.
 
-    ``line`` is the line, from 1, or None for an error of the whole text; ``reason`` says why, and what to do; ``rejection`` is
-    the error of mpslp if the text is left for it, else None; ``filename`` is the path of the file, if it has one; ``writer`` is the program
-    that the header of the text names, if its dialect was taken for that reason.
+    ``line`` is the line, from 1, or None for an error of the whole text; ``reason`` says why, and what to do;
+    ``rejection`` is the error of mpslp if the text is left for it, else None; ``filename`` is the path of the file, if
+    it has one; ``writer`` is the program that the header of the text names, if its dialect was taken for that reason.
     """
 
-    def __init__(self, line: Optional[int], reason: str, rejection: "Optional[ModelFileError]" = None) -> None:
+    def __init__(self, line: int | None, reason: str, rejection: "ModelFileError | None" = None) -> None:
         super().__init__(line, reason, rejection)
         self.line = line
         self.reason = reason
         self.rejection = rejection
-        self.filename: Optional[str] = None
-        self.writer: Optional[Writer] = None
+        self.filename: str | None = None
+        self.writer: Writer | None = None
 
     def __str__(self) -> str:
         prefix = "" if self.filename is None else f"{self.filename}:"
@@ -94,11 +128,22 @@ class OtherLanguage(AdaptError):
     """A text that mpslp accepts in another meaning than that of the language that it is written in."""
 
 
+class Reported(NamedTuple):
+    """The whole text of a change, in latin-1, of which a Change shows the beginning."""
+
+    line: int
+    kind: str
+    before: str
+    after: str
+
+
 class Log:
     """The changes so far. A change of a kind that is not wanted is an AdaptError."""
 
     def __init__(self, strict: Collection[str] = ()) -> None:
         self.changes: list[Change] = []
+        self.reported: list[Change | Reported] = []
+        """The changes with their whole texts; one of which all is shown is its own."""
         self.notes: list[Note] = []
         self.kinds_not_wanted = frozenset(strict)
         self.fixed_names: dict[str, str] = {}
@@ -108,14 +153,25 @@ class Log:
     def add(self, line: int, kind: str, before: str, after: str) -> None:
         if kind in self.kinds_not_wanted:
             raise AdaptError(line, f"a change of the kind {kind} is needed: {shown(before)}")
-        self.changes.append(Change(line, kind, shown(before), shown(after)))
+        change = Change(line, kind, *_both_shown(before, after))
+        self.changes.append(change)
+        is_whole = change.before == before and change.after == after
+        self.reported.append(change if is_whole else Reported(line, kind, before, after))
+
+    def take(self, other: "Log") -> None:
+        """Has what another one has."""
+        self.changes += other.changes
+        self.reported += other.reported
+        self.notes += other.notes
+        self.fixed_names.update(other.fixed_names)
+        self.source_lines = other.source_lines
 
     def note(self, line: int, text: str) -> None:
         self.notes.append(Note(line, readable(text)))
 
 
 def readable(text: str) -> str:
-    """Text in latin-1, a character for each byte, as people read it: a terminal gets no control characters of a file."""
+    """Text in latin-1, a character for each byte, as people read it: no control characters."""
     return _printable(_decoded(text))
 
 
@@ -131,8 +187,24 @@ def _printable(text: str) -> str:
 
 def shown(text: str) -> str:
     """Text in latin-1, as people read it: on one line, and short."""
-    text = _printable(" ".join(_decoded(text).split()))
+    words = " ".join(_decoded(text).split())
+    if words == text and len(text) <= _MOST_SHOWN and text.isprintable():
+        return text  # not a copy of it: a file may have many
+    text = _printable(words)
     return text if len(text) <= _MOST_SHOWN else f"{text[:_MOST_SHOWN]}.."
+
+
+def _both_shown(before: str, after: str) -> tuple[str, str]:
+    """Texts before and after a change, as people read them; between quotes, with all spaces, if only these differ."""
+    shown_before, shown_after = shown(before), shown(after)
+    if shown_before == shown_after and before != after:
+        return _quoted(before), _quoted(after)
+    return shown_before, shown_after
+
+
+def _quoted(text: str) -> str:
+    whole = _printable(_decoded(text))
+    return f'"{whole}"' if len(whole) <= _MOST_SHOWN else f'"{whole[:_MOST_SHOWN]}.."'
 
 
 _MOST_SHOWN = 120

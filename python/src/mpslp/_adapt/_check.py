@@ -1,17 +1,18 @@
-"""The check of what adapt writes: its input and its output are read by one permissive reading, which knows none of the rules.
+"""The check of what adapt writes: its input and its output are read by one permissive reading, which knows none of the
+rules.
 
-The reading of each format has its own tokenizer, numbers and sections, and takes nothing from the modules that change a text:
-it is there to catch their mistakes. It declares what a text says, as far as it can be understood, and what it cannot place. The
-declarations of both texts have to be the same, except for what the reported changes account for.
+The reading of each format has its own tokenizer, numbers and sections, and takes nothing from the modules that change a
+text: it is there to catch their mistakes. It declares what a text says, as far as it can be understood, and what it
+cannot place. The declarations of both texts have to be the same, except for what the reported changes account for.
 """
 
 from __future__ import annotations
 
-from collections.abc import Hashable, Iterator, Mapping, Sequence
+from collections.abc import Hashable, Iterator, Mapping
 from dataclasses import dataclass
-from typing import NamedTuple, Optional, Protocol
+from typing import NamedTuple, Protocol
 
-from mpslp._adapt._changes import AdaptError, Change
+from mpslp._adapt._changes import AdaptError, Log
 
 
 class Declaration(NamedTuple):
@@ -32,21 +33,27 @@ class Declaration(NamedTuple):
 
 
 class Reading(Protocol):
-    """What a text declares, in its order. Each iteration reads the text again: large texts declare more than is kept well."""
+    """What a text declares, in its order. Each iteration reads the text again: large texts declare more than is kept
+    well.
+    """
 
-    def __iter__(self) -> Iterator[Declaration]: ...
+    def __iter__(self) -> Iterator[Declaration]:
+        ...
 
 
 @dataclass(frozen=True)
 class Difference:
     """What only one of two texts declares: the line, from 1, of the first text, or None; and the declaration."""
 
-    line: Optional[int]
+    line: int | None
     text: str
 
 
+INTERNAL_ERROR = "internal error: the result does not say what the file says"
+
+
 def require_the_same(
-    before: str, after: str, format: str, dialect: Optional[str], changes: Sequence[Change], names: Mapping[str, str]
+    before: str, after: str, format: str, dialect: str | None, log: Log, names: Mapping[str, str]
 ) -> None:
     """Raises AdaptError if a text that is written, in latin-1, says something else than the text that was read."""
     if before == after:
@@ -54,16 +61,18 @@ def require_the_same(
     if format == "lp":
         from mpslp._adapt._check_lp import check_lp
 
-        check_lp(before, after, dialect, names)
+        check_lp(before, after, dialect, names, log)
         return
-    difference = _difference(before, after, dialect, changes, names)
+    difference = _difference(before, after, dialect, log, names)
     if difference is not None:
-        raise AdaptError(difference.line, f"internal error: the result does not say what the file says: {difference.text}")
+        raise AdaptError(difference.line, f"{INTERNAL_ERROR}: {difference.text}")
 
 
-def _difference(
-    before: str, after: str, dialect: Optional[str], changes: Sequence[Change], names: Mapping[str, str]
-) -> Optional[Difference]:
+def _difference(before: str, after: str, dialect: str | None, log: Log, names: Mapping[str, str]) -> Difference | None:
     from mpslp._adapt import _check_mps as check
+    from mpslp._adapt._check_words import difference_in_mps
 
-    return check.differences(check.readings(before, dialect, changes), check.readings(after, dialect), changes, names)
+    found = check.differences(
+        check.readings(before, dialect, log.changes), check.readings(after, dialect), log.changes, names
+    )
+    return found or difference_in_mps(before, after, names, log.reported)

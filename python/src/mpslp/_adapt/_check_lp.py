@@ -1,8 +1,8 @@
 """A check of what is written of an LP file, which knows none of the rules.
 
-The source and the text that was made of it are read by one permissive reading of all declarations: signs, numbers, names,
-relations and sections. Both have to declare the same. The reading is independent of the reader that the rules have, since it
-is here to find the mistakes of that one: it shares neither its tokens nor its grammar.
+The source and the text that was made of it are read by one permissive reading of all declarations: signs, numbers,
+names, relations and sections. Both have to declare the same. The reading is independent of the reader that the rules
+have, since it is here to find the mistakes of that one: it shares neither its tokens nor its grammar.
 """
 
 from __future__ import annotations
@@ -11,9 +11,11 @@ from collections import Counter
 from collections.abc import Mapping, Sequence
 from dataclasses import dataclass, field
 from fractions import Fraction
-from typing import NamedTuple, Optional
+from typing import NamedTuple
 
-from mpslp._adapt._changes import AdaptError
+from mpslp._adapt._changes import AdaptError, Log
+from mpslp._adapt._check import INTERNAL_ERROR, Difference
+from mpslp._adapt._check_lp_lines import says_the_same
 from mpslp._adapt._check_lp_text import (
     INFINITE_SIDES,
     Limit,
@@ -27,8 +29,8 @@ from mpslp._adapt._check_lp_text import (
     tokens_of,
     value_of,
 )
+from mpslp._adapt._check_words import difference_in_lp
 
-INTERNAL_ERROR = "internal error: the result does not say what the file says"
 _INFINITE = float("inf")
 _FLIPPED = {"<": ">", ">": "<", "=": "="}
 
@@ -36,7 +38,7 @@ _FLIPPED = {"<": ">", ">": "<", "=": "="}
 class RowReading(NamedTuple):
     """A row: all terms on the left, with those of one column added, and its limits."""
 
-    label: Optional[str]
+    label: str | None
     terms: dict[str, Fraction]
     lower: Limit
     upper: Limit
@@ -49,7 +51,7 @@ class Reading:
     """What a text declares."""
 
     is_max: bool = False
-    label: Optional[str] = None
+    label: str | None = None
     objective: dict[str, Fraction] = field(default_factory=dict)
     constant: Limit = Fraction(0)
     rows: list[RowReading] = field(default_factory=list)
@@ -59,24 +61,23 @@ class Reading:
     """Where the bounds of a column are."""
 
 
-class Difference(NamedTuple):
-    """What the texts do not agree about: the line of the source, and a description."""
-
-    line: int
-    text: str
-
-
-def check_lp(source: str, written: str, dialect: Optional[str], names: Mapping[str, str]) -> None:
-    """Raises AdaptError if the text written does not declare what the source does, with the names written for names given."""
+def check_lp(source: str, written: str, dialect: str | None, names: Mapping[str, str], log: Log) -> None:
+    """Raises AdaptError if the text written does not declare what the source does, with the names written for names
+    given.
+    """
+    if says_the_same(source, written, dialect, names, log.reported):
+        return
     try:
-        before = readings(source, dialect)
+        words = tokens_of(source, dialect)
+        before = readings(words, dialect)
     except Unreadable as error:
         raise AdaptError(error.line, f"the file has more than one reading, or none: {error.reason}") from error
     try:
-        after = readings(written, None, is_of_mpslp=True)
+        words_written = tokens_of(written, None)
+        after = readings(words_written, None, is_of_mpslp=True)
     except Unreadable as error:
         raise AdaptError(1, f"{INTERNAL_ERROR}: line {error.line} of the result: {error.reason}") from error
-    found = differences(before, after, names)
+    found = differences(before, after, names) or difference_in_lp(words, words_written, dialect, names, log)
     if found is not None:
         raise AdaptError(found.line, f"{INTERNAL_ERROR}: {found.text}")
 
@@ -87,7 +88,7 @@ def check_lp(source: str, written: str, dialect: Optional[str], names: Mapping[s
 # writing it is part of the reading of the source.
 
 
-def differences(before: Reading, after: Reading, names: Mapping[str, str]) -> Optional[Difference]:
+def differences(before: Reading, after: Reading, names: Mapping[str, str]) -> Difference | None:
     """The first difference of two readings, or None."""
     if before.is_max != after.is_max:
         return Difference(1, "the sense of the objective")
@@ -104,12 +105,15 @@ def differences(before: Reading, after: Reading, names: Mapping[str, str]) -> Op
     if bounds != after.bounds:
         name = next(name for name in [*bounds, *after.bounds] if bounds.get(name) != after.bounds.get(name))
         return Difference(before.lines.get(name, 1), f"the bounds of {name}")
-    if Counter({(section, names.get(name, name)): count for (section, name), count in before.listed.items()}) != after.listed:
+    if (
+        Counter({(section, names.get(name, name)): count for (section, name), count in before.listed.items()})
+        != after.listed
+    ):
         return Difference(1, "the columns that are integer, binary or semi-continuous")
     return None
 
 
-def _written(label: Optional[str], names: Mapping[str, str]) -> Optional[str]:
+def _written(label: str | None, names: Mapping[str, str]) -> str | None:
     return None if label is None else names.get(label, label)
 
 
@@ -128,9 +132,10 @@ def _is_same_row(before: RowReading, after: RowReading, names: Mapping[str, str]
 # ---- the reading
 
 
-def readings(text: str, dialect: Optional[str], is_of_mpslp: bool = False) -> Reading:
-    """What a text declares; raises Unreadable where it has no reading, or two. For mpslp a number after a relation ends its row."""
-    tokens = tokens_of(text, dialect)
+def readings(tokens: Sequence[LpToken], dialect: str | None, is_of_mpslp: bool = False) -> Reading:
+    """What the tokens of a text declare; raises Unreadable where it has no reading, or two. For mpslp a number after a
+    relation ends its row.
+    """
     reading = Reading()
     ranges = {token.line for token in tokens if token.kind == "range"} if dialect == "qsopt" else set()
     found = sections_of([token for token in tokens if token.kind not in ("range", "constant", "negated")], dialect)
@@ -152,7 +157,9 @@ def readings(text: str, dialect: Optional[str], is_of_mpslp: bool = False) -> Re
     return reading
 
 
-def _read_objective(reading: Reading, body: Sequence[LpToken], comments: Sequence[LpToken], dialect: Optional[str]) -> None:
+def _read_objective(
+    reading: Reading, body: Sequence[LpToken], comments: Sequence[LpToken], dialect: str | None
+) -> None:
     if len(body) > 1 and body[1].kind == "colon":
         reading.label, body = body[0].text, body[2:]
     side = side_of(body)
@@ -174,7 +181,7 @@ def _read_rows(reading: Reading, body: Sequence[LpToken], is_of_mpslp: bool) -> 
         _read_block(reading, body[start].text, body[start + 2 : end], is_of_mpslp)
 
 
-def _read_block(reading: Reading, label: Optional[str], body: Sequence[LpToken], is_of_mpslp: bool) -> None:
+def _read_block(reading: Reading, label: str | None, body: Sequence[LpToken], is_of_mpslp: bool) -> None:
     relations = [at for at, token in enumerate(body) if token.kind == "relation"]
     if not relations:
         raise Unreadable(body[0].line if body else 1, "a row without a relation")
@@ -191,7 +198,9 @@ def _read_block(reading: Reading, label: Optional[str], body: Sequence[LpToken],
             gap = body[last : relations[at + used]]
             end = last + (side_length(gap) if is_of_mpslp else split_of(gap))
         marks = relations[at : at + used]
-        sides = [side_of(body[first:last]) for first, last in zip([start, *(mark + 1 for mark in marks)], [*marks, end])]
+        sides = [
+            side_of(body[first:last]) for first, last in zip([start, *(mark + 1 for mark in marks)], [*marks, end])
+        ]
         reading.rows.append(_row(label, sides, [body[mark] for mark in marks], body[start], body[end - 1]))
         start, at, label = end, at + used, None
 
@@ -206,12 +215,14 @@ def _is_between(left: Sequence[LpToken], gap: Sequence[LpToken], first: LpToken,
 
 
 class Atom(NamedTuple):
-    """A term or a constant: where it starts and ends, whether it has no sign, and where its name is after a number, or None."""
+    """A term or a constant: where it starts and ends, whether it has no sign, and where its name is after a number, or
+    None.
+    """
 
     start: int
     end: int
     is_unsigned: bool
-    name: Optional[int]
+    name: int | None
 
 
 def atoms_of(tokens: Sequence[LpToken]) -> list[Atom]:
@@ -245,7 +256,9 @@ def side_length(tokens: Sequence[LpToken]) -> int:
 
 
 def split_of(tokens: Sequence[LpToken]) -> int:
-    """Where, between two relations, a row ends and the next one starts: in one way, or in one way at the start of a line."""
+    """Where, between two relations, a row ends and the next one starts: in one way, or in one way at the start of a
+    line.
+    """
     atoms = atoms_of(tokens)
     unsigned = [atom.start for atom in atoms[1:] if atom.is_unsigned]
     if len(unsigned) == 1:
@@ -261,7 +274,9 @@ def split_of(tokens: Sequence[LpToken]) -> int:
     return next(iter(chosen))
 
 
-def _row(label: Optional[str], sides: Sequence[Side], relations: Sequence[LpToken], first: LpToken, last: LpToken) -> RowReading:
+def _row(
+    label: str | None, sides: Sequence[Side], relations: Sequence[LpToken], first: LpToken, last: LpToken
+) -> RowReading:
     terms, senses = dict(sides[0].terms), [relation.text for relation in relations]
     if len(sides) == 3:
         limits = [_limit(side, sides[1]) for side in (sides[0], sides[2])]
@@ -275,7 +290,9 @@ def _row(label: Optional[str], sides: Sequence[Side], relations: Sequence[LpToke
     for name, value in right.terms.items():
         terms[name] = terms.get(name, Fraction(0)) - value
     limit = _limit(right, left)
-    return RowReading(label, terms, -_INFINITE if sense == "<" else limit, _INFINITE if sense == ">" else limit, first.line, last.line)
+    return RowReading(
+        label, terms, -_INFINITE if sense == "<" else limit, _INFINITE if sense == ">" else limit, first.line, last.line
+    )
 
 
 def _limit(side: Side, terms: Side) -> Limit:
@@ -312,7 +329,7 @@ def _read_bounds(reading: Reading, body: Sequence[LpToken]) -> None:
         _take_bound(reading, name, sides, first)
 
 
-def _take_bound(reading: Reading, name: Optional[str], sides: Sequence[Sequence[LpToken]], first: LpToken) -> None:
+def _take_bound(reading: Reading, name: str | None, sides: Sequence[Sequence[LpToken]], first: LpToken) -> None:
     if name is None or len(sides) == 1 and not reading.bounds.get(name, {}).get("free"):
         raise Unreadable(first.line, "no bound")
     for at in range(1, len(sides), 2):
@@ -328,14 +345,16 @@ def _take_bound(reading: Reading, name: Optional[str], sides: Sequence[Sequence[
                 _bound(reading, name, side, value, first.line)
 
 
-def _bound(reading: Reading, name: Optional[str], side: str, value: Limit, line: int) -> None:
+def _bound(reading: Reading, name: str | None, side: str, value: Limit, line: int) -> None:
     assert name is not None
     reading.bounds.setdefault(name, {}).setdefault(side, set()).add(value)
     reading.lines.setdefault(name, line)
 
 
-def _settle_bounds(reading: Reading, dialect: Optional[str]) -> None:
-    """A column that is free has both bounds, if it is not given others; and what QSopt_ex means by bounds that are left out."""
+def _settle_bounds(reading: Reading, dialect: str | None) -> None:
+    """A column that is free has both bounds, if it is not given others; and what QSopt_ex means by bounds that are left
+    out.
+    """
     for sides in reading.bounds.values():
         if sides.pop("free", None) is not None:
             sides.setdefault("lower", {-_INFINITE})

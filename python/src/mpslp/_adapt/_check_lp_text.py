@@ -1,4 +1,4 @@
-"""The tokens, the sections and the sums that the check of LP files reads."""
+"""The tokens, sections and sums of the check of LP files: not those of `_text`, whose mistakes they would share."""
 
 from __future__ import annotations
 
@@ -6,14 +6,16 @@ import re
 from collections.abc import Iterator, Sequence
 from fractions import Fraction
 from functools import lru_cache
-from typing import NamedTuple, Optional, Union
+from typing import NamedTuple
 
-Limit = Union[Fraction, float]
+Limit = Fraction | float
 """A number, or an infinite one."""
 
 _TOKEN = re.compile(
-    r"[ \t]*(?:(?P<space>\s+)|(?P<sign>[+-]|\xe2\x88\x92)|(?P<number>(?:\d+(?:\.\d*)?|\.\d+)(?:[eE][+-]?\d+)?(?:\#[iI][nN][fF])?)"
-    r"|(?P<name>(?:[^\s\\<>=:*^+\-\[\]\xe2]+|(?!\xe2\x89[\xa4\xa5]|\xe2\x88\x92)\xe2|\[[^\s\[\]<>=*^]*\])+)|\\(?P<comment>[^\n]*)"
+    r"[ \t]*(?:(?P<space>\s+)|(?P<sign>[+-]|\xe2\x88\x92)"
+    r"|(?P<number>(?:\d+(?:\.\d*)?|\.\d+)(?:[eE][+-]?\d+)?(?:\#[iI][nN][fF])?)"
+    r"|(?P<name>(?:[^\s\\<>=:*^+\-\[\]\xe2]+|(?!\xe2\x89[\xa4\xa5]|\xe2\x88\x92)\xe2|\[[^\s\[\]<>=*^]*\])+)"
+    r"|\\(?P<comment>[^\n]*)"
     r"|(?P<relation>[<>]=?|=[<>=]?|\xe2\x89[\xa4\xa5])|(?P<colon>:)|(?P<star>\*)|(?P<other>\S)|\Z)",
     re.ASCII,  # the bytes of letters such as à are no spaces
 )
@@ -26,7 +28,7 @@ INFINITE_SIDES = ("infty", "infin")
 _RANGE = re.compile(r" RANGE \(.*\)\s*")
 _CONSTANT = re.compile(r"\* constant term = (-?)([0-9]+(?:\.[0-9]*)?(?:e[+-]?[0-9]+)?) \*\\")
 _NEGATED = " the constant of the objective is negated: it was that of CoinUtils"
-_HEADERS = {
+HEADERS = {
     **dict.fromkeys(("min", "minimize", "minimum", "minimise", "minimization"), "min"),
     **dict.fromkeys(("max", "maximize", "maximum", "maximise", "maximization"), "max"),
     **dict.fromkeys(("subject to", "such that", "st", "s.t.", "st."), "rows"),
@@ -36,7 +38,7 @@ _HEADERS = {
     **dict.fromkeys(("semi", "semis"), "semis"),
     "end": "end",
 }
-_FIRST_WORDS = {header.split()[0] for header in _HEADERS}
+_FIRST_WORDS = {header.split()[0] for header in HEADERS}
 _LONGEST_NUMBER = 1000
 _LARGEST_EXPONENT = 1000
 """What is beyond is no number of mpslp's LP format."""
@@ -71,9 +73,11 @@ class Unreadable(Exception):
 # ---- tokens
 
 
-def tokens_of(text: str, dialect: Optional[str]) -> list[LpToken]:
+def tokens_of(text: str, dialect: str | None) -> list[LpToken]:
     """The tokens of a text in latin-1, without the first lines of QSopt_ex; some comments are tokens."""
-    found = list(_words_of_pulp(text) if dialect == "pulp" else _tokens(text, _TOKEN_OF_QSOPT if dialect == "qsopt" else _TOKEN))
+    found = list(
+        _words_of_pulp(text) if dialect == "pulp" else _tokens(text, _TOKEN_OF_QSOPT if dialect == "qsopt" else _TOKEN)
+    )
     if found and dialect == "qsopt" and found[0].text.lower() == "problem":
         found = [token for token in found if token.line > found[0].line + 1]
     return found
@@ -91,7 +95,11 @@ def _tokens(text: str, pattern: re.Pattern[str]) -> Iterator[LpToken]:
         else:
             is_joined = found.start(kind) == end
             end = found.end()
-            yield new_token(LpToken, (kind, word, line, is_joined)) if kind == "number" else _plain(kind, word, line, is_joined)
+            yield (
+                new_token(LpToken, (kind, word, line, is_joined))
+                if kind == "number"
+                else _plain(kind, word, line, is_joined)
+            )
             if kind == "name" and len(word) == 3 and word.lower() == "end" and _LINE_END.match(text, end):
                 return
 
@@ -163,13 +171,13 @@ class LpSection(NamedTuple):
     line: int
 
 
-def sections_of(tokens: Sequence[LpToken], dialect: Optional[str]) -> list[LpSection]:
+def sections_of(tokens: Sequence[LpToken], dialect: str | None) -> list[LpSection]:
     """The sections of a file, of which the first is the objective."""
     found: list[LpSection] = []
     at = 0
     while at < len(tokens):
         is_word = tokens[at].kind == "name" and tokens[at].text.lower() in _FIRST_WORDS
-        name, count = _header(tokens, at, dialect, found[-1].name if found else "") if is_word else ("", 0)
+        name, count = header_at(tokens, at, dialect, found[-1].name if found else "") if is_word else ("", 0)
         if name:
             found.append(LpSection(name, [], tokens[at].line))
             at += count
@@ -192,23 +200,25 @@ def sections_of(tokens: Sequence[LpToken], dialect: Optional[str]) -> list[LpSec
     return found
 
 
-def _header(tokens: Sequence[LpToken], at: int, dialect: Optional[str], section: str) -> tuple[str, int]:
+def header_at(tokens: Sequence[LpToken], at: int, dialect: str | None, section: str) -> tuple[str, int]:
     """The section that a token opens and how many tokens its header has, or nothing."""
     word = tokens[at].text.lower()
     following = tokens[at + 1].text.lower() if at + 1 < len(tokens) else ""
     if tokens[at].kind != "name":
         return "", 0
-    if f"{word} {following}" in _HEADERS and not (section == "rows" and _is_name_here(tokens, at, dialect, section)):
+    if f"{word} {following}" in HEADERS and not (section == "rows" and _is_name_here(tokens, at, dialect, section)):
         return "rows", 2
-    if word not in _HEADERS or (section and word in ("min", "max", "minimize", "maximize")):
+    if word not in HEADERS or (section and HEADERS[word] in ("min", "max")):
         return "", 0
     if at and _is_name_here(tokens, at, dialect, section):
         return "", 0
-    is_dashed = word == "semi" and following == "-" and at + 2 < len(tokens)
-    return _HEADERS[word], 3 if is_dashed else 1
+    is_dashed = (
+        word == "semi" and following == "-" and at + 2 < len(tokens) and tokens[at + 2].text.lower() == "continuous"
+    )
+    return HEADERS[word], 3 if is_dashed else 1
 
 
-def _is_name_here(tokens: Sequence[LpToken], at: int, dialect: Optional[str], section: str) -> bool:
+def _is_name_here(tokens: Sequence[LpToken], at: int, dialect: str | None, section: str) -> bool:
     """Whether a word that may open a section is a name where it is."""
     token, before = tokens[at], tokens[at - 1]
     if before.kind in ("sign", "star") or (dialect == "pulp" and before.line == token.line):
@@ -221,7 +231,7 @@ def _is_name_here(tokens: Sequence[LpToken], at: int, dialect: Optional[str], se
     if after.kind == "relation" or (after.text.lower() == "free" and section == "bounds"):
         return True
     is_dashed = token.text.lower() == "semi" and after.text == "-"
-    return after.kind == "sign" and _HEADERS[token.text.lower()] not in ("rows", "bounds", "end") and not is_dashed
+    return after.kind == "sign" and HEADERS[token.text.lower()] not in ("rows", "bounds", "end") and not is_dashed
 
 
 def _is_label_with_digit(tokens: Sequence[LpToken], at: int) -> bool:
@@ -235,18 +245,27 @@ def _starts_label(tokens: Sequence[LpToken], at: int) -> bool:
     """Whether a number at the start of a line is no right-hand side."""
     if not at or tokens[at - 1].line == tokens[at].line:
         return False
-    return tokens[at - 1].kind != "relation" and not (tokens[at - 1].kind == "sign" and tokens[at - 2].kind == "relation")
+    return tokens[at - 1].kind != "relation" and not (
+        tokens[at - 1].kind == "sign" and tokens[at - 2].kind == "relation"
+    )
 
 
 def _is_label_of_number(tokens: Sequence[LpToken], at: int) -> bool:
-    return tokens[at].kind == "number" and _starts_label(tokens, at) and at + 1 < len(tokens) and tokens[at + 1].kind == "colon"
+    return (
+        tokens[at].kind == "number"
+        and _starts_label(tokens, at)
+        and at + 1 < len(tokens)
+        and tokens[at + 1].kind == "colon"
+    )
 
 
 # ---- sums
 
 
 class Side(NamedTuple):
-    """A side of a row, or the objective: its terms, with those of one column added, its constant, and of how many numbers it is the sum."""
+    """A side of a row, or the objective: its terms, with those of one column added, its constant, and of how many
+    numbers it is the sum.
+    """
 
     terms: dict[str, Fraction]
     constant: Limit
@@ -279,7 +298,7 @@ def side_of(tokens: Sequence[LpToken]) -> Side:
     return Side(terms, constant, constants)
 
 
-def _term(tokens: Sequence[LpToken], is_negative: bool, line: int) -> tuple[Optional[str], Limit]:
+def _term(tokens: Sequence[LpToken], is_negative: bool, line: int) -> tuple[str | None, Limit]:
     """The name of a term, or None for a constant, and its number."""
     shape = "".join([token.kind[:2] for token in tokens])
     places = _SHAPES.get(shape)
@@ -297,8 +316,8 @@ def _term(tokens: Sequence[LpToken], is_negative: bool, line: int) -> tuple[Opti
 class _Places(NamedTuple):
     """Where in a term its number and its name are."""
 
-    number: Optional[int]
-    name: Optional[int]
+    number: int | None
+    name: int | None
 
 
 _NAME_ONLY = "na"
@@ -313,13 +332,13 @@ _SHAPES = {
 
 
 @lru_cache(maxsize=100_000)
-def signed_number(text: str, is_negative: bool) -> Optional[Limit]:
+def signed_number(text: str, is_negative: bool) -> Limit | None:
     """The value of a number with a sign, or None for a division by 0, or by a number that is too long."""
     number = number_of(text)
     return -number if is_negative and number is not None else number
 
 
-def number_of(text: str) -> Optional[Limit]:
+def number_of(text: str) -> Limit | None:
     """The value of an unsigned number, or None for a division by 0, or by a number that is too long."""
     if text.lower().endswith("inf"):
         return float("inf")
@@ -338,12 +357,14 @@ def number_of(text: str) -> Optional[Limit]:
 
 
 def _of_long_number(whole: str, part: str, power: str) -> Limit:
-    """The value of a number that the rules take only as a limit that is infinite: infinite, or 0 if it is below all others."""
+    """The value of a number that the rules take only as a limit that is infinite: infinite, or 0 if it is below all
+    others.
+    """
     digits = (whole + part).lstrip("0")
     if not digits:
         return Fraction(0)
     exponent = power.lstrip("+-0")
-    size = 10**_MOST_DIGITS_OF_EXPONENT if len(exponent) > _MOST_DIGITS_OF_EXPONENT else int(exponent or 0)
+    size = 10 ** _MOST_DIGITS_OF_EXPONENT if len(exponent) > _MOST_DIGITS_OF_EXPONENT else int(exponent or 0)
     places = len(digits) - len(part) + (-size if power.startswith("-") else size)
     return _INFINITE if places > 20 else Fraction(0)
 

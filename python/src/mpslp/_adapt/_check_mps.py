@@ -1,7 +1,7 @@
 """What an MPS text declares, by a permissive reading of its own, and whether two texts declare the same.
 
-The reading takes nothing from the modules that change a text: see _check. A word that it cannot place is a declaration of the
-kind ``text``, so that none is lost unseen.
+The reading takes nothing from the modules that change a text: see _check. A word that it cannot place is a declaration
+of the kind ``text``, so that none is lost unseen.
 """
 
 from __future__ import annotations
@@ -13,20 +13,23 @@ from dataclasses import dataclass
 from fractions import Fraction
 from functools import cached_property, lru_cache
 from itertools import zip_longest
-from typing import NamedTuple, Optional, Union
+from typing import NamedTuple
 
 from mpslp._adapt._changes import Change
 from mpslp._adapt._check import Declaration, Difference, Reading
 
+
 class Decimal(NamedTuple):
-    """A decimal: whether it is below 0, its digits without zeros at both ends, which may be very many, and an exponent."""
+    """A decimal: whether it is below 0, its digits without zeros at both ends, which may be very
+    many, and an exponent.
+    """
 
     is_negative: bool
     digits: str
     exponent: int
 
 
-Number = Union[str, Decimal, Fraction]
+Number = str | Decimal | Fraction
 """A number: an infinite one by its sign, a decimal, or another fraction."""
 
 ZERO = Decimal(False, "", 0)
@@ -45,7 +48,7 @@ _SIGNS = "$*;:,.!#()[]{}<>=\"'"
 
 
 @lru_cache(maxsize=1 << 16)
-def number_in(word: str, is_limit: bool) -> Optional[Number]:
+def number_in(word: str, is_limit: bool) -> Number | None:
     """The number that a word is, or None. A limit of 10^20 or more is infinite."""
     endless = _ENDLESS.fullmatch(word)
     if endless is not None:
@@ -86,8 +89,11 @@ def _of_fraction(value: Fraction) -> Number:
     return Decimal(value < 0, mantissa, exponent + len(digits) - len(mantissa)) if mantissa else ZERO
 
 
-def readings(text: str, dialect: Optional[str] = None, changes: Sequence[Change] = ()) -> Reading:
-    """What an MPS text declares; in fixed columns if a change says that it is so laid out. No dialect has another reading."""
+def readings(text: str, dialect: str | None = None, changes: Sequence[Change] = ()) -> Reading:
+    """What an MPS text declares; in fixed columns if a change says that it is so laid out.
+
+    No dialect has another reading.
+    """
     return _MpsReading(text, any(change.kind == "fixed-columns" for change in changes))
 
 
@@ -119,7 +125,7 @@ class _Scan:
         self.line = 0
         self.row_types: dict[str, str] = {}
         self.column_names: set[str] = set()
-        self.objective: Optional[str] = None
+        self.objective: str | None = None
         self.column = ""
         self.in_block = False
         self.awaits_word = False
@@ -160,7 +166,9 @@ class _Scan:
     # ---- headers
 
     def is_header(self, words: list[str]) -> bool:
-        """Whether a line in the first column is a header: a keyword, or one word; but not a line of RHS whose set is so named."""
+        """Whether a line in the first column is a header: a keyword, or one word; but not a line of RHS whose set is so
+        named.
+        """
         word = words[0].upper().rstrip(":")
         if self.awaits_word:
             return word in _HEADERS
@@ -246,7 +254,9 @@ class _Scan:
             self.keep_text(rest)
 
     def pairs(self, words: list[str]) -> tuple[str, list[tuple[str, str]], list[str]]:
-        """The first word, if it comes before the first pair of a row and a number; the pairs; and the words after them."""
+        """The first word, if it comes before the first pair of a row and a number; the pairs; and
+        the words after them.
+        """
         start = len(words) % 2
         count = self.count_of_pairs(words, start)
         if start + 2 * count < len(words) and self.count_of_pairs(words, 1 - start) > count:
@@ -275,7 +285,7 @@ class _Scan:
         self.declare("bound", ("".join(words[1:at]), kind, words[at]), value)
         self.keep_text(words[end:])
 
-    def place_of_column(self, words: list[str], has_number: bool) -> Optional[int]:
+    def place_of_column(self, words: list[str], has_number: bool) -> int | None:
         """Where the column of a bound is: a known one, else where its place is if the line has a set."""
         places = [at for at in (2, 1) if at < len(words) and (not has_number or self.is_number_at(words, at + 1))]
         known = [at for at in places if words[at] in self.column_names]
@@ -289,9 +299,13 @@ class _Scan:
 # ---- two readings
 
 
-def differences(before: Reading, after: Reading, changes: Sequence[Change], names: Mapping[str, str]) -> Optional[Difference]:
+def differences(
+    before: Reading, after: Reading, changes: Sequence[Change], names: Mapping[str, str]
+) -> Difference | None:
     """The first declaration that only one of two texts has and that no change accounts for, or None."""
-    if not names and all(one is not None and other is not None and one[1:] == other[1:] for one, other in zip_longest(before, after)):
+    if not names and all(
+        one is not None and other is not None and one[1:] == other[1:] for one, other in zip_longest(before, after)
+    ):
         return None
     return _Comparison(before, after, changes, names).first()
 
@@ -342,19 +356,19 @@ class _Comparison:
         """The set of the first declaration of each kind."""
         return {each.kind: each.about[0] for each in reversed(self.before) if each.kind in _WITH_SET}
 
-    def first(self) -> Optional[Difference]:
+    def first(self) -> Difference | None:
         if len(set(self.names.values())) != len(self.names):
             return Difference(None, "one name is written for two")
         missing, extra = _without(self.before, self.after), _Extra(_without(self.after, self.before))
         for declaration in missing:
             kinds = self.kinds_of_line.get(declaration.line, ())
-            if not any(kind in _REPLACED and extra.takes(_REPLACED[kind](self, declaration)) for kind in kinds) and not any(
-                kind in _DROPPED and _DROPPED[kind](self, declaration) for kind in kinds
-            ):
+            if not any(
+                kind in _REPLACED and extra.takes(_REPLACED[kind](self, declaration)) for kind in kinds
+            ) and not any(kind in _DROPPED and _DROPPED[kind](self, declaration) for kind in kinds):
                 return Difference(declaration.line, f"{declaration} is missing")
         return self.first_added(extra.left())
 
-    def first_added(self, extra: Sequence[Declaration]) -> Optional[Difference]:
+    def first_added(self, extra: Sequence[Declaration]) -> Difference | None:
         """The first declaration of the second text only that no change adds; each change adds one line."""
         left = Counter(change.kind for change in self.changes)
         for declaration in extra:
@@ -376,7 +390,7 @@ class _Extra:
         self.declarations = declarations
         self.counts = Counter(each.said for each in declarations)
 
-    def takes(self, wanted: Optional[Declaration]) -> bool:
+    def takes(self, wanted: Declaration | None) -> bool:
         """Whether a declaration is among them, which then has one less."""
         if wanted is None or self.counts[wanted.said] <= 0:
             return False
@@ -412,18 +426,23 @@ def _may_be_remark(all: _Comparison, it: Declaration) -> bool:
     """A word that is no data: it has no digit, and is no name of a row or a column, no header and no marker."""
     if it.kind != "text" or any(letter.isdigit() for letter in it.about[1]):
         return False
-    return not {it.about[1], it.about[1].strip(_SIGNS)} & all.named and not {it.about[1].strip(_SIGNS).upper(), it.about[1].upper()} & _WORDS
+    return (
+        not {it.about[1], it.about[1].strip(_SIGNS)} & all.named
+        and not {it.about[1].strip(_SIGNS).upper(), it.about[1].upper()} & _WORDS
+    )
 
 
 _DROPPED: dict[str, Callable[[_Comparison, Declaration], bool]] = {
     "trailing-text": _may_be_remark,
     "range-on-free": lambda all, it: it.kind == "range" and it.about[1] in all.free_rows,
-    "bound-value": lambda all, it: it.kind == "text" and it.about[0] == "BOUNDS" and number_in(it.about[1], True) is not None,
+    "bound-value": lambda all, it: it.kind == "text"
+    and it.about[0] == "BOUNDS"
+    and number_in(it.about[1], True) is not None,
 }
 """What a change of each kind may leave out of its line."""
 
 
-def _negated(all: _Comparison, it: Declaration) -> Optional[Declaration]:
+def _negated(all: _Comparison, it: Declaration) -> Declaration | None:
     """The number on the objective with the other sign."""
     if it.kind != "side" or it.about[1] != all.objective or not isinstance(it.value, Decimal):
         return None
@@ -431,7 +450,7 @@ def _negated(all: _Comparison, it: Declaration) -> Optional[Declaration]:
     return Declaration(it.line, it.kind, it.about, it.value._replace(is_negative=is_negative))
 
 
-def _with_set(all: _Comparison, it: Declaration) -> Optional[Declaration]:
+def _with_set(all: _Comparison, it: Declaration) -> Declaration | None:
     """A line without a set as one of the first set, with the sign that the objective gets."""
     if it.kind not in _WITH_SET or it.about[0]:
         return None
@@ -440,7 +459,7 @@ def _with_set(all: _Comparison, it: Declaration) -> Optional[Declaration]:
     return (_negated(all, with_set) if is_negated else None) or with_set
 
 
-_REPLACED: dict[str, Callable[[_Comparison, Declaration], Optional[Declaration]]] = {
+_REPLACED: dict[str, Callable[[_Comparison, Declaration], Declaration | None]] = {
     "objective-rhs": _negated,
     "set-left-out": _with_set,
 }

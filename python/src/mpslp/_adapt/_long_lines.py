@@ -3,13 +3,16 @@
 from __future__ import annotations
 
 from mpslp._adapt._changes import AdaptError, Log
+from mpslp._text._lines import LONGEST_LINE
 
-LONGEST_LINE = 1_048_576
 _PART_OF_LINE = 1_000_000
 
 
 def with_short_lines(text: str, comment: str, log: Log) -> str:
-    """Lines over the limit are broken, within comments too; in MPS spaces at their ends go. A line end is no part of its line."""
+    """Lines over the limit are broken, within comments too; in MPS spaces at their ends go.
+
+    A line end is no part of its line.
+    """
     if len(text) <= LONGEST_LINE:
         return text
     lines = text.split("\n")
@@ -39,7 +42,9 @@ def _broken(line: str, comment: str, number: int) -> str:
 
 
 def _pieces(code: str) -> list[str]:
-    """A line of LP in pieces that each end before a space, and are as long as they may be; one without spaces may be longer."""
+    """A line of LP in pieces that each end before a space, and are as long as they may be; one without spaces may be
+    longer.
+    """
     pieces, start = [], 0
     while len(code) - start > _PART_OF_LINE:
         end = code.rfind(" ", start + 1, start + _PART_OF_LINE + 1)

@@ -8,34 +8,55 @@ from __future__ import annotations
 
 import re
 from itertools import pairwise
-from typing import Optional
 
 from mpslp._adapt._changes import AdaptError, Log
 from mpslp._adapt._long_lines import with_short_lines
 from mpslp._adapt._lp_bounds import BoundRules
 from mpslp._adapt._lp_context import Context, without_comments
+from mpslp._adapt._lp_doubts import doubts
 from mpslp._adapt._lp_parts import Section
+from mpslp._adapt._lp_plain import PlainStatements
 from mpslp._adapt._lp_print import Cell, Script, printed
 from mpslp._adapt._lp_reader import Reader
 from mpslp._adapt._lp_rules import ObjectiveRules, RowRules
-from mpslp._adapt._lp_sections import OTHER_SENSES, SENSES
-from mpslp._adapt._lp_tokens import Tokens
+from mpslp._adapt._lp_sections import OTHER_SENSES
+from mpslp._adapt._lp_tokens import PLAIN_BOUND, PLAIN_NAMES, PLAIN_OBJECTIVE, PLAIN_ROW, Tokens
+from mpslp._text._lp_words import SENSES
 
 _OBJECTIVE_OF_LP_SOLVE = re.compile(r"^[^\S\n]*(?:max|min)(?:imi[sz]e)?\s*:", re.IGNORECASE | re.MULTILINE)
-_LANGUAGE_OF_LP_SOLVE = "the LP language of lp_solve: convert it with lp_solve -S1 -parse_only -wfmps model.mps model.lp"
+_LANGUAGE_OF_LP_SOLVE = (
+    "the LP language of lp_solve: convert it with lp_solve -S1 -parse_only -wfmps model.mps model.lp"
+)
+
+_WITH_PLAIN_STATEMENTS = (None, "coinutils", "glpsol", "lp_solve")
+"""The dialects whose words are those of all others."""
 
 
-def adapt_lp(text: str, dialect: Optional[str], log: Log) -> tuple[str, dict[str, str]]:
+def adapt_lp(text: str, dialect: str | None, log: Log) -> tuple[str, dict[str, str]]:
     """The text that mpslp reads, and the names written instead of names given."""
     is_commented = re.match(r"\s*(?:/\*|//)", text) is not None
     if is_commented and _OBJECTIVE_OF_LP_SOLVE.search(text):
         raise AdaptError(1, _LANGUAGE_OF_LP_SOLVE)
-    adapter = _Adapter(text, dialect, log)
+    if dialect in _WITH_PLAIN_STATEMENTS:
+        trial = Log(log.kinds_not_wanted)
+        try:
+            found = _adapted(text, dialect, trial, PlainStatements(text, dialect))
+        except AdaptError:
+            pass  # token by token, all is known of the place
+        else:
+            log.take(trial)
+            return found
+    return _adapted(text, dialect, log, None)
+
+
+def _adapted(text: str, dialect: str | None, log: Log, plain: PlainStatements | None) -> tuple[str, dict[str, str]]:
+    adapter = _Adapter(text, dialect, log, plain)
     written = adapter.written()
     if log.changes or (dialect is not None and adapter.has_text_after_end):
         adapter.require_clear()
     if log.changes:
         adapter.bounds.note_lone_columns()
+        adapter.rows.note_units()
         adapter.rows.note_rows_like_bounds()
         adapter.bounds.note_gaps()
     return written, adapter.context.names.written
@@ -44,10 +65,10 @@ def adapt_lp(text: str, dialect: Optional[str], log: Log) -> tuple[str, dict[str
 class _Adapter:
     """The rules in the order of the file."""
 
-    def __init__(self, text: str, dialect: Optional[str], log: Log) -> None:
+    def __init__(self, text: str, dialect: str | None, log: Log, plain: PlainStatements | None) -> None:
         self.text = text
         self.log = log
-        self.reader = Reader(Tokens(text, dialect), dialect, log)
+        self.reader = Reader(Tokens(text, dialect, plain), dialect, log)
         self.context = Context(self.reader, log)
         self.rows = RowRules(self.context)
         self.bounds = BoundRules(self.context)
@@ -55,7 +76,11 @@ class _Adapter:
     def read(self) -> None:
         reader = self.reader
         is_max = self.sense()
-        ObjectiveRules(self.context, is_max).settle(reader.objective())
+        objective = ObjectiveRules(self.context, is_max)
+        if (statement := reader.plain(PLAIN_OBJECTIVE)) is not None:
+            objective.settle_plain(statement)
+        else:
+            objective.settle(reader.objective())
         while reader.token.kind != "end":
             found = reader.section_at(reader.at)
             if found is None:
@@ -99,7 +124,10 @@ class _Adapter:
         reader = self.reader
         first = reader.token
         if reader.dialect != "qsopt":
-            raise reader.error("an LP file starts with the objective, and one of QSopt_ex with a line Problem: --from qsopt takes it as the name")
+            raise reader.error(
+                "an LP file starts with the objective, and one of QSopt_ex with a line Problem: --from qsopt "
+                "takes it as the name"
+            )
         reader.at += 1
         line = reader.token.line
         if line != first.line + 1 or reader.token.kind == "end":
@@ -114,22 +142,35 @@ class _Adapter:
     def statements(self, section: str) -> None:
         reader = self.reader
         if section == "rows":
-            while reader.has_row():
-                self.rows.settle(reader.row())
+            while True:
+                if (statement := reader.plain(PLAIN_ROW)) is not None:
+                    self.rows.settle_plain(statement)
+                elif reader.has_row():
+                    self.rows.settle(reader.row())
+                else:
+                    break
             self.rows.end_section()
         elif section == "bounds":
             self.bounds.last_bound = reader.last
             while reader.has_bound():
-                self.bounds.settle(reader.bound())
+                if (statement := reader.plain(PLAIN_BOUND)) is not None:
+                    self.bounds.settle_plain(statement)
+                else:
+                    self.bounds.settle(reader.bound())
         else:
             while self.bounds.has_listed():
-                self.bounds.take_listed(reader.listed_name(section), section)
+                if (statement := reader.plain(PLAIN_NAMES)) is not None:
+                    self.bounds.take_plain(statement, section)
+                else:
+                    self.bounds.take_listed(reader.listed_name(section), section)
 
     def settle_exponents(self) -> None:
         """A name such as E11, after a number, is not also an exponent."""
         for exponent in self.reader.exponents:
             if exponent.name in self.context.names.written:
-                raise self.reader.error(f"{exponent.name} is a name in another place, and may be one here", exponent.token)
+                raise self.reader.error(
+                    f"{exponent.name} is a name in another place, and may be one here", exponent.token
+                )
 
     def settle_names_of_pulp(self) -> None:
         """A name of PuLP such as x+y or x<=4 is not a sum or a row from which spaces are missing."""
@@ -137,22 +178,36 @@ class _Adapter:
             return
         for colon, after in pairwise(self.reader.tokens.all):
             if colon.kind == "colon" and colon.end == after.start and after.text:
-                raise AdaptError(colon.line, f":{after.text} is a label without a space after it, or a name: write a space after the colon, or rename it")
+                raise AdaptError(
+                    colon.line,
+                    f":{after.text} is a label without a space after it, or a name: write a space after the "
+                    "colon, or rename it",
+                )
         for name in self.context.names.written:
             if name[0] in "+-<>=":
-                raise AdaptError(self.line_of(name), f"{name} is a name for PuLP, which writes no such names: correct it, or write a space after the sign")
+                raise AdaptError(
+                    self.line_of(name),
+                    f"{name} is a name for PuLP, which writes no such names: correct it, or write a space "
+                    "after the sign",
+                )
             parts = Tokens(name, None).all[:-1]
             words = [part.text for part in parts if part.kind == "word"]
             is_sum = any(part.kind in ("sign", "relation") for part in parts)
             if is_sum and words and all(word in self.context.columns for word in words):
-                raise AdaptError(self.line_of(name), f"{name} is a name for PuLP, and may be {' '.join(part.text for part in parts)}: write spaces, or rename it")
+                raise AdaptError(
+                    self.line_of(name),
+                    f"{name} is a name for PuLP, and may be {' '.join(part.text for part in parts)}: write "
+                    "spaces, or rename it",
+                )
 
     def line_of(self, word: str) -> int:
         return next(token.line for token in self.reader.tokens.all if token.text == word)
 
     @property
     def has_text_after_end(self) -> bool:
-        """Whether more than comments comes after the end, which mpslp ignores: a column of the name end may be taken for the end."""
+        """Whether more than comments comes after the end, which mpslp ignores: a column of the name end may be taken
+        for the end.
+        """
         sections = self.reader.sections
         if not sections or sections[-1].name != "end":
             return False
@@ -160,11 +215,14 @@ class _Adapter:
 
     def require_clear(self) -> None:
         """In a file that is changed, nothing may be meant in another way than it is read."""
-        if self.reader.unclear:
-            raise min(self.reader.unclear, key=lambda error: error.line or 0)
+        unclear = [*self.reader.unclear, *doubts(self.context)]
+        if unclear:
+            raise min(unclear, key=lambda error: error.line or 0)
         if self.has_text_after_end:
             end = self.reader.sections[-1].last
-            raise AdaptError(end.line, "text after the end, or a column of this name: remove the text, or rename the column")
+            raise AdaptError(
+                end.line, "text after the end, or a column of this name: remove the text, or rename the column"
+            )
 
     # ---- what is written
 

@@ -4,17 +4,18 @@ from __future__ import annotations
 
 import re
 from collections.abc import Iterable, Sequence
-from fractions import Fraction
-from typing import Optional
+from decimal import Decimal
 
-from mpslp._adapt import _numbers
 from mpslp._adapt._changes import AdaptError, Log
 from mpslp._adapt._lp_parts import Item, sense_of, spelled
+from mpslp._adapt._lp_plain import names_in
 from mpslp._adapt._lp_print import Cell, Script, printed
 from mpslp._adapt._lp_reader import Reader
-from mpslp._adapt._lp_sections import INFINITIES
-from mpslp._adapt._lp_tokens import Token, look_alike, no_column, punctuation_after
-from mpslp._adapt._names import Names, is_lp_name
+from mpslp._adapt._lp_tokens import Token, look_alike, new_token, no_column, punctuation_after
+from mpslp._adapt._names import Names
+from mpslp._text import _numbers
+from mpslp._text._lp_words import INFINITIES
+from mpslp._text._names import is_lp_name
 
 
 class Context:
@@ -26,14 +27,16 @@ class Context:
         self.tokens = reader.tokens
         self.log = log
         self.script = Script(reader.tokens)
-        self.names = Names(is_lp_name, lambda: {each.text for each in reader.tokens.all if each.kind == "word"})
+        self.names = Names(is_lp_name, lambda: reader.tokens.words)
         self.columns: dict[str, Token] = {}
         """Each column, and where it is first."""
         self.named_again: set[str] = set()
         """The columns that are named more than once."""
+        self.only_on_the_right: dict[str, Token] = {}
+        """The columns that are only after numbers on the right of terms, and where they are first."""
 
     @property
-    def first_column(self) -> Optional[str]:
+    def first_column(self) -> str | None:
         return next((self.names.of(name) for name in self.columns), None)
 
     def take_columns(self, items: Iterable[Item]) -> None:
@@ -41,7 +44,38 @@ class Context:
             if item.name is not None:
                 self.take_column(item.name)
 
+    def take_plain(self, statement: Token, body: str, names: Sequence[str]) -> None:
+        """Takes the columns of a statement that is read as a whole: the names of its body."""
+        if "\n" not in body:
+            self._take_names(names, statement, statement.line)
+        else:
+            for line, text in enumerate(body.split("\n"), statement.line):
+                self._take_names(names_in(text), statement, line)
+        self.reader.has_spaces = True
+
+    def _take_names(self, names: Sequence[str], statement: Token, line: int) -> None:
+        for name in names:
+            if name in self.columns:
+                self.named_again.add(name)
+            else:
+                self.columns[name] = new_token(Token, ("word", name, statement.start, statement.end, line))
+        if self.only_on_the_right:
+            for name in names:
+                self.only_on_the_right.pop(name, None)
+        self.reader.apart.update(names)
+
+    def take_columns_on_the_right(self, items: Iterable[Item]) -> None:
+        """Takes the columns on the right of terms, where a name after a number may be a unit."""
+        for item in items:
+            name = item.name
+            if name is not None:
+                first = name if name.text not in self.columns else self.only_on_the_right.get(name.text)
+                self.take_column(name)
+                if item.numbers and first is not None:
+                    self.only_on_the_right[name.text] = first
+
     def take_column(self, name: Token) -> None:
+        self.only_on_the_right.pop(name.text, None)
         if self.columns.setdefault(name.text, name) is not name:
             self.named_again.add(name.text)
 
@@ -58,6 +92,12 @@ class Context:
         for kind in kinds:
             self.log.add(first.line, kind, self.source(first, last), after)
         self.script.replace(first.start, last.end, cells)
+
+    def rewrite(self, statement: Token, kinds: Iterable[str], text: str) -> None:
+        """Writes a statement that is read as a whole again."""
+        for kind in kinds:
+            self.log.add(statement.line, kind, statement.text, text)
+        self.script.replace(statement.start, statement.end, (Cell("", text),))
 
     def insert_after(self, token: Token, kinds: Iterable[str], cells: Sequence[Cell]) -> None:
         """Writes a statement that the source does not have."""
@@ -109,23 +149,29 @@ class Context:
         return name
 
     def check_name(self, token: Token) -> None:
-        """In a file that has to be changed no name has a comma or a semicolon at an end: it would be a statement's, or a number's."""
-        if self.dialect == "pulp":
-            return
+        """In a file that has to be changed no name has a comma or a semicolon at an end: it would be a statement's, or
+        a number's.
+        """
         if (found := look_alike(token)) is not None:
             raise found
+        if self.dialect == "pulp":
+            return
         if token.text[0] in ",;" or token.text[-1] in ",;":
             reason = f"a comma or a semicolon is a letter of names in LP: remove it, or rename {token.text}"
             self.reader.unclear.append(AdaptError(token.line, reason))
         if is_part_of_expression(token.text):
-            reason = f"a parenthesis or a bar is a letter of names in LP: write the sum without it, or rename {token.text}"
+            reason = (
+                f"a parenthesis or a bar is a letter of names in LP: write the sum without it, or rename {token.text}"
+            )
             self.reader.unclear.append(AdaptError(token.line, reason))
 
     def reject_punctuation(self, items: Iterable[Item]) -> None:
         """In a statement that is written again, neither 10,5 nor 10; is 10 times a column, and (10) is none."""
         for item in items:
             if item.name is not None:
-                found = (punctuation_after(item.numbers[0], item.name) if item.numbers else None) or no_column(item.name)
+                found = (punctuation_after(item.numbers[0], item.name) if item.numbers else None) or no_column(
+                    item.name
+                )
                 if found is not None:
                     raise found
 
@@ -143,23 +189,25 @@ class Context:
             return text
         if is_limit and _numbers.is_infinite(text):
             return _numbers.INFINITE
-        raise self.reader.error("a number with over 36 digits, or an exponent over 500: round it, or scale the row", token)
+        raise self.reader.error(f"a number with {_numbers.BEYOND_LIMITS}: round it, or scale the row", token)
 
-    def sum_of(self, items: Sequence[Item]) -> Fraction:
+    def sum_of(self, items: Sequence[Item]) -> Decimal:
         """The exact sum of numbers."""
-        total = Fraction(0)
+        total = _numbers.ZERO
         for item in items:
             if item.is_infinite:
-                raise self.reader.error("an infinite number: only sides of rows and bounds may be infinite", item.numbers[0])
-            value = _numbers.exact(self.literal(item.numbers[0], False) if item.numbers else "1")
+                raise self.reader.error(
+                    "an infinite number: only sides of rows and bounds may be infinite", item.numbers[0]
+                )
+            value = _numbers.exact(self.literal(item.numbers[0], False)) if item.numbers else _numbers.ONE
             assert value is not None
-            total += item.sign * value
+            total = (_numbers.added if item.sign > 0 else _numbers.subtracted)(total, value)
         return total
 
-    def number_text(self, value: Fraction, first: Token) -> str:
+    def number_text(self, value: Decimal, first: Token) -> str:
         text = _numbers.text(value)
         if text is None:
-            raise AdaptError(first.line, "a sum with over 36 digits: scale the row, or use fewer digits")
+            raise AdaptError(first.line, f"a sum with {_numbers.TOO_MANY_DIGITS}: scale the row, or use fewer digits")
         return text
 
     def side_literal(self, item: Item) -> str:
@@ -169,7 +217,9 @@ class Context:
 
 
 def is_part_of_expression(name: str) -> bool:
-    """Whether a name is a part of a sum in parentheses, as (x of 2 (x + y), or has parentheses or bars around it, as |x|."""
+    """Whether a name is a part of a sum in parentheses, as (x of 2 (x + y), or has parentheses or bars around it, as
+    |x|.
+    """
     return name.count("(") != name.count(")") or re.fullmatch(r"\([\w.]*\)|\|.*\|", name) is not None
 
 

@@ -4,7 +4,7 @@ from __future__ import annotations
 
 from collections.abc import Sequence
 from dataclasses import dataclass, field
-from typing import NamedTuple, Optional
+from typing import NamedTuple
 
 from mpslp._adapt._lp_tokens import Token
 
@@ -20,7 +20,7 @@ class Item:
     signs: int
     sign: int
     numbers: list[Token] = field(default_factory=list)
-    name: Optional[Token] = None
+    name: Token | None = None
     is_infinite: bool = False
     has_star: bool = False
 
@@ -31,7 +31,7 @@ class Objective:
 
     first: Token
     last: Token
-    label: Optional[Token]
+    label: Token | None
     items: list[Item]
 
     @property
@@ -46,7 +46,7 @@ class Row:
 
     first: Token
     last: Token
-    label: Optional[Token]
+    label: Token | None
     sides: list[list[Item]]
     relations: list[Token]
 
@@ -66,8 +66,8 @@ class BoundLine:
 class Bound:
     """What the bounds of a column are given by: its lower and its upper side, or that it is free."""
 
-    lower: Optional[str]
-    upper: Optional[str]
+    lower: str | None
+    upper: str | None
     first: Token
     last: Token
 

@@ -14,7 +14,10 @@ _LONGEST_ROW_LINE = 200
 _MOST_JOINED = 8
 """Whether a token is joined to what is before it depends on so many of its letters at most."""
 # The longest token of mpslp's LP format, at the start of a text.
-_TOKEN = re.compile(r"\\.*|<=|=<|<|>=|=>|>|==|=|::|:|->|(?:[0-9]+(?:\.[0-9]*)?|\.[0-9]+)(?:[eE][+-]?[0-9]+)?|[^\s\\<>=:*^+\-\[\]]+|.", re.DOTALL | re.ASCII)
+_TOKEN = re.compile(
+    r"\\.*|<=|=<|<|>=|=>|>|==|=|::|:|->|(?:[0-9]+(?:\.[0-9]*)?|\.[0-9]+)(?:[eE][+-]?[0-9]+)?|[^\s\\<>=:*^+\-\[\]]+|.",
+    re.DOTALL | re.ASCII,
+)
 
 
 class Cell(NamedTuple):
@@ -52,7 +55,9 @@ class Script:
         self._edits.append(Edit(token.end, token.end, cells))
 
     def cells(self, joins_tokens: bool) -> Iterator[tuple[int, Cell]]:
-        """The cells that are written, each with its place in the source; tokens that stay side by side may be joined in one cell."""
+        """The cells that are written, each with its place in the source; tokens that stay side by side may be joined in
+        one cell.
+        """
         starts = [token.start for token in self._tokens.all]
         at, pending, is_cut = 0, "", False
         for edit in _outermost(self._edits):
@@ -65,7 +70,11 @@ class Script:
                 yield from ((edit.start - 1, cell) for cell in edit.cells)
                 continue
             at = bisect_left(starts, edit.end, first)
-            space = pending + self._tokens.space_before(first) + "".join(f"{comment}\n" for comment in self._tokens.comments_in(edit.start, edit.end))
+            space = (
+                pending
+                + self._tokens.space_before(first)
+                + "".join(f"{comment}\n" for comment in self._tokens.comments_in(edit.start, edit.end))
+            )
             pending, is_cut = ("", False) if edit.cells else (space, True)
             for number, cell in enumerate(edit.cells):
                 yield edit.start, cell if number else Cell(space + cell.space, cell.text)
@@ -74,7 +83,9 @@ class Script:
     def _kept(self, first: int, end: int, before: Cell, joins_tokens: bool) -> Iterator[tuple[int, Cell]]:
         """The cells of tokens that stay, after the spaces of a cell."""
         tokens = self._tokens.all
-        yield tokens[first].start, Cell(before.space + self._tokens.space_before(first), tokens[first].text, before.is_new)
+        yield tokens[first].start, Cell(
+            before.space + self._tokens.space_before(first), tokens[first].text, before.is_new
+        )
         if joins_tokens and end - first > 2:
             yield tokens[first + 1].start, Cell("", self._tokens.text[tokens[first].end : tokens[end - 2].end], False)
             first = end - 2
@@ -97,7 +108,12 @@ def printed(cells: Iterable[Cell]) -> str:
     last = Cell("", "")
     for cell in cells:
         space = cell.space
-        if not space and (cell.is_new or last.is_new) and last.text and not _are_apart(last.text, cell.text[:_MOST_JOINED]):
+        if (
+            not space
+            and (cell.is_new or last.is_new)
+            and last.text
+            and not _are_apart(last.text, cell.text[:_MOST_JOINED])
+        ):
             space = " "
         parts += (space, cell.text)
         last = cell

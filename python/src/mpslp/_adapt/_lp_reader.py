@@ -5,24 +5,28 @@ Line breaks have no meaning in mpslp's LP format. If it has one reading of what 
 
 from __future__ import annotations
 
+import re
+from functools import cached_property
 from itertools import pairwise, starmap
-from typing import NamedTuple, Optional
+from typing import NamedTuple
 
 from mpslp._adapt._changes import AdaptError, Log
 from mpslp._adapt._lp_parts import BoundLine, Item, Objective, Row, Section, has_terms, starts_with_side
-from mpslp._adapt._lp_sections import (
-    INFINITIES,
-    LISTS,
-    NOT_SUPPORTED,
-    OTHER_INFINITIES,
-    OTHER_TOKENS,
-    SECTIONS,
-)
-from mpslp._adapt._lp_tokens import Token, Tokens, look_alike, other_comment, punctuation_after, quadratic
-from mpslp._adapt._names import RESERVED
+from mpslp._adapt._lp_sections import NOT_SUPPORTED, OTHER_INFINITIES, OTHER_TOKENS, SECTIONS
+from mpslp._adapt._lp_tokens import PLAIN_ROW, Token, Tokens, look_alike, other_comment, punctuation_after, quadratic
+from mpslp._text._lp_words import INFINITIES, LISTS, RESERVED
 
 _WORDS_BEFORE_ERROR = 3
+_EXPONENT = re.compile(r"[eE][0-9]+")
 _NO_BOUND = "no bound of LP: a column and a number, or a column between two numbers"
+
+
+def number_of_pulp(name: Token) -> AdaptError:
+    """The error of a name that only PuLP has, where a number is more likely."""
+    return AdaptError(
+        name.line,
+        f"{name.text} is a name for PuLP, and may be a number and more: write the number, or rename the column",
+    )
 
 
 class Exponent(NamedTuple):
@@ -35,7 +39,7 @@ class Exponent(NamedTuple):
 class Reader:
     """The place in the tokens of a file."""
 
-    def __init__(self, tokens: Tokens, dialect: Optional[str], log: Log) -> None:
+    def __init__(self, tokens: Tokens, dialect: str | None, log: Log) -> None:
         self.tokens = tokens
         self.dialect = dialect
         self.log = log
@@ -43,6 +47,10 @@ class Reader:
         self.sections: list[Section] = []
         self.exponents: list[Exponent] = []
         self.unclear: list[AdaptError] = []  # what a file that has to be changed may not have
+        self.joined: dict[str, list[Token]] = {}  # the numbers to which a name is joined
+        self.apart: set[str] = set()  # the names that are somewhere joined to no number
+        self.has_spaces = False  # whether a space is between a number and a name
+        self._pointed: list[int] | None = None  # the first numbers that start with a point
         self.is_after_terms = False
 
     # ---- tokens
@@ -65,7 +73,7 @@ class Reader:
     def as_word(self, first: Token, last: Token) -> Token:
         return Token("word", self.tokens.text[first.start : last.end], first.start, last.end, first.line)
 
-    def error(self, reason: str, token: Optional[Token] = None) -> AdaptError:
+    def error(self, reason: str, token: Token | None = None) -> AdaptError:
         token = token or self.token
         if self.token.text in OTHER_TOKENS:
             return AdaptError(self.token.line, OTHER_TOKENS[self.token.text])
@@ -77,7 +85,12 @@ class Reader:
 
     # ---- sections and names
 
-    def section_at(self, at: int) -> Optional[tuple[str, int]]:
+    @cached_property
+    def starts_of_sections(self) -> frozenset[int]:
+        """The places of all headers, after the file is read."""
+        return frozenset(section.first.start for section in self.sections)
+
+    def section_at(self, at: int) -> tuple[str, int] | None:
         """The section that a word opens, and the number of its words; None for a name."""
         token, second = self.tokens.all[at], self.tokens.all[min(at + 1, len(self.tokens.all) - 1)]
         if token.kind != "word":
@@ -97,6 +110,12 @@ class Reader:
                 raise self.error("semi-integer columns: mpslp has integer and semi-continuous ones", token)
             if third.kind == "end":
                 raise self.error("the file ends within the word semi-continuous", token)
+            if third.text.lower() != "continuous":
+                raise self.error(
+                    "semi is a name, or the beginning of the word semi-continuous: complete the word, or "
+                    "rename the column",
+                    token,
+                )
             return "semis", 3
         return SECTIONS[word], 1
 
@@ -116,8 +135,17 @@ class Reader:
             return False
         if at and before.kind == "sign" and self.starts_line(at) and word in SECTIONS and not self.ends_line(at, after):
             raise self.error("a sign at the end of a line, and a word that opens a section: complete the term", token)
-        if at and before.kind == "sign" and word == "end" and self.dialect != "pulp" and self.tokens.is_last_of_line(token):
-            raise self.error("a sign before the end of the file, or a column of this name: complete the term, or rename the column", token)
+        if (
+            at
+            and before.kind == "sign"
+            and word == "end"
+            and self.dialect != "pulp"
+            and self.tokens.is_last_of_line(token)
+        ):
+            raise self.error(
+                "a sign before the end of the file, or a column of this name: complete the term, or rename the column",
+                token,
+            )
         if at and (before.kind == "sign" or self.is_name_of_pulp(at)):
             return word != "free" or before.kind == "sign" or after.kind in ("sign", "relation")
         is_section = word in SECTIONS and SECTIONS[word] not in LISTS
@@ -139,7 +167,10 @@ class Reader:
         if token.line != third.line:
             return False
         if token.text.lower() in SECTIONS and (self.dialect != "pulp" or third.kind == "end"):
-            raise self.error("a row of this name, or the section: write a section's word on a line of its own, or rename the row", token)
+            raise self.error(
+                "a row of this name, or the section: write a section's word on a line of its own, or rename the row",
+                token,
+            )
         return True
 
     @property
@@ -155,22 +186,33 @@ class Reader:
             return self.is_used_as_name(at)
         return self.section_at(at) is None
 
-    def label(self) -> Optional[Token]:
+    def label(self) -> Token | None:
         """The label of a row or of the objective, past its colon; or None."""
         start = self.at
         first, second = self.token, self.ahead()
-        if first.kind == "word" and second.kind == "colon" and (first.text.lower() not in RESERVED or self.is_used_as_name(start)):
+        if (
+            first.kind == "word"
+            and second.kind == "colon"
+            and (first.text.lower() not in RESERVED or self.is_used_as_name(start))
+        ):
             self.at += 2
             return first
         # A label may start with a digit at the start of a line, but what comes after a relation is a number.
         before = self.tokens.all[start - 1]
-        is_number = before.kind == "relation" or (before.kind == "sign" and self.tokens.all[start - 2].kind == "relation")
+        is_number = before.kind == "relation" or (
+            before.kind == "sign" and self.tokens.all[start - 2].kind == "relation"
+        )
         if is_number or not self.starts_line(start):
             return None
         if first.kind == "number" and second.kind == "colon":
             self.at += 2
             return self.as_word(first, first)
-        if first.kind == "number" and second.kind == "word" and self.joined_with(first, second) and self.ahead(2).kind == "colon":
+        if (
+            first.kind == "number"
+            and second.kind == "word"
+            and self.joined_with(first, second)
+            and self.ahead(2).kind == "colon"
+        ):
             self.at += 3
             return self.as_word(first, second)
         return None
@@ -195,7 +237,7 @@ class Reader:
                 return found
             found.append(item)
 
-    def item(self, wants_sign: bool) -> Optional[Item]:
+    def item(self, wants_sign: bool) -> Item | None:
         start = self.at
         item = self.signs()
         if wants_sign and not item.signs:
@@ -254,10 +296,12 @@ class Reader:
             return
         self.note_exponent(number, self.token.text if is_joined else "")
         if self.is_name(self.at) and (item.has_star or not self.is_label(self.at)) and not self.starts_next_row(item):
+            is_joined = is_joined and not item.has_star
             if self.token.line != number.line:
                 reason = "a number at the end of a line, and a name on the next one: write the term on one line"
                 self.unclear.append(AdaptError(number.line, f"{reason}: {number.text} {self.token.text}"))
             self.note_fraction(number, self.token)
+            self.take_joined(number, self.token, is_joined)
             self.name_item(item)
         elif item.has_star:
             raise self.error("a factor without a name")
@@ -267,10 +311,39 @@ class Reader:
         if at >= 0 and number.text[at + 1].isdigit():
             self.exponents.append(Exponent(number, number.text[at:] + rest))
 
+    def take_joined(self, number: Token, name: Token, is_joined: bool) -> None:
+        """A name that is joined to a number, as in 2x, may be a part of it, as in 10_000: no letter is a part of 2."""
+        if not is_joined:
+            self.has_spaces = True
+            if name.text in "eE" and self.is_power(self.ahead(), self.ahead(2)):
+                self.note_tail(number, self.as_word(self.token, self.ahead(2)))
+            return
+        self.joined.setdefault(name.text, []).append(number)
+        letter = name.text[0]
+        if (letter.isascii() and not letter.isalpha()) or name.text in "eE":
+            self.note_tail(number, name)
+
+    def is_power(self, sign: Token, number: Token) -> bool:
+        """Whether a sign and a whole number are joined to this token and to each other, as in e+3."""
+        return (
+            sign.kind == "sign"
+            and self.joined_with(self.token, sign)
+            and self.joined_with(sign, number)
+            and number.text.isdigit()
+        )
+
+    def note_tail(self, number: Token, name: Token) -> None:
+        reason = "a number and more, or a number and a column: write the number, or a space before the column"
+        text = " ".join(self.tokens.text[number.start : name.end].split())
+        self.unclear.append(AdaptError(number.line, f"{text} is {reason}"))
+
     def note_fraction(self, number: Token, name: Token) -> None:
         """A name such as /2 after a number is the end of a fraction for people."""
         if name.text.startswith("/"):
-            reason = f"{number.text} is the coefficient of a column {name.text} here: write a fraction as a decimal, or rename the column"
+            reason = (
+                f"{number.text} is the coefficient of a column {name.text} here: write a fraction as a "
+                "decimal, or rename the column"
+            )
             self.unclear.append(AdaptError(number.line, reason))
 
     def starts_next_row(self, item: Item) -> bool:
@@ -280,6 +353,8 @@ class Reader:
 
     def name_item(self, item: Item) -> None:
         item.name = self.token
+        if not (item.numbers and self.joined_with(item.numbers[-1], item.name)):
+            self.apart.add(item.name.text)
         self.note_infinite_name(item.name)
         self.at += 1
         if self.token.kind == "star":
@@ -291,12 +366,18 @@ class Reader:
 
     def note_infinite_name(self, name: Token) -> None:
         if name.text.lower() in OTHER_INFINITIES:
-            self.unclear.append(AdaptError(name.line, f"{name.text} is a column here, and infinite for others: rename it"))
+            self.unclear.append(
+                AdaptError(name.line, f"{name.text} is a column here, and infinite for others: rename it")
+            )
 
     def note_infinity_of_pulp(self, token: Token) -> None:
         """PuLP writes inf for an infinite number, and has columns of the name infinity."""
         if self.dialect == "pulp" and token.text.lower() == "infinity":
-            self.unclear.append(AdaptError(token.line, f"{token.text} is infinite here, and a name for PuLP: rename the column, or write inf"))
+            self.unclear.append(
+                AdaptError(
+                    token.line, f"{token.text} is infinite here, and a name for PuLP: rename the column, or write inf"
+                )
+            )
 
     # ---- statements
 
@@ -307,6 +388,14 @@ class Reader:
         if self.token.kind != "end" and self.section_at(self.at) is None:
             raise self.error("there is no sign between two terms of the objective, or no 'subject to' after it")
         return Objective(start, self.last, label, items)
+
+    def plain(self, kind: str) -> Token | None:
+        """The plain statement of a kind that is here, past it; or None."""
+        token = self.token
+        if token.kind != kind:
+            return None
+        self.at += 1
+        return token
 
     def has_row(self) -> bool:
         """Whether a further row starts here."""
@@ -320,8 +409,11 @@ class Reader:
     def row(self) -> Row:
         first = self.token
         self.note_start("row")
+        start = self.at
         label = self.label()
         sides = [self.items()]
+        if label is None:
+            self.note_split(start)
         relations: list[Token] = []
         while self.token.kind == "relation" and len(relations) < 2:
             relations.append(self.token)
@@ -332,20 +424,71 @@ class Reader:
         if self.token.kind == "relation":
             raise self.error("a further relation in this row")
         row = Row(first, self.last, label, sides, relations)
+        self.note_joined_sides(sides)
         if len(relations) == 2:
             self.note_wrapped(sides[1])
         if not self.ends_row(row):
             raise self.error("no sign between terms, or rows that cannot be taken apart: start each row on a new line")
         return row
 
+    def note_joined_sides(self, sides: list[list[Item]]) -> None:
+        """On the right of terms, a word that is joined to a number may be a unit or a part of it, as in 100L and 1D3;
+        or an exponent.
+        """
+        if not has_terms(sides[0]):
+            return
+        for item in (item for side in sides[1:] for item in side):
+            name = item.name
+            if name is None:
+                continue
+            if self.dialect == "pulp":
+                if name.text[0].isdigit() or name.text.lower() in RESERVED:
+                    self.unclear.append(number_of_pulp(name))
+            elif item.numbers and (self.joined_with(item.numbers[0], name) or _EXPONENT.fullmatch(name.text)):
+                self.note_tail(item.numbers[0], name)
+
+    def note_split(self, at: int) -> None:
+        """What starts a row without a label, after a line that ends with a number, may be a part of this number."""
+        before, first, after = self.tokens.all[at - 1 : at + 2]
+        if before.kind not in ("number", PLAIN_ROW) or before.line == first.line:
+            return
+        is_whole = after.kind == "sign" and (first.kind == "number" or _EXPONENT.fullmatch(first.text) is not None)
+        is_part = (
+            first.kind == "number"
+            and first.text.startswith(".")
+            and "." not in before.text
+            and self.is_only_point(first)
+        )
+        if is_whole or is_part:
+            reason = (
+                f"{before.text} and {first.text} on the next line may be one number: write it on one line, "
+                "or give the row a label"
+            )
+            self.unclear.append(AdaptError(first.line, reason))
+
+    def is_only_point(self, number: Token) -> bool:
+        """Whether no other number of the file starts with a point."""
+        if self._pointed is None:
+            self._pointed = [
+                each.start for each in self.tokens.all if each.kind == "number" and each.text.startswith(".")
+            ][:2]
+        return self._pointed == [number.start]
+
     def note_start(self, what: str) -> None:
-        """A statement starts on a new line, or with a label after a space; otherwise another one may have been meant to go on."""
+        """A statement starts on a new line, or with a label after a space; otherwise another one may have been meant to
+        go on.
+        """
         first = self.token
         is_first = self.last in (self.sections[-1].last, self.sections[-1].first) or self.last.kind == "colon"
         is_after_number = self.last.kind == "number" and self.joined_with(self.last, first)
         if self.last.line != first.line or is_first or (self.is_label(self.at) and not is_after_number):
             return
-        self.unclear.append(AdaptError(first.line, f"a {what} starts within a line: start each {what} on a new line: {self.last.text} {first.text}"))
+        self.unclear.append(
+            AdaptError(
+                first.line,
+                f"a {what} starts within a line: start each {what} on a new line: {self.last.text} {first.text}",
+            )
+        )
 
     def side(self, sides: list[list[Item]], count: int) -> list[Item]:
         """What comes after a relation: for mpslp a number ends the row, and what follows it starts the next one."""
@@ -363,32 +506,46 @@ class Reader:
             if self.token.kind == "sign" and self.token.line == items[0].numbers[0].line:
                 self.log.note(self.token.line, "after the number a new row starts here: x >= 2 + y <= 5 is two rows")
             first = items[0]
-            return [Item(first.tokens[: first.signs + 1], first.signs, first.sign, first.numbers, None, first.is_infinite)]
+            return [
+                Item(first.tokens[: first.signs + 1], first.signs, first.sign, first.numbers, None, first.is_infinite)
+            ]
         self.check_line(items)
         return items
 
     def note_splits(self, items: list[Item]) -> None:
         """Whether the next row may start on more than one line."""
-        starts = [after.tokens[0] for before, after in pairwise(items) if before.tokens[-1].line != after.tokens[0].line]
+        starts = [
+            after.tokens[0] for before, after in pairwise(items) if before.tokens[-1].line != after.tokens[0].line
+        ]
         if len(starts) > 1:
-            reason = "a right-hand side that goes on on the next line, or a row that starts there: write each row on one line, or give it a label"
+            reason = (
+                "a right-hand side that goes on on the next line, or a row that starts there: write each "
+                "row on one line, or give it a label"
+            )
             self.unclear.append(AdaptError(starts[0].line, reason))
 
     def note_wrapped(self, items: list[Item]) -> None:
         """Between two relations a line with a sign at its start may be a row of its own."""
         for before, after in pairwise(items):
             if before.tokens[-1].line != after.tokens[0].line:
-                reason = "a row between two numbers that goes on on the next line, or two rows: write each row on one line"
+                reason = (
+                    "a row between two numbers that goes on on the next line, or two rows: write each row on one line"
+                )
                 self.unclear.append(AdaptError(after.tokens[0].line, reason))
 
     def check_line(self, items: list[Item]) -> None:
-        """A right-hand side that is a number ends with its line: a line with a sign at its start may be a row without its relation."""
+        """A right-hand side that is a number ends with its line: a line with a sign at its start may be a row without
+        its relation.
+        """
         if len(items) < 2 or items[0].name is not None:
             return
         for before, after in pairwise(items):
             if before.tokens[-1].line != after.tokens[0].line:
-                raise self.error("a right-hand side that goes on on the next line, or a row without a relation: write each row on one line",
-                                 after.tokens[0])  # fmt: skip
+                raise self.error(
+                    "a right-hand side that goes on on the next line, or a row without a relation: write each "
+                    "row on one line",
+                    after.tokens[0],
+                )
 
     def ends_row(self, row: Row) -> bool:
         is_clear = self.token.kind == "end" or self.token.line != row.last.line or self.is_label(self.at)
@@ -425,12 +582,19 @@ class Reader:
         first, second = self.token, self.ahead()
         if first.kind == "number" or self.is_infinity():
             item.numbers.append(first)
-            item.is_infinite = first.kind == "word" or (second.text.lower() == "#inf" and self.joined_with(first, second))
+            item.is_infinite = first.kind == "word" or (
+                second.text.lower() == "#inf" and self.joined_with(first, second)
+            )
             self.at += int(first.kind == "number" and item.is_infinite)
             self.note_infinity_of_pulp(first)
-        elif first.kind == "word" and not item.signs and (self.is_name(self.at) or (wants_name and self.last.kind == "relation")):
+        elif (
+            first.kind == "word"
+            and not item.signs
+            and (self.is_name(self.at) or (wants_name and self.last.kind == "relation"))
+        ):
             # After a number and a relation a word is a name even if it is reserved.
             item.name = first
+            self.apart.add(first.text)
             self.note_infinite_name(first)
         else:
             raise self.error(_NO_BOUND, self.tokens.all[start])
@@ -445,7 +609,19 @@ class Reader:
         if token.kind != "word" or token.text.lower() in INFINITIES:
             raise self.error(f"under {section} are only names")
         self.note_infinite_name(token)
+        self.note_reserved_name(token, section)
         self.at += 1
         if self.token.kind == "colon":
             raise self.error(f"under {section} are only names; general constraints are not supported", token)
         return token
+
+    def note_reserved_name(self, token: Token, section: str) -> None:
+        """A reserved word is a column only if a row or the objective has it."""
+        if token.text.lower() in RESERVED and token.text not in self.apart:
+            self.unclear.append(
+                AdaptError(
+                    token.line,
+                    f"{token.text} is a reserved word under {section}, and no row has it: remove or rename it",
+                )
+            )
+        self.apart.add(token.text)

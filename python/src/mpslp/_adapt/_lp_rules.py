@@ -5,16 +5,17 @@ from __future__ import annotations
 import re
 from collections import Counter
 from collections.abc import Sequence
-from fractions import Fraction
-from typing import Optional
+from decimal import Decimal
+from typing import NamedTuple
 
-from mpslp._adapt import _numbers
 from mpslp._adapt._changes import AdaptError
 from mpslp._adapt._lp_context import Context
 from mpslp._adapt._lp_parts import FLIPPED, Item, Objective, Row, has_terms, negated, sense_of, spelled
-from mpslp._adapt._lp_print import Cell, labelled, literal_cells, statement, term_cells
+from mpslp._adapt._lp_plain import has_two_relations, parts_of, row_of, sum_of
+from mpslp._adapt._lp_print import Cell, labelled, literal_cells, printed, term_cells
 from mpslp._adapt._lp_sections import ORDERED_SETS
 from mpslp._adapt._lp_tokens import Token
+from mpslp._text import _numbers
 
 CONSTANT_OF_GLPSOL = re.compile(r"\\\* constant term = (-?)([0-9]+(?:\.[0-9]*)?(?:e[+-]?[0-9]+)?) \*\\")
 NEGATED = r"\ the constant of the objective is negated: it was that of CoinUtils"
@@ -22,7 +23,17 @@ _RANGE_OF_QSOPT = re.compile(r"\\ RANGE \((-?[0-9./]+), (-?[0-9./]+)\)\s*")
 _MOST_NOTES = 5
 """Of rows that look as bounds."""
 
+_MOST_FORMS = 10_000
+
+ONLY_ON_THE_RIGHT = "only after numbers on the right"
 _ORDERED_SET = re.compile(r"sos[0-9]*", re.IGNORECASE)
+
+
+class Form(NamedTuple):
+    """How a row is written, and why."""
+
+    kinds: tuple[str, ...]
+    text: str
 
 
 class ObjectiveRules:
@@ -54,7 +65,9 @@ class ObjectiveRules:
         terms = [*terms_of(context, items, objective.first)]
         if constants:
             constant = context.sum_of(constants)
-            terms.append((signed(context.number_text(-constant if is_negated else constant, objective.first)), ""))
+            terms.append(
+                (signed(context.number_text(constant.copy_negate() if is_negated else constant, objective.first)), "")
+            )
         label = None if objective.label is None else context.name_of(objective.label)
         cells = labelled(label, term_cells(terms))
         if is_negated:
@@ -64,16 +77,29 @@ class ObjectiveRules:
         else:
             context.replace(objective.first, objective.last, kinds, cells)
 
+    def settle_plain(self, statement: Token) -> None:
+        """The same for an objective that is read as a whole, which no rule changes."""
+        body = parts_of(statement.text).body
+        found = sum_of(body)
+        self.context.take_plain(statement, body, found.names)
+        if not found.constants:
+            self.constant_of_glpsol([])  # a comment is noted
+
     def constant_of_glpsol(self, items: Sequence[Item]) -> list[Item]:
         """glpsol writes the constant of the objective into a comment."""
         context = self.context
         place = context.reader.token.start
-        comments = [each for each in context.tokens.comments if each.start < place and CONSTANT_OF_GLPSOL.match(each.text)]
+        comments = [
+            each for each in context.tokens.comments if each.start < place and CONSTANT_OF_GLPSOL.match(each.text)
+        ]
         if not comments:
             return []
         comment, constants = comments[0], [item for item in items if item.name is None]
         if context.dialect is None and not constants:
-            context.log.note(comment.line, "glpsol has the constant of the objective in this comment, which is ignored: --from glpsol adds it")
+            context.log.note(
+                comment.line,
+                "glpsol has the constant of the objective in this comment, which is ignored: --from glpsol adds it",
+            )
         if context.dialect != "glpsol":
             return []
         found = CONSTANT_OF_GLPSOL.match(comment.text)
@@ -88,7 +114,10 @@ class ObjectiveRules:
         """CoinUtils subtracts the constant of an objective that is minimised."""
         if self.is_max or self.context.dialect != "coinutils" or not constants:
             return False
-        return all(comment.text.rstrip() != NEGATED for comment in self.context.tokens.comments) and self.context.sum_of(constants) != 0
+        return (
+            all(comment.text.rstrip() != NEGATED for comment in self.context.tokens.comments)
+            and self.context.sum_of(constants) != 0
+        )
 
 
 class RowRules:
@@ -98,22 +127,30 @@ class RowRules:
         self.context = context
         self.empty_rows: list[Row] = []
         self.lone_names: list[tuple[Row, Token]] = []
-        self.previous: Optional[Row] = None
+        self.previous: Row | None = None
         self.like_bounds: list[Row] = []
         """The first of the rows that look as bounds, for each place where some are."""
-        self.open_like_bound: Optional[Row] = None
+        self.open_like_bound: Row | None = None
         """The last of them, as long as no other row follows."""
         self.ends_like_bounds: list[Row] = []
         """Those of them after which no other row is in their section."""
+        self.has_other_rows = False
+        """Whether this section has rows that do not look as bounds."""
         self.has_labels: set[bool] = set()
         """Whether the rows that do not look as bounds have labels."""
+        self.forms: dict[str, Form] = {}
+        """How rows without their labels are written."""
 
     def settle(self, row: Row) -> None:
         """Leaves a row, or writes it again."""
         context = self.context
         self.take_like_bound(row)
-        for side in row.sides:
-            context.take_columns(side)
+        context.take_columns(row.sides[0])
+        for side in row.sides[1:]:
+            if has_terms(row.sides[0]):
+                context.take_columns_on_the_right(side)
+            else:
+                context.take_columns(side)
         if self.settle_range_of_qsopt(row):
             return
         self.previous = row
@@ -130,14 +167,47 @@ class RowRules:
             context.reject_punctuation(side)
         context.replace(row.first, row.last, kinds, self.row_cells(row, terms, outer, "number-first" in kinds))
 
+    def settle_plain(self, statement: Token) -> None:
+        """The same for a row that is read as a whole."""
+        label, body = parts_of(statement.text)
+        found = sum_of(body)
+        is_limit = found.constants == 1 or (found.constants == 2 and has_two_relations(body))
+        if not label and len(found.names) == 1 and is_limit:
+            self.settle(row_of(statement, body))  # it may look as a bound
+            return
+        self.take_other_row(label != "")
+        self.context.take_plain(statement, body, found.names)
+        if found.has_products or found.is_again or not is_limit:
+            form = self.form_of(statement, body)
+            self.context.rewrite(statement, form.kinds, f"{label}: {form.text}" if label else form.text)
+
+    def form_of(self, statement: Token, body: str) -> Form:
+        """How a row is written that is read as a whole. Files that programs write have many rows that differ in their
+        labels only.
+        """
+        form = self.forms.get(body)
+        if form is None:
+            row = row_of(statement, body)
+            kinds: list[str] = []
+            terms, outer = self.parted(row, kinds)
+            kinds += self.kinds_of_sides(row, terms, outer, False)
+            form = Form(tuple(kinds), printed(self.row_cells(row, terms, outer, False)))
+            if len(self.forms) < _MOST_FORMS:
+                self.forms[body] = form
+        return form
+
     def parted(self, row: Row, kinds: list[str]) -> tuple[list[Item], list[list[Item]]]:
         """The side with the terms, and those with numbers."""
         if len(row.relations) == 2:
             terms, outer = row.sides[1], [row.sides[0], row.sides[2]]
             if any(has_terms(side) or len(side) != 1 for side in outer) or not has_terms(terms):
-                raise self.context.reader.error("in a row with two relations, terms are between them, and numbers outside", row.first)
+                raise self.context.reader.error(
+                    "in a row with two relations, terms are between them, and numbers outside", row.first
+                )
             if [sense_of(relation) for relation in row.relations] not in (["<", "<"], [">", ">"]):
-                raise self.context.reader.error("two relations in a row are both at most, or both at least: write two rows", row.first)
+                raise self.context.reader.error(
+                    "two relations in a row are both at most, or both at least: write two rows", row.first
+                )
             return terms, outer
         terms, other = row.sides
         if not has_terms(terms) and has_terms(other):
@@ -193,16 +263,18 @@ class RowRules:
         relation = FLIPPED[relations[0]] if is_flipped else relations[0]
         return labelled(label, [*body, Cell(" ", spelled(relation)), *literal_cells(numbers[0])])
 
-    def limit_text(self, side: Sequence[Item], constant: Fraction, first: Token) -> str:
+    def limit_text(self, side: Sequence[Item], constant: Decimal, first: Token) -> str:
         """The limit of a row, less the constant among its terms; a limit that is infinite stays so."""
         infinite = [item for item in side if self.is_infinite_limit(item)]
         if infinite:
             if len(side) > 1:
                 raise self.context.reader.error("infinity is added to a number", infinite[0].numbers[0])
             return "-inf" if infinite[0].sign < 0 else "inf"
-        limit = self.context.sum_of(side) - constant
-        if abs(limit) >= _numbers.LARGE:
-            raise AdaptError(first.line, "the side of this row would be 10^20 or more, which is infinite: scale the row")
+        limit = _numbers.subtracted(self.context.sum_of(side), constant)
+        if limit.copy_abs() >= _numbers.LARGE:
+            raise AdaptError(
+                first.line, "the side of this row would be 10^20 or more, which is infinite: scale the row"
+            )
         return self.context.number_text(limit, first)
 
     def is_infinite_limit(self, item: Item) -> bool:
@@ -212,7 +284,9 @@ class RowRules:
 
     def take_empty_row(self, row: Row) -> None:
         if row.label is None:
-            raise self.context.reader.error("a row without terms and without a label: a relation too many, or terms that are missing", row.first)
+            raise self.context.reader.error(
+                "a row without terms and without a label: a relation too many, or terms that are missing", row.first
+            )
         if row.sides[1][0].signs > 1:
             raise self.context.reader.error("several signs before a number: write one", row.first)
         self.empty_rows.append(row)
@@ -234,33 +308,66 @@ class RowRules:
     def take_like_bound(self, row: Row) -> None:
         """Keeps where rows start that look as bounds."""
         if not is_like_bound(row):
-            self.has_labels.add(row.label is not None)
-            self.open_like_bound = None
+            self.take_other_row(row.label is not None)
         elif self.open_like_bound is None:
             self.open_like_bound = row
             self.like_bounds.append(row)
 
+    def take_other_row(self, has_label: bool) -> None:
+        """Keeps that a row does not look as a bound."""
+        self.has_other_rows = True
+        self.has_labels.add(has_label)
+        self.open_like_bound = None
+
     def end_section(self) -> None:
         """The rows of a section end, or those of all."""
+        sections = self.context.reader.sections
+        is_again = len(sections) > 1 and any(section.name == "rows" for section in sections[:-1])
+        if is_again and sections[-2].name == "bounds" and not self.has_other_rows:
+            word = sections[-1].first
+            reason = (
+                f"{word.text} within Bounds, and only rows that look as bounds after it: write Bounds before "
+                "them, or remove it"
+            )
+            self.context.reader.unclear.append(AdaptError(word.line, reason))
+        self.has_other_rows = False
         if self.open_like_bound is not None:
             self.ends_like_bounds.append(self.open_like_bound)
             self.open_like_bound = None
 
     def note_rows_like_bounds(self) -> None:
-        """In a file that is changed, rows may be bounds whose header is lost: those at the end, and those among rows with labels."""
+        """In a file that is changed, rows may be bounds whose header is lost: those at the end, and those among rows
+        with labels.
+        """
         context = self.context
         has_bounds = any(section.name == "bounds" for section in context.reader.sections)
         advice = "move it under Bounds" if has_bounds else "write Bounds before it"
         found = self.like_bounds if self.has_labels == {True} else self.ends_like_bounds
         for row in found[:_MOST_NOTES]:
-            context.log.note(row.first.line, f"{context.source(row.first, row.last)} is a row: if it is meant as a bound, {advice}")
+            context.log.note(
+                row.first.line, f"{context.source(row.first, row.last)} is a row: if it is meant as a bound, {advice}"
+            )
         if len(found) > _MOST_NOTES:
-            context.log.note(found[_MOST_NOTES].first.line, f"{len(found) - _MOST_NOTES} more rows that look as bounds, from here on")
+            context.log.note(
+                found[_MOST_NOTES].first.line, f"{len(found) - _MOST_NOTES} more rows that look as bounds, from here on"
+            )
+
+    def note_units(self) -> None:
+        """In a file that is changed, columns that are only after numbers on the right may be units."""
+        context, units = self.context, list(self.context.only_on_the_right.values())
+        for name in units[:_MOST_NOTES]:
+            context.log.note(name.line, f"{name.text} comes {ONLY_ON_THE_RIGHT}: a column, or a unit")
+        if len(units) > _MOST_NOTES:
+            context.log.note(
+                units[_MOST_NOTES].line, f"{len(units) - _MOST_NOTES} more columns come {ONLY_ON_THE_RIGHT}"
+            )
 
     # ---- what other programs have
 
     def settle_lone_names(self) -> None:
-        """A row of which the right side is a name that is nowhere else is no row of columns, if it is called like a set."""
+        """A row of which the right side is a name that is nowhere else is no row of columns, if it is called like a
+        set.
+        """
         if not self.lone_names:
             return
         lone = Counter(name.text for _, name in self.lone_names)
@@ -278,7 +385,9 @@ class RowRules:
         if len(comments) != 1 or _RANGE_OF_QSOPT.fullmatch(comments[0]) is None:
             return False
         lower, upper = (before, row) if sense_of(before.relations[0]) == ">" else (row, before)
-        is_range = [sense_of(each.relations[0]) for each in (lower, upper)] == [">", "<"] and spelling(lower) == spelling(upper)
+        is_range = [sense_of(each.relations[0]) for each in (lower, upper)] == [">", "<"] and spelling(
+            lower
+        ) == spelling(upper)
         if not is_range or any(len(each.relations) != 1 or len(each.sides[1]) != 1 for each in (lower, upper)):
             return False
         low, high = (self.context.side_literal(each.sides[1][0]) for each in (lower, upper))
@@ -294,12 +403,21 @@ def is_like_bound(row: Row) -> bool:
     """Whether a row looks as a bound: a column without a label and a coefficient, and numbers."""
     items = [item for side in row.sides for item in side]
     named = [item for item in items if item.name is not None]
-    return row.label is None and len(named) == 1 and not named[0].numbers and not named[0].signs and len(items) == len(row.sides)
+    return (
+        row.label is None
+        and len(named) == 1
+        and not named[0].numbers
+        and not named[0].signs
+        and len(items) == len(row.sides)
+    )
 
 
 def spelling(row: Row) -> list[tuple[int, str, str]]:
     """The terms on the left of a row, to compare them."""
-    return [(item.sign, item.numbers[0].text if item.numbers else "", item.name.text if item.name else "") for item in row.sides[0]]
+    return [
+        (item.sign, item.numbers[0].text if item.numbers else "", item.name.text if item.name else "")
+        for item in row.sides[0]
+    ]
 
 
 def ranged(low: str, first: str, body: list[Cell], second: str, high: str) -> list[Cell]:

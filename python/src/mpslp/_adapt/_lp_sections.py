@@ -1,21 +1,12 @@
-"""The words of LP: senses, sections, infinities, and what mpslp does not have."""
+"""The words of LP that other programs write: those of mpslp in another form, and those that mpslp does not have."""
 
 from __future__ import annotations
 
-SENSES = {
-    **dict.fromkeys(("min", "minimize", "minimum"), "min"),
-    **dict.fromkeys(("max", "maximize", "maximum"), "max"),
-}
+from mpslp._text import _lp_words
+
 OTHER_SENSES = {"minimise": "Minimize", "maximise": "Maximize", "minimization": "Minimize", "maximization": "Maximize"}
-SECTIONS = {
-    **dict.fromkeys(("bound", "bounds"), "bounds"),
-    **dict.fromkeys(("general", "generals", "gen", "integer", "integers", "int"), "generals"),
-    **dict.fromkeys(("binary", "binaries", "bin"), "binaries"),
-    **dict.fromkeys(("semi", "semis"), "semis"),
-    **dict.fromkeys(("st", "s.t.", "st."), "rows"),
-    "end": "end",
-}
-LISTS = ("generals", "binaries", "semis")
+SECTIONS = {word: section for word, section in _lp_words.SECTIONS.items() if word not in _lp_words.ROWS_IN_TWO_WORDS}
+"""The sections by the words that open one each by themselves, or with a minus."""
 ORDERED_SETS = "special ordered sets: write them as rows with binary columns"
 NOT_SUPPORTED = {
     **dict.fromkeys(("sos", "sos1", "sos2"), ORDERED_SETS),
@@ -33,9 +24,5 @@ SECTIONS_OF_OTHERS = {
 }
 """Words that open a section for Xpress or lp_solve, on a line of their own: for mpslp they are names."""
 
-OTHER_TOKENS = {
-    "->": "an indicator constraint: write it with a large coefficient",
-    "::": ORDERED_SETS,
-}
-INFINITIES = ("inf", "infinity")
+OTHER_TOKENS = {"->": "an indicator constraint: write it with a large coefficient", "::": ORDERED_SETS}
 OTHER_INFINITIES = ("infty", "infin")

@@ -1,14 +1,13 @@
 """MPS files: from a file as it comes to a file that mpslp reads.
 
-The headers are read here, and the sections are put in order; _mps_data reads the lines between them, _mps_rules has what is
-changed in a line, and _mps_meant what a dialect means beside the text.
+The headers are read here, and the sections are put in order; _mps_data reads the lines between them, _mps_rules has
+what is changed in a line, and _mps_meant what a dialect means beside the text.
 """
 
 from __future__ import annotations
 
 import re
 from collections.abc import Sequence
-from typing import Optional
 
 from mpslp._adapt import _mps_fixed as fixed
 from mpslp._adapt._changes import AdaptError, Log
@@ -18,13 +17,21 @@ from mpslp._adapt._mps_dialects import MpsDialect, mps_dialect
 from mpslp._adapt._mps_lines import Line, Section, Sections, joined, lines_of
 from mpslp._adapt._mps_meant import Meant
 from mpslp._adapt._mps_reasons import nearest
-from mpslp._adapt._mps_state import KEYWORDS, Row, State
+from mpslp._adapt._mps_state import Row, State
 from mpslp._adapt._mps_trailing import Place, reason_to_keep
+from mpslp._text._mps_words import HEADERS, SENSES
 
 _LONE_RETURN = re.compile(r"\r(?!\n)")
-_SENSES = {"MAX": "MAX", "MAXIMIZE": "MAX", "MAXIMISE": "MAX", "MAXIMUM": "MAX",
-           "MIN": "MIN", "MINIMIZE": "MIN", "MINIMISE": "MIN", "MINIMUM": "MIN"}  # fmt: skip
-_LEGAL_SENSES = ("MAX", "MAXIMIZE", "MIN", "MINIMIZE")
+_SENSES = {
+    "MAX": "MAX",
+    "MAXIMIZE": "MAX",
+    "MAXIMISE": "MAX",
+    "MAXIMUM": "MAX",
+    "MIN": "MIN",
+    "MINIMIZE": "MIN",
+    "MINIMISE": "MIN",
+    "MINIMUM": "MIN",
+}
 _NEEDS: dict[str, tuple[str, ...]] = {"COLUMNS": ("ROWS",)}
 _NEEDS.update(dict.fromkeys(("RHS", "RANGES", "BOUNDS", "ENDATA"), ("ROWS", "COLUMNS")))
 _ONE_WORD = ("OBJSENSE", "OBJNAME")
@@ -42,9 +49,9 @@ _NOT_SUPPORTED = {
 }
 
 
-def adapt_mps(text: str, dialect: Optional[str], log: Log) -> tuple[str, dict[str, str]]:
+def adapt_mps(text: str, dialect: str | None, log: Log) -> tuple[str, dict[str, str]]:
     """The text that mpslp reads, and the names written instead of names given."""
-    habits, before = mps_dialect(dialect), list(log.changes)
+    habits, before, reported = mps_dialect(dialect), list(log.changes), list(log.reported)
     require_line_ends(text)
     reader = Reader(lines_of(text), habits, log)
     try:
@@ -60,17 +67,22 @@ def adapt_mps(text: str, dialect: Optional[str], log: Log) -> tuple[str, dict[st
             adapted = reader.read()
         except AdaptError:
             raise error from None
-        log.changes[:], log.notes[:], log.source_lines = before + again.changes, again.notes, again.source_lines
+        log.changes[:], log.reported[:] = before + again.changes, reported + again.reported
+        log.notes[:], log.source_lines = again.notes, again.source_lines
         return adapted, {**fixed.names_of(again), **reader.state.names.written}
 
 
 def require_line_ends(text: str) -> None:
-    """A carriage return before the end of the model ends its line together with a line feed: it is no part of a field."""
+    """A carriage return before the end of the model ends its line together with a line feed: it is
+    no part of a field.
+    """
     if _LONE_RETURN.search(text) is None:
         return
     for line in lines_of(text):
         if "\r" in line.source and not line.is_comment():
-            raise AdaptError(line.number, "a carriage return without a line feed after it: write each line end as LF, or as CRLF")
+            raise AdaptError(
+                line.number, "a carriage return without a line feed after it: write each line end as LF, or as CRLF"
+            )
         if is_end(line):
             return
 
@@ -108,7 +120,9 @@ class Reader:
                 self.sections.append(Section("", self.lines[at + 1 :]))
                 break
         if self.wants_word:
-            raise AdaptError(self.lines[-1].number, f"{self.wants_word} without its word: write the word on the next line")
+            raise AdaptError(
+                self.lines[-1].number, f"{self.wants_word} without its word: write the word on the next line"
+            )
         self.check_objective()
         Meant(self.state, self.sections).add()
         return self.written()
@@ -116,13 +130,17 @@ class Reader:
     def check_objective(self) -> None:
         name, section = self.state.objective_named, self.sections.found("OBJNAME")
         if name is not None and section is not None and name not in self.state.rows:
-            raise AdaptError(section.lines[0].number, f"OBJNAME names {name}, which is not a row{nearest(name, self.state.rows)}")
+            raise AdaptError(
+                section.lines[0].number, f"OBJNAME names {name}, which is not a row{nearest(name, self.state.rows)}"
+            )
 
     def written(self) -> str:
         """The text of all sections; what is after the end stays as it is."""
         sections = self.sections.all
         end = next((at for at, section in enumerate(sections) if section.name == "ENDATA"), len(sections))
-        before, after = ([line for section in part for line in section.lines] for part in (sections[:end], sections[end:]))
+        before, after = (
+            [line for section in part for line in section.lines] for part in (sections[:end], sections[end:])
+        )
         self.log.source_lines = [line.number for line in (*before, *after)]
         if after:
             before.append(Line(0, "", ""))  # so that the last line gets an end
@@ -147,8 +165,8 @@ class Reader:
             return ""
         if keyword in _NOT_SUPPORTED:
             raise AdaptError(line.number, _NOT_SUPPORTED[keyword])
-        if keyword not in KEYWORDS:
-            raise AdaptError(line.number, f"{fields[0]} is not a section of MPS{nearest(keyword, KEYWORDS)}")
+        if keyword not in HEADERS:
+            raise AdaptError(line.number, f"{fields[0]} is not a section of MPS{nearest(keyword, HEADERS)}")
         if self.wants_word:
             raise AdaptError(line.number, f"{self.wants_word} without its word: write the word on the next line")
         self.data.rewrite(line, "letter-case", [keyword, *fields[1:]])
@@ -159,9 +177,9 @@ class Reader:
     def is_not_indented(self, keyword: str, fields: Sequence[str]) -> bool:
         """Whether a line that starts in the first column is a data line."""
         if self.wants_word:
-            return keyword in _SENSES if self.wants_word == "OBJSENSE" else keyword not in KEYWORDS
+            return keyword in _SENSES if self.wants_word == "OBJSENSE" else keyword not in HEADERS
         section = self.state.section.name
-        if keyword in KEYWORDS or keyword in _NOT_SUPPORTED:
+        if keyword in HEADERS or keyword in _NOT_SUPPORTED:
             return keyword == section and keyword in _MAY_COME_AGAIN and len(fields) > 2
         return section in ("ROWS", "COLUMNS", *_MAY_COME_AGAIN) and len(fields) > 1
 
@@ -176,7 +194,13 @@ class Reader:
             self.word_in_header(line, keyword, fields)
         elif len(fields) > 1:
             if fields[1][0] not in "$*":
-                raise AdaptError(line.number, f"{fields[1]} after {keyword}: a header has one word; put data lines after it, each with a space first")
+                raise AdaptError(
+                    line.number,
+                    (
+                        f"{fields[1]} after {keyword}: a header has one word; put data lines after it, each with a"
+                        " space first"
+                    ),
+                )
             reason = reason_to_keep(self.state, line, 1, Place.HEADER)
             if reason is not None:
                 raise AdaptError(line.number, reason)
@@ -214,7 +238,7 @@ class Reader:
         if word.upper() not in _SENSES:
             raise AdaptError(line.number, f"{word} is not a sense: write MAX or MIN")
         self.state.sense = _SENSES[word.upper()]
-        return word if word in _LEGAL_SENSES else self.state.sense
+        return word if word in SENSES else self.state.sense
 
     # ---- sections
 
@@ -242,7 +266,9 @@ class Reader:
     def choose_objective(self) -> None:
         """The N row that OBJNAME names, or the first; without one there is an objective named obj."""
         state = self.state
-        state.objective = state.objective_named or next((name for name, row in state.rows.items() if row.kind == "N"), None)
+        state.objective = state.objective_named or next(
+            (name for name, row in state.rows.items() if row.kind == "N"), None
+        )
         if state.objective is None and "obj" not in state.rows:
             state.objective = "obj"
             state.rows["obj"] = Row("N", 0)

@@ -26,9 +26,10 @@ from mpslp._adapt._mps_rules import (
     upper_marker,
     upper_row_type,
 )
-from mpslp._adapt._mps_state import MARKER, MARKERS, ROW_TYPES, UNVALUED, Bound, Row, State, is_plain, is_plain_bound
+from mpslp._adapt._mps_state import Bound, Row, State, is_plain, is_plain_bound
 from mpslp._adapt._names import reason_against
-from mpslp._adapt._numbers import LITERAL
+from mpslp._text._mps_words import INTORG, MARKER, MARKERS, ROW_TYPES, UNVALUED
+from mpslp._text._numbers import LITERAL
 
 _WITH_PAIRS = ("COLUMNS", "RHS", "RANGES")
 _STARTS_AS_NUMBER = re.compile(r"[+-]?\.?[0-9]")
@@ -59,20 +60,35 @@ class DataLines:
     def replace_names(self, line: Line) -> None:
         """Replaces the names that no row or column may have; a set may have a long one."""
         fields = line.fields()
-        reason = next(filter(None, (reason_against(each) for at, each in enumerate(fields) if not self.is_wrong_number(fields, at))), None)
+        reason = next(
+            filter(
+                None, (reason_against(each) for at, each in enumerate(fields) if not self.is_wrong_number(fields, at))
+            ),
+            None,
+        )
         if reason is not None:
             raise AdaptError(line.number, reason)
         is_pair_section = self.state.section.name in ("RHS", "RANGES")
         set_at = 1 if self.state.section.name == "BOUNDS" else 0 if is_pair_section and len(fields) % 2 else None
         written = [
-            each if is_no_name(each) or (at == set_at and each.isascii()) or self.is_wrong_number(fields, at) else self.state.names.of(each)
+            (
+                each
+                if is_no_name(each) or (at == set_at and each.isascii()) or self.is_wrong_number(fields, at)
+                else self.state.names.of(each)
+            )
             for at, each in enumerate(fields)
         ]
         self.rewrite(line, "name", written)
 
     def is_wrong_number(self, fields: Sequence[str], at: int) -> bool:
-        """Whether a field is where a number comes, and starts as one; as a name it would not be shown as it is in the file."""
-        return self.state.section.name in _WITH_PAIRS and (at - len(fields) % 2) % 2 == 1 and _STARTS_AS_NUMBER.match(fields[at]) is not None
+        """Whether a field is where a number comes, and starts as one; as a name it would not be shown as it is in the
+        file.
+        """
+        return (
+            self.state.section.name in _WITH_PAIRS
+            and (at - len(fields) % 2) % 2 == 1
+            and _STARTS_AS_NUMBER.match(fields[at]) is not None
+        )
 
     # ---- the lines of each section
 
@@ -116,7 +132,7 @@ class DataLines:
             raise AdaptError(line.number, SPECIAL_SETS)
         if len(fields) != 3 or fields[2] not in MARKERS:
             raise wrong_marker(self.state, line)
-        self.state.is_marked = fields[2] == MARKERS[0]
+        self.state.is_marked = fields[2] == INTORG
         self.state.marker_line = line.number
         if self.is_block_empty and not self.state.is_marked:
             self.state.has_empty_block = True
@@ -182,9 +198,18 @@ class DataLines:
             self.rewrite(line, "set-left-out", [*fields[:at], first, *fields[at:]])
             return
         if not first:
-            raise AdaptError(line.number, f"the set {name} after lines without a set: give all lines of {state.section.name} one name")
+            raise AdaptError(
+                line.number,
+                f"the set {name} after lines without a set: give all lines of {state.section.name} one name",
+            )
         others = state.dialect.further_sets.value
-        raise AdaptError(line.number, f"the set {name} after the set {first}: {others}; give all lines of a section one set, and keep those that you mean")
+        raise AdaptError(
+            line.number,
+            (
+                f"the set {name} after the set {first}: {others}; give all lines of a section one set, and keep those"
+                " that you mean"
+            ),
+        )
 
     # ---- changes
 

@@ -4,7 +4,6 @@ from __future__ import annotations
 
 from dataclasses import dataclass
 from enum import Enum
-from typing import Optional
 
 
 class ObjectiveSide(Enum):
@@ -16,7 +15,10 @@ class ObjectiveSide(Enum):
 
 
 class FurtherSets(Enum):
-    """What programs make of a second set of RHS, RANGES or BOUNDS. A file with one is left: it may be a name misspelt."""
+    """What programs make of a second set of RHS, RANGES or BOUNDS.
+
+    A file with one is left: it may be a name misspelt.
+    """
 
     UNCLEAR = "glpsol rejects it, clp, cbc and esolver skip it and lp_solve reads all sets as one"
     SKIPPED = "esolver skips it"
@@ -28,7 +30,7 @@ class FurtherSets(Enum):
 class MpsDialect:
     """The habits of one program; the defaults are those of a file whose writer is not known."""
 
-    name: Optional[str] = None
+    name: str | None = None
     objective_side: ObjectiveSide = ObjectiveSide.NEGATED_CONSTANT
     further_sets: FurtherSets = FurtherSets.UNCLEAR
     integers_have_no_upper_bound: bool = False
@@ -51,10 +53,14 @@ _DIALECTS = (
         columns_may_be_in_bounds_only=True,
     ),
     MpsDialect("pulp", sense_is_in_a_comment=True),
-    MpsDialect("qsopt", further_sets=FurtherSets.SKIPPED, negative_upper_is_free_below=True, columns_may_be_in_bounds_only=True),
+    MpsDialect(
+        "qsopt", further_sets=FurtherSets.SKIPPED, negative_upper_is_free_below=True, columns_may_be_in_bounds_only=True
+    ),
 )
 
 
-def mps_dialect(name: Optional[str]) -> MpsDialect:
-    """The habits of a program; those of a file whose writer is not known for None or a program without habits in MPS."""
+def mps_dialect(name: str | None) -> MpsDialect:
+    """The habits of a program; those of a file whose writer is not known for None or a program
+    without habits in MPS.
+    """
     return next((each for each in _DIALECTS if each.name == name), _DIALECTS[0])

@@ -2,12 +2,13 @@
 
 from __future__ import annotations
 
-from typing import Optional
 
 from mpslp._adapt._changes import Log
 from mpslp._adapt._mps_lines import Line
-from mpslp._adapt._mps_state import MARKER, NAMED_SECTIONS
-from mpslp._adapt._names import Names, is_mps_name, reason_against
+from mpslp._adapt._mps_state import NAMED_SECTIONS
+from mpslp._adapt._names import Names, reason_against
+from mpslp._text._mps_words import MARKER
+from mpslp._text._names import is_mps_name
 
 _FIELDS = ((1, 3), (4, 12), (14, 22), (24, 36), (39, 47), (49, 61))
 _GAPS = ((0, 1), (3, 4), (12, 14), (22, 24), (36, 39), (47, 49))
@@ -15,7 +16,7 @@ _END = 61
 _NAMES = (1, 2, 4)
 
 
-def lines_of_fields(lines: list[Line], log: Log) -> Optional[list[Line]]:
+def lines_of_fields(lines: list[Line], log: Log) -> list[Line] | None:
     """The lines with names without spaces, or None if they are not all in fixed columns or no name has a space."""
     data = _data_lines(lines)
     cut = [_cut(line) for line in data]
@@ -52,8 +53,10 @@ def _data_lines(lines: list[Line]) -> list[Line]:
     return found
 
 
-def _cut(line: Line) -> Optional[list[str]]:
-    """The fields of a line in fixed columns; or None if it is not so, or has a space in a number, text after the columns or a space of Unicode."""
+def _cut(line: Line) -> list[str] | None:
+    """The fields of a line in fixed columns; or None if it is not so, or has a space in a number, text after the
+    columns or a space of Unicode.
+    """
     text = line.source
     if "\t" in text or text[_END:].strip(" ") or any(text[start:stop].strip(" ") for start, stop in _GAPS):
         return None

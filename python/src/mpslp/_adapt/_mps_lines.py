@@ -1,7 +1,7 @@
 """The lines of an MPS file as fields with their places, the sections that they are in, and how they are written.
 
-A rule gives a line other fields. Only the printer here makes text of them, and it separates fields by spaces: fields cannot
-run together. A line that gets no other fields keeps its bytes.
+A rule gives a line other fields. Only the printer here makes text of them, and it separates fields by spaces: fields
+cannot run together. A line that gets no other fields keeps its bytes.
 """
 
 from __future__ import annotations
@@ -9,7 +9,6 @@ from __future__ import annotations
 import re
 from collections.abc import Sequence
 from dataclasses import dataclass, field
-from typing import Optional
 
 FIELD = re.compile(r"[^ \t]+")
 Fields = tuple[str, ...]
@@ -20,7 +19,7 @@ class Line:
 
     __slots__ = ("number", "source", "end", "_written", "is_indented", "is_dropped")
 
-    def __init__(self, number: int, source: str, end: str, written: Optional[Fields] = None) -> None:
+    def __init__(self, number: int, source: str, end: str, written: Fields | None = None) -> None:
         self.number = number
         self.source = source
         self.end = end
@@ -100,7 +99,7 @@ class Sections:
         self.all = [first]
         self._first = {first.name: first}
 
-    def found(self, name: str) -> Optional[Section]:
+    def found(self, name: str) -> Section | None:
         return self._first.get(name)
 
     def append(self, section: Section) -> None:
@@ -129,4 +128,6 @@ def lines_of(text: str) -> list[Line]:
 
 def joined(lines: Sequence[Line]) -> str:
     """The text of lines, of which only the last may have no end."""
-    return "".join(line.text + (line.end or "\n") for line in lines[:-1]) + "".join(line.text + line.end for line in lines[-1:])
+    return "".join(line.text + (line.end or "\n") for line in lines[:-1]) + "".join(
+        line.text + line.end for line in lines[-1:]
+    )

@@ -8,7 +8,8 @@ from itertools import pairwise
 from typing import NamedTuple
 
 from mpslp._adapt._mps_lines import Sections
-from mpslp._adapt._mps_state import UNVALUED, VALUED, State
+from mpslp._adapt._mps_state import State
+from mpslp._text._mps_words import BOUND_TYPES
 
 _USUAL_SETS = {"RHS": ("RHS",), "RANGES": ("RNG", "RAN", "RGS"), "BOUNDS": ("BND", "BOU")}
 """What the names of sets start with in the files of most programs."""
@@ -22,7 +23,9 @@ class Doubt(NamedTuple):
 
 
 def lines_of_other_sections(state: State, sections: Sections) -> Iterator[Doubt]:
-    """Lines of a file that is changed that may have been meant in another section than the one in which they are read."""
+    """Lines of a file that is changed that may have been meant in another section than the one in
+    which they are read.
+    """
     yield from _sides_as_column(state, sections)
     yield from _columns_as_sets(state)
     yield from _sets_of_other_sections(state)
@@ -30,13 +33,18 @@ def lines_of_other_sections(state: State, sections: Sections) -> Iterator[Doubt]
     if state.is_marked:
         yield Doubt(state.marker_line, "no 'INTEND' follows: all columns from here on are integer")
     if state.empty_block_line:
-        yield Doubt(state.empty_block_line, "no column is between these markers: one that is meant to be integer belongs between them")
+        yield Doubt(
+            state.empty_block_line,
+            "no column is between these markers: one that is meant to be integer belongs between them",
+        )
     yield from _text_after_the_end(sections)
 
 
 def _text_after_the_end(sections: Sections) -> Iterator[Doubt]:
     if sections.found("ENDATA") is not None:
-        line = next((line for line in sections.all[-1].lines if not line.is_comment() and line.source.strip(" \t\r\x1a")), None)
+        line = next(
+            (line for line in sections.all[-1].lines if not line.is_comment() and line.source.strip(" \t\r\x1a")), None
+        )
         if line is not None and sections.all[-1].name == "":
             yield Doubt(line.number, "text after ENDATA, which is not read: if it is meant, move ENDATA after it")
 
@@ -51,9 +59,17 @@ def _sides_as_column(state: State, sections: Sections) -> Iterator[Doubt]:
     if not state.columns or _has_data(sections, "RHS"):
         return
     *others, last = state.columns
-    is_unlike = len(others) > 1 and stem(last) not in map(stem, others) and last not in state.bounded and not state.columns[last]
+    is_unlike = (
+        len(others) > 1
+        and stem(last) not in map(stem, others)
+        and last not in state.bounded
+        and not state.columns[last]
+    )
     if last.upper().startswith("RHS") or is_unlike:
-        yield Doubt(state.column_lines[-1], f"{last} is a column here: if it is meant as the set of right-hand sides, write RHS before it")
+        yield Doubt(
+            state.column_lines[-1],
+            f"{last} is a column here: if it is meant as the set of right-hand sides, write RHS before it",
+        )
 
 
 def stem(name: str) -> str:
@@ -69,7 +85,7 @@ def _columns_as_sets(state: State) -> Iterator[Doubt]:
         if name in places:
             yield Doubt(places[name], f"{name} is a column here, and the set of {section} in line {line}")
             yield Doubt(line, f"{name} is the set of {section} here, and a column in line {places[name]}")
-    for name in (*VALUED, *UNVALUED):
+    for name in BOUND_TYPES:
         if name in places:
             yield Doubt(places[name], f"{name} is a column here, and also a type of bounds")
 
@@ -80,7 +96,9 @@ def _sets_of_other_sections(state: State) -> Iterator[Doubt]:
         name = state.sets[section].upper()
         for other, starts in _USUAL_SETS.items():
             if other != section and name.startswith(starts):
-                yield Doubt(line, f"{state.sets[section]} is the set of {section} here: lines of {other} may have come into it")
+                yield Doubt(
+                    line, f"{state.sets[section]} is the set of {section} here: lines of {other} may have come into it"
+                )
 
 
 def _ranges_as_sides(state: State, sections: Sections) -> Iterator[Doubt]:

@@ -2,8 +2,8 @@
 
 from __future__ import annotations
 
+import re
 from collections.abc import Sequence
-from typing import Optional
 
 from mpslp._adapt._changes import AdaptError
 from mpslp._adapt._mps_dialects import ObjectiveSide
@@ -11,7 +11,8 @@ from mpslp._adapt._mps_lines import Line, Section, Sections, added_data
 from mpslp._adapt._mps_lost import lines_of_other_sections
 from mpslp._adapt._mps_state import State
 from mpslp._adapt._names import are_near
-from mpslp._adapt._numbers import LITERAL, parts
+from mpslp._text._mps_words import LOWER
+from mpslp._text._numbers import LITERAL, parts
 
 NEGATED = "* the number on the objective is negated: it was that of another dialect"
 """The comment before a line whose number was negated; a file that has it is not changed again."""
@@ -25,7 +26,7 @@ _MOST_NOTES = 5
 _SIGNS = "$*;:,.!#()[]{}<>=/'\""
 """What may be typed beside a name."""
 
-_LOWER = ("LO", "LI", "MI", "FX", "FR", "BV")
+_EXPONENT = re.compile(r"[eEdD][+-]?[0-9]+")
 
 
 class Meant:
@@ -50,26 +51,43 @@ class Meant:
     # ---- what may not be meant
 
     def check_columns(self) -> None:
-        """In a file that is changed, a number or a sign that is read as a column is not meant as one; others are noted."""
+        """In a file that is changed, a number or a sign that is read as a column is not meant as
+        one; others are noted.
+        """
         names, lines = list(self.state.columns), self.state.column_lines
+        are_numbers = bool(names) and LITERAL.fullmatch(names[0]) is not None
+        exponents = [name for name in names if _EXPONENT.fullmatch(name)]
+        if len(exponents) == 1 and len(names) > 1 and names[0] != exponents[0]:
+            if self.count_lines(exponents[0]) == 1:  # a column of several lines is meant as one
+                reason = (
+                    f"{exponents[0]}, where a column is expected, may be the exponent of the number before it: correct"
+                    " the line, or rename the column"
+                )
+                raise AdaptError(lines[names.index(exponents[0])], reason)
         notes = []
         for at, (name, line) in enumerate(zip(names, lines)):
-            if not any(map(str.isalnum, name)) or (LITERAL.fullmatch(name) and not name.isdigit()):
-                what = "a number" if LITERAL.fullmatch(name) else "a sign"
-                raise AdaptError(line, f"{name}, where a column is expected, is {what}: correct the line, or rename the column")
+            is_number = LITERAL.fullmatch(name) is not None
+            if not any(map(str.isalnum, name)) or (is_number and not (name.isdigit() and are_numbers)):
+                what = "a number, or a part of the one before it" if is_number else "a sign"
+                raise AdaptError(
+                    line, f"{name}, where a column is expected, is {what}: correct the line, or rename the column"
+                )
             if at + 1 == len(names) or lines[at + 1] == line + 1:  # the column has one line
                 others = (*names[max(at - 1, 0) : at], *names[at + 1 : at + 2])
-                reason = self.other_meaning(name, others, names[0].isdigit())
-                notes += [] if reason is None else [(line, reason)]
+                other = self.other_meaning(name, others)
+                notes += [] if other is None else [(line, other)]
         for line, reason in (*lines_of_other_sections(self.state, self.sections), *notes[:_MOST_NOTES]):
             self.state.log.note(line, reason)
 
-    def other_meaning(self, name: str, others: Sequence[str], have_digits: bool) -> Optional[str]:
-        """What a column may be instead: one beside it that is misspelt, a number, or a row."""
+    def count_lines(self, name: str) -> int:
+        """The lines of a column."""
+        data = [line for section in self.sections.all if section.name == "COLUMNS" for line in section.data()]
+        return sum(line.fields()[:1] == (name,) for line in data)
+
+    def other_meaning(self, name: str, others: Sequence[str]) -> str | None:
+        """What a column may be instead: one beside it that is misspelt, or a row."""
         if any(are_near(name, other) for other in others) or is_column_with_signs(name, self.state):
             return f"{name} is a column of its own, or the one beside it misspelt"
-        if name.isdigit() and not have_digits:
-            return f"{name} is a column here, and may be a number"
         if name in self.state.rows:
             return f"{name} is a column here, and also a row"
         return None
@@ -101,11 +119,15 @@ class Meant:
         if self.state.sense is not None:
             return
         if self.state.dialect.sense_is_not_written:
-            self.state.log.note(1, "glpsol does not write the sense: if the model was maximised, add OBJSENSE and MAX before ROWS")
+            self.state.log.note(
+                1, "glpsol does not write the sense: if the model was maximised, add OBJSENSE and MAX before ROWS"
+            )
         if self.state.dialect.objective_side is ObjectiveSide.CONSTANT_OF_A_MINIMUM:
             said = next((line for line in self.comments() if line.source.startswith("*<meta origsense='MAX'")), None)
             if said is not None:
-                self.state.log.note(said.number, "lp_solve maximised this model: the objective here is its negative, which is minimised")
+                self.state.log.note(
+                    said.number, "lp_solve maximised this model: the objective here is its negative, which is minimised"
+                )
 
     # ---- the constant of the objective
 
@@ -124,13 +146,18 @@ class Meant:
                 self.note_the_constant(line, is_maximum)
             elif (side is ObjectiveSide.CONSTANT or not is_maximum) and self.negate(line, at):
                 changed.add(line)
-        said = ([Line(line.number, NEGATED, line.end or "\n"), line] if line in changed else [line] for line in section.lines)
+        said = (
+            [Line(line.number, NEGATED, line.end or "\n"), line] if line in changed else [line]
+            for line in section.lines
+        )
         section.lines[:] = [each for part in said for each in part]
 
-    def place_of_the_objective(self, line: Line) -> Optional[int]:
+    def place_of_the_objective(self, line: Line) -> int | None:
         """The field with the number on the objective, or None."""
         fields = line.fields()
-        return next((at + 1 for at in range(len(fields) % 2, len(fields), 2) if fields[at] == self.state.objective), None)
+        return next(
+            (at + 1 for at in range(len(fields) % 2, len(fields), 2) if fields[at] == self.state.objective), None
+        )
 
     def note_the_constant(self, line: Line, is_maximum: bool) -> None:
         if self.state.dialect.name is None:
@@ -155,7 +182,13 @@ class Meant:
             return
         name, number = next(iter(self.state.bounds_only.items()))
         if self.state.has_empty_block or self.state.is_marked:
-            raise AdaptError(number, f"{name} is in BOUNDS only, and markers have no column between them: whether it is integer is not known")
+            raise AdaptError(
+                number,
+                (
+                    f"{name} is in BOUNDS only, and markers have no column between them: whether it is integer is not"
+                    " known"
+                ),
+            )
         objective = self.state.objective or "obj"
         last = columns.lines[-1]
         last.end = last.end or "\n"
@@ -171,7 +204,7 @@ class Meant:
             if is_marked and not bounds and self.state.dialect.integers_have_no_upper_bound:
                 self.add_bound("integer-bound", "PL", name)
             below = [bound.line for bound in bounds if bound.kind in ("UP", "UI") and parts(bound.number)[0] < 0]
-            if below and not any(bound.kind in _LOWER for bound in bounds):
+            if below and not any(bound.kind in LOWER for bound in bounds):
                 self.negative_upper(name, below[0])
 
     def negative_upper(self, name: str, line: int) -> None:

@@ -4,13 +4,13 @@ from __future__ import annotations
 
 import difflib
 from collections.abc import Collection, Sequence
-from typing import Optional
 
 from mpslp._adapt._changes import AdaptError
 from mpslp._adapt._mps_lines import Line
-from mpslp._adapt._mps_state import MARKER, MARKERS, ROW_TYPES, UNVALUED, VALUED, State, is_pair
-from mpslp._adapt._numbers import LITERAL
+from mpslp._adapt._mps_state import State, is_pair
 from mpslp._adapt._mps_trailing import Place, reason_to_keep
+from mpslp._text._mps_words import BOUND_TYPES, MARKER, MARKERS, ROW_TYPES, UNVALUED, VALUED
+from mpslp._text._numbers import LITERAL
 
 _MOST_NAMES = 20_000
 """Nearest names are looked for among as many at most."""
@@ -61,10 +61,12 @@ def wrong_pairs(state: State, line: Line, start: int, what: str) -> AdaptError:
         reason = _wrong_pair(state, line, at, start, what)
         if reason is not None:
             return AdaptError(line.number, reason)
-    return AdaptError(line.number, reason_to_keep(state, line, start + 4, Place.TWO_PAIRS) or "text after the second number")
+    return AdaptError(
+        line.number, reason_to_keep(state, line, start + 4, Place.TWO_PAIRS) or "text after the second number"
+    )
 
 
-def _wrong_pair(state: State, line: Line, at: int, start: int, what: str) -> Optional[str]:
+def _wrong_pair(state: State, line: Line, at: int, start: int, what: str) -> str | None:
     """What is wrong with the pair that starts at a field."""
     fields = line.fields()
     row, is_last = fields[at], at + 1 == len(fields)
@@ -83,15 +85,18 @@ def wrong_marker(state: State, line: Line) -> AdaptError:
     if len(fields) > 3 and fields[2] in MARKERS:
         return AdaptError(line.number, reason_to_keep(state, line, 3, Place.MARKER) or "text after the marker")
     words = " ".join(each for each in fields[1:] if each != MARKER)
-    return AdaptError(line.number, f"{words or MARKER} is not a marker: write a name, 'MARKER', and 'INTORG' or 'INTEND', with the quotes")
+    return AdaptError(
+        line.number,
+        f"{words or MARKER} is not a marker: write a name, 'MARKER', and 'INTORG' or 'INTEND', with the quotes",
+    )
 
 
 def wrong_bound(state: State, line: Line) -> AdaptError:
     """Why a line of BOUNDS is left."""
     fields = line.fields()
     kind = fields[0]
-    if kind not in (*VALUED, *UNVALUED):
-        return AdaptError(line.number, f"{kind} is not a type of bound: write one of {', '.join((*VALUED, *UNVALUED))}")
+    if kind not in BOUND_TYPES:
+        return AdaptError(line.number, f"{kind} is not a type of bound: write one of {', '.join(BOUND_TYPES)}")
     at = next((at for at in (1, 2) if at < len(fields) and state.is_column(fields[at])), None)
     if at is None:
         return AdaptError(line.number, _no_column_in(state, fields))

@@ -7,15 +7,15 @@ _mps_trailing.
 from __future__ import annotations
 
 from collections.abc import Callable, Sequence
-from typing import Optional
 
 from mpslp._adapt._changes import AdaptError
 from mpslp._adapt._mps_lines import Line
-from mpslp._adapt._mps_state import MARKER, MARKERS, ROW_TYPES, UNVALUED, VALUED, State, is_number, is_pair, pairs_end
+from mpslp._adapt._mps_state import State, is_number, is_pair, pairs_end
 from mpslp._adapt._mps_trailing import Place, reason_to_keep
-from mpslp._adapt._numbers import INFINITE, LITERAL, fraction, infinity, is_decimal, is_infinite
+from mpslp._text._mps_words import BOUND_TYPES, MARKER, MARKERS, ROW_TYPES, UNVALUED, VALUED
+from mpslp._text._numbers import BEYOND_LIMITS, INFINITE, LITERAL, fraction, infinity, is_decimal, is_infinite
 
-NewFields = Optional[Sequence[str]]
+NewFields = Sequence[str] | None
 Rule = Callable[[State, Line], NewFields]
 """The fields to write; none if the line becomes a comment; or None."""
 
@@ -80,7 +80,9 @@ def numbers(state: State, line: Line) -> NewFields:
     fields = line.fields()
     is_side = state.section.name == "RHS"
     return fields[:1] + tuple(
-        number_of(line, field, is_side and state.rows[before].kind != "N") if before in state.rows and field not in state.rows else field
+        number_of(line, field, is_side and state.rows[before].kind != "N")
+        if before in state.rows and field not in state.rows
+        else field
         for before, field in zip(fields, fields[1:])
     )
 
@@ -100,7 +102,7 @@ def number_of(line: Line, field: str, is_limit: bool) -> str:
         return number
     if is_limit and is_infinite(number):
         return ("-" if number.startswith("-") else "") + INFINITE
-    raise AdaptError(line.number, f"{field} has over 36 digits, or an exponent over 500: round it, or scale the row")
+    raise AdaptError(line.number, f"{field} has {BEYOND_LIMITS}: round it, or scale the row")
 
 
 _EXPONENTS = {ord("d"): "e", ord("D"): "E"}
@@ -135,7 +137,7 @@ def pair_trailing(state: State, line: Line) -> NewFields:
     return _without_trailing(state, line, 0 if with_set is None else 1, with_set or without)
 
 
-def _without_trailing(state: State, line: Line, start: int, end: Optional[int]) -> NewFields:
+def _without_trailing(state: State, line: Line, start: int, end: int | None) -> NewFields:
     fields = line.fields()
     if end is None or end == len(fields):
         return None
@@ -147,7 +149,12 @@ def range_on_free(state: State, line: Line) -> NewFields:
     """A range on an N row holds nothing, for glpsol and lp_solve too."""
     fields = line.fields()
     start = len(fields) % 2
-    kept = [each for at in range(start, len(fields), 2) if not is_declared_free(state, fields[at]) for each in fields[at : at + 2]]
+    kept = [
+        each
+        for at in range(start, len(fields), 2)
+        if not is_declared_free(state, fields[at])
+        for each in fields[at : at + 2]
+    ]
     return [*fields[:start], *kept] if kept else []
 
 
@@ -166,7 +173,7 @@ def upper_bound_type(state: State, line: Line) -> NewFields:
     kind = fields[0].upper()
     if kind in ("SI", "SN"):
         raise AdaptError(line.number, "a semi-integer column: mpslp has integer and semi-continuous ones")
-    return [kind, *fields[1:]] if kind in (*VALUED, *UNVALUED) else None
+    return [kind, *fields[1:]] if kind in BOUND_TYPES else None
 
 
 def bound_number(state: State, line: Line) -> NewFields:
@@ -181,7 +188,9 @@ def bound_number(state: State, line: Line) -> NewFields:
 def bound_value(state: State, line: Line) -> NewFields:
     """A type without a number has none, if the set is left out: in fixed columns all programs ignore it."""
     fields = line.fields()
-    is_read = len(fields) == 3 and fields[0] in UNVALUED and state.is_column(fields[1]) and not state.is_column(fields[2])
+    is_read = (
+        len(fields) == 3 and fields[0] in UNVALUED and state.is_column(fields[1]) and not state.is_column(fields[2])
+    )
     places = line.places()
     is_in_columns = len(places) == 3 and places[0] in (1, 2) and 14 <= places[1] < 22 and 24 <= places[2] < 36
     return fields[:2] if is_read and is_number(fields[2]) and is_in_columns else None

@@ -3,26 +3,16 @@
 from __future__ import annotations
 
 from collections.abc import Sequence
-from typing import NamedTuple, Optional
+from typing import NamedTuple
 
 from mpslp._adapt._changes import Log
 from mpslp._adapt._mps_dialects import MpsDialect
 from mpslp._adapt._mps_lines import Line, Section
-from mpslp._adapt._names import Names, is_mps_name
-from mpslp._adapt._numbers import LITERAL, is_decimal
+from mpslp._adapt._names import Names
+from mpslp._text._mps_words import MARKER, UNVALUED, VALUED
+from mpslp._text._names import is_mps_name
+from mpslp._text._numbers import LITERAL, is_decimal
 
-VALUED = ("LO", "UP", "FX", "LI", "UI", "SC")
-"""Types of bounds with a number."""
-
-UNVALUED = ("FR", "MI", "PL", "BV")
-"""Types of bounds without a number."""
-
-KEYWORDS = ("NAME", "OBJSENSE", "OBJNAME", "ROWS", "COLUMNS", "RHS", "RANGES", "BOUNDS", "ENDATA")
-"""What headers start with."""
-
-ROW_TYPES = ("N", "L", "G", "E")
-MARKER = "'MARKER'"
-MARKERS = ("'INTORG'", "'INTEND'")
 NAMED_SECTIONS = ("ROWS", "COLUMNS", "RHS", "RANGES", "BOUNDS")
 
 
@@ -51,9 +41,9 @@ class State:
         self.names = Names(is_mps_name, lambda: {each for line in lines for each in line.fields()})
         self.section = Section("")
         self.rows: dict[str, Row] = {}
-        self.objective: Optional[str] = None
-        self.objective_named: Optional[str] = None
-        self.sense: Optional[str] = None
+        self.objective: str | None = None
+        self.objective_named: str | None = None
+        self.sense: str | None = None
         self.columns: dict[str, bool] = {}  # whether each is between markers
         self.column_lines: list[int] = []  # where each of them is first
         self.bounds_only: dict[str, int] = {}  # columns that are in BOUNDS only, and their first lines
@@ -65,7 +55,7 @@ class State:
         self.sets: dict[str, str] = {}
         self.set_lines: dict[str, int] = {}  # where the set of a section is first
         self.bounded: dict[str, list[Bound]] = {}
-        self._named: Optional[frozenset[str]] = None
+        self._named: frozenset[str] | None = None
 
     def is_column(self, field: str) -> bool:
         return field in self.columns or field in self.bounds_only
@@ -86,7 +76,7 @@ def is_pair(state: State, fields: Sequence[str], at: int) -> bool:
     return at + 1 < len(fields) and fields[at] in state.rows and LITERAL.fullmatch(fields[at + 1]) is not None
 
 
-def pairs_end(state: State, fields: Sequence[str], start: int) -> Optional[int]:
+def pairs_end(state: State, fields: Sequence[str], start: int) -> int | None:
     """Where one or two pairs of a row and a number end, or None if there is no first pair."""
     if not is_pair(state, fields, start):
         return None

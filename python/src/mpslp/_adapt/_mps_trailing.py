@@ -1,8 +1,8 @@
 """Text after the last field of a line of MPS: what other programs drop is dropped here, everything else stays.
 
-The programs are those that were measured: glpsol, clp, cbc and lp_solve. Text is dropped where at least two of them drop it
-in the same layout, or where it is a comment of the program that wrote the file, and if it has neither a digit nor the name of
-a row, a column or a section. So no number and no entry is lost that somebody meant.
+The programs are those that were measured: glpsol, clp, cbc and lp_solve. Text is dropped where at least two of them
+drop it in the same layout, or where it is a comment of the program that wrote the file, and if it has neither a digit
+nor the name of a row, a column or a section. So no number and no entry is lost that somebody meant.
 """
 
 from __future__ import annotations
@@ -11,10 +11,13 @@ from collections.abc import Sequence
 from enum import Enum
 
 from mpslp._adapt._mps_lines import Line
-from mpslp._adapt._mps_state import KEYWORDS, MARKER, MARKERS, State
+from mpslp._adapt._mps_state import State
+from mpslp._text._mps_words import HEADERS, MARKER, MARKERS
 
 _AROUND_NAMES = "$*;:,.!#()[]{}<>=\"'"
-_PARTS_OF_NUMBERS = frozenset("e d % inf infinity percent k m g t mio mrd dozen hundred thousand million billion".split())
+_PARTS_OF_NUMBERS = frozenset(
+    "e d % inf infinity percent k m g t mio mrd dozen hundred thousand million billion".split()
+)
 """Words after a number that may belong to it."""
 
 _WORDS_OF_MARKERS = tuple(word.strip("'") for word in (MARKER, *MARKERS))
@@ -39,13 +42,19 @@ def reason_to_keep(state: State, line: Line, end: int, place: Place) -> str | No
     shown = " ".join(text)
     if any(each.isdigit() for each in shown):
         return f"text with a digit after {place.value}: {shown}: correct the line, or remove the text"
-    keyword = next((word for word in text if word.strip(_AROUND_NAMES).upper() in (*KEYWORDS, *_WORDS_OF_MARKERS)), None)
+    keyword = next((word for word in text if word.strip(_AROUND_NAMES).upper() in (*HEADERS, *_WORDS_OF_MARKERS)), None)
     if keyword is not None:
-        return f"{keyword}, which is a header or a marker, in text after {place.value}: start a new line before it, or remove the text"
+        return (
+            f"{keyword}, which is a header or a marker, in text after {place.value}: start a new line before it, or"
+            " remove the text"
+        )
     named = next((word for word in words_of(text) if word in state.named), None)
     if named is not None:
-        return f"{named}, which is a row or a column, in text after {place.value}: {shown}: correct the line, or remove the text"
-    if text[0][0] in "+-." or text[0].strip(_AROUND_NAMES).lower() in _PARTS_OF_NUMBERS:
+        return (
+            f"{named}, which is a row or a column, in text after {place.value}: {shown}: correct the line, or remove"
+            " the text"
+        )
+    if text[0][0] in "+-." or text[0].strip(_AROUND_NAMES).rstrip("+-").lower() in _PARTS_OF_NUMBERS:
         return f"{text[0]} after {place.value} may be a part of it: correct the line, or remove the text"
     if not is_dropped_by_others(state, line, end, place):
         return f"text after {place.value}: {shown}: few programs ignore it; remove it, or start a line with * for it"

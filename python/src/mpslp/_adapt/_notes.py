@@ -1,7 +1,7 @@
 """The notes on a text that mpslp accepts: what other programs mean by its lines.
 
-A large text is read for them only as far as it may have one: of an MPS file the comments and the objective's number in RHS, and
-an LP file only if something in it could be noted.
+A large text is read for them only as far as it may have one: of an MPS file the comments and the objective's number in
+RHS, and an LP file only if something in it could be noted.
 """
 
 from __future__ import annotations
@@ -14,16 +14,20 @@ from mpslp import _mpslp
 from mpslp._adapt._changes import AdaptError, Log, Note, OtherLanguage
 from mpslp._adapt._lp import adapt_lp
 from mpslp._adapt._mps_meant import NEGATED, SENSE_OF_PULP, meaning_of_the_constant
-from mpslp._sources import Format
-from mpslp._warnings._mps import MpsText
+from mpslp._files._sources import Format
+from mpslp._text._mps import MpsText
 
 if TYPE_CHECKING:
     from mpslp._mpslp import Arrays
 
 _NUMBER = rb"(?:[0-9.]+(?:[eE][+-]?[0-9]+)?|[iI][nN][fF][a-zA-Z]*)"
 _SIGN_AFTER_NUMBER = rb"(?![<>=])\s*(?:[+-]\s*)?" + _NUMBER + rb"[ \t\r]*[+-]"
-_ROWS_AFTER_NUMBERS = tuple(re.compile(relation + _SIGN_AFTER_NUMBER) for relation in (b"<", b">", b"="))  # fast, as each has a first letter
-_SECTION_OF_OTHERS = re.compile(rb"\n[ \t\r]*(?:[sS](?:\.[iIcC]\.|[iI][nN]|[eE][cC])|[pP](?:\.[iI]\.|[iI][nN]))[ \t\r]*[\n\\]")  # faster than IGNORECASE
+_ROWS_AFTER_NUMBERS = tuple(
+    re.compile(relation + _SIGN_AFTER_NUMBER) for relation in (b"<", b">", b"=")
+)  # fast, as each has a first letter
+_SECTION_OF_OTHERS = re.compile(
+    rb"\n[ \t\r]*(?:[sS](?:\.[iIcC]\.|[iI][nN]|[eE][cC])|[pP](?:\.[iI]\.|[iI][nN]))[ \t\r]*[\n\\]"
+)  # faster than IGNORECASE
 _COMMENT = re.compile(rb"\\[^\n]*")
 _CONSTANT_OF_GLPSOL = rb"\* constant term = "
 _COMMENT_OF_MPS = re.compile(rb"^\*", re.M)
@@ -32,9 +36,13 @@ _NEGATED = re.compile(re.escape(NEGATED.encode("ascii")) + rb"\r?(?:\n|\Z)")
 
 
 def notes_of(content: bytes, format: Format, arrays: Arrays) -> tuple[Note, ...]:
-    """The notes on a text that mpslp accepts, which has these arrays; OtherLanguage for one that others read as something else."""
+    """The notes on a text that mpslp accepts, which has these arrays; OtherLanguage for one that others read as
+    something else.
+    """
     if format == "mps":
-        return tuple(Note(_mpslp.count_line_feeds(content, 0, place) + 1, text) for place, text in notes_on_mps(MpsText(content)))
+        return tuple(
+            Note(_mpslp.count_line_feeds(content, 0, place) + 1, text) for place, text in notes_on_mps(MpsText(content))
+        )
     log = Log()
     try:
         if may_be_noted(content) or has_column_without_coefficients(arrays):

@@ -6,7 +6,6 @@ import gc
 from collections.abc import Collection, Iterator, Mapping
 from contextlib import contextmanager
 from dataclasses import dataclass, replace
-from typing import Optional
 
 from mpslp._adapt._accepted import accepted, require_accepted
 from mpslp._adapt._changes import DIALECTS, NO_DIALECT, AdaptError, Change, Log, Note, kinds_of, readable
@@ -15,8 +14,8 @@ from mpslp._adapt._lp import adapt_lp
 from mpslp._adapt._mps import adapt_mps
 from mpslp._adapt._notes import notes_of
 from mpslp._adapt._writers import MOST_OF_HEADER, Writer, writer_of
-from mpslp._compression import unpack
-from mpslp._sources import Format
+from mpslp._files._compression import unpack
+from mpslp._files._sources import Format
 
 _COMPRESSED = ((b"\x1f\x8b", ".gz"), (b"BZh", ".bz2"), (b"\xfd7zXZ\x00", ".xz"), (b"\x28\xb5\x2f\xfd", ".zst"))
 _MARKS = ((b"\xef\xbb\xbf", "utf-8"), (b"\xff\xfe", "utf-16-le"), (b"\xfe\xff", "utf-16-be"))
@@ -24,10 +23,11 @@ _MARKS = ((b"\xef\xbb\xbf", "utf-8"), (b"\xff\xfe", "utf-16-le"), (b"\xfe\xff", 
 
 @dataclass(frozen=True)
 class Adapted:
-    """A text that mpslp accepts, its format, what was changed, in the order of lines, and the names written for names given.
+    """A text that mpslp accepts, its format, what was changed, in the order of lines, and the names written for names
+    given.
 
-    ``notes`` has the lines that stay, and that another dialect means in another way. ``writer`` is the program that the header of
-    the text names, if its dialect was taken for that reason, else None.
+    ``notes`` has the lines that stay, and that another dialect means in another way. ``writer`` is the program that the
+    header of the text names, if its dialect was taken for that reason, else None.
     """
 
     text: bytes
@@ -35,10 +35,14 @@ class Adapted:
     changes: tuple[Change, ...]
     names: Mapping[str, str]
     notes: tuple[Note, ...] = ()
-    writer: Optional[Writer] = None
+    writer: Writer | None = None
+
+    def __repr__(self) -> str:
+        sizes = f"{len(self.changes)} changes, {len(self.notes)} notes, {len(self.text)} bytes"
+        return f"<mpslp.Adapted: {self.format}, {sizes}>"
 
 
-def adapt_text(content: bytes, format: Format, dialect: Optional[str] = None, strict: Collection[str] = ()) -> Adapted:
+def adapt_text(content: bytes, format: Format, dialect: str | None = None, strict: Collection[str] = ()) -> Adapted:
     """The text that mpslp accepts for bytes in a format; raises AdaptError if its meaning would have to be guessed."""
     kinds = kinds_of(strict)
     if dialect is not None and dialect not in (*DIALECTS, NO_DIALECT):
@@ -53,14 +57,14 @@ def adapt_text(content: bytes, format: Format, dialect: Optional[str] = None, st
         raise
 
 
-def named_writer(content: bytes, format: Format) -> Optional[Writer]:
+def named_writer(content: bytes, format: Format) -> Writer | None:
     """The program that the header of a text names; the text may be compressed, or in another encoding."""
     for rule in (decompressed, decoded):
         content = rule(content, Log())
     return writer_of(with_line_feeds(content[:MOST_OF_HEADER], Log()).decode("latin-1"), format)
 
 
-def adapted_from(content: bytes, format: Format, dialect: Optional[str], kinds: frozenset[str]) -> Adapted:
+def adapted_from(content: bytes, format: Format, dialect: str | None, kinds: frozenset[str]) -> Adapted:
     """The text of a dialect as mpslp accepts it."""
     if dialect is None and (arrays := accepted(content, format)) is not None:
         return Adapted(content, format, (), {}, notes_of(content, format, arrays))
@@ -71,13 +75,13 @@ def adapted_from(content: bytes, format: Format, dialect: Optional[str], kinds: 
     with without_collection():
         after, names = rewritten(before, format, dialect, log)
         changes = tuple(sorted(log.changes, key=lambda change: change.line))
-        require_the_same(before, after, format, dialect, changes, names)
+        require_the_same(before, after, format, dialect, log, names)
     text = after.encode("latin-1")
     require_accepted(text, format, log.source_lines)
     return Adapted(text, format, changes, {as_read(given): name for given, name in names.items()}, tuple(log.notes))
 
 
-def rewritten(text: str, format: Format, dialect: Optional[str], log: Log) -> tuple[str, dict[str, str]]:
+def rewritten(text: str, format: Format, dialect: str | None, log: Log) -> tuple[str, dict[str, str]]:
     """A text in latin-1 as mpslp reads it, and the names written instead of names given."""
     return adapt_lp(text, dialect, log) if format == "lp" else adapt_mps(text, dialect, log)
 

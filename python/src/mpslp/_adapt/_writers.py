@@ -2,9 +2,8 @@
 
 import re
 from dataclasses import dataclass
-from typing import Optional
 
-from mpslp._sources import Format
+from mpslp._files._sources import Format
 
 
 @dataclass(frozen=True)
@@ -45,7 +44,7 @@ MOST_OF_HEADER = 100_000
 """More characters than a header has; a line of a whole file may be very long."""
 
 
-def writer_of(text: str, format: Format) -> Optional[Writer]:
+def writer_of(text: str, format: Format) -> Writer | None:
     """The program that the header of a text names, if it is one whose files are read in a dialect."""
     first = text[:MOST_OF_HEADER].replace("\r\n", "\n")
     return next((writer for header, writer in _HEADERS[format] if re.match(header, first, re.IGNORECASE)), None)

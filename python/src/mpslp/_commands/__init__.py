@@ -1,7 +1,7 @@
 """The commands of mpslp-tools.
 
-Each is a module with ``add``, which gives a parser the options, and ``run``, which does what they ask for. Only the module of the
-command that is given is imported.
+Each is a module with ``add``, which gives a parser the options, and ``run``, which does what they ask for. Only the
+module of the command that is given is imported.
 """
 
 from __future__ import annotations
@@ -18,6 +18,8 @@ COMMANDS = {
     "check": "print which files are not canonical",
     "same": "say whether two files define the same model",
     "diff": "print the differences of two models",
+    "merge": "merge two models that were made of one",
+    "setup-git": "make git diff and merge models",
     "show": "print the model of a file",
     "digest": "print a checksum of the model of each file",
     "explain": "explain a kind of error",
@@ -38,10 +40,13 @@ class Command(Protocol):
     DETAILS: str
     """What else there is to say, in the manual page."""
 
-    def add(self, parser: argparse.ArgumentParser) -> None: ...
-    def run(self, options: argparse.Namespace) -> Status: ...
+    def add(self, parser: argparse.ArgumentParser) -> None:
+        ...
+
+    def run(self, options: argparse.Namespace) -> Status:
+        ...
 
 
 def command_of(name: str) -> Command:
     """The module of a command."""
-    return cast(Command, import_module(f"mpslp._commands._{name}"))
+    return cast(Command, import_module(f"mpslp._commands._{name.replace('-', '_')}"))

@@ -16,16 +16,17 @@ from mpslp._adapt._changes import kinds_of
 from mpslp._adapt._writers import Writer
 from mpslp._commands import _options
 from mpslp._commands._inputs import STANDARD_INPUT, Input, one_input
+from mpslp._commands._names import nothing_replaced
 from mpslp._commands._options import add_files, add_one_of, add_options, flag, option
 from mpslp._commands._outcomes import Outcome, Status, UsageError, failure, record_of
 from mpslp._commands._targets import given_out, inputs_for, require_one_place_each, target_of
 from mpslp._commands._work import Done, for_each, for_outcome
-from mpslp._compression import pack
-from mpslp._files import replace_file
-from mpslp._output import write_lines
-from mpslp._patch import unified_diff
-from mpslp._rename import table, table_of
-from mpslp._sources import Text, read_standard_input
+from mpslp._files._compression import pack
+from mpslp._files._output import write_lines
+from mpslp._files._paths import replace_file
+from mpslp._files._sources import Text, read_standard_input
+from mpslp._rename import GivenNames, RenameError, name_from, table, table_of
+from mpslp._text._patch import unified_diff
 
 USAGE = "[OPTION].. FILE.."
 DESCRIPTION = """\
@@ -33,11 +34,11 @@ Rewrite a file of another dialect as one that mpslp reads, without guessing, and
 report each change on standard error. Many files need -i, --diff, --out-dir,
 --dry-run or --summary. The exit status is 1 if a file is changed."""
 DETAILS = """\
-The exit status is 0 if mpslp accepts all files unchanged, 1 if it accepts them with the changes, and 2 if a file is left, since its
-meaning would have to be guessed or mpslp rejects it in spite of the changes; then nothing is written for this file.
-Without --from, the header of a file that names its writer selects the dialect, as a line on standard error says; --from none
-turns this off. --summary prints the number of changes of each kind, and of files that have one; without -o, -i or --out-dir nothing
-is written then. DIALECTS.md lists the kinds."""
+The exit status is 0 if mpslp accepts all files unchanged, 1 if it accepts them with the changes, and 2 if a file is
+left, since its meaning would have to be guessed or mpslp rejects it in spite of the changes; then nothing is written
+for this file. Without --from, the header of a file that names its writer selects the dialect, as a line on standard
+error says; --from none turns this off. --summary prints the number of changes of each kind, and of files that have
+one; without -o, -i or --out-dir nothing is written then. DIALECTS.md lists the kinds."""
 
 _BYTES_THAT_PAY = 3_000_000
 """How many bytes take longer to adapt than processes take to start."""
@@ -51,7 +52,13 @@ def add(parser: argparse.ArgumentParser) -> None:
         flag("--dry-run", help="only report the changes"),
         _options.DIALECT,
         flag("--summary", help="print how many changes of each kind there are"),
-        option("--strict", action="append", default=[], metavar="KIND", help="leave files that need such a change; repeatable"),
+        option(
+            "--strict",
+            action="append",
+            default=[],
+            metavar="KIND",
+            help="leave files that need such a change; repeatable",
+        ),
         _options.NAMES,
         _options.NAMES_BACK,
         _options.JOBS,
@@ -81,7 +88,9 @@ def _require_fitting(options: argparse.Namespace) -> None:
     """Raises UsageError for options that do not fit the files."""
     is_one = len(options.files) == 1 and not os.path.isdir(options.files[0])
     if not is_one and (options.output is not None or _prints_texts(options)):
-        raise UsageError("adapt writes the text of one file: for several, give -i, --diff, --out-dir, --dry-run or --summary")
+        raise UsageError(
+            "adapt writes the text of one file: for several, give -i, --diff, --out-dir, --dry-run or --summary"
+        )
     if not is_one and options.map is not None:
         raise UsageError("--map has the names of one file")
     if options.json and _prints_texts(options) or options.json and options.patch:
@@ -163,7 +172,9 @@ def _record(given: Input, done: Adapted, counts: Mapping[str, int]) -> dict[str,
         "adapted" if done.changes else "accepted",
         writer=None if done.writer is None else done.writer.dialect,
         changes=dict(counts),
-        changed=[{"line": each.line, "kind": each.kind, "before": each.before, "after": each.after} for each in done.changes],
+        changed=[
+            {"line": each.line, "kind": each.kind, "before": each.before, "after": each.after} for each in done.changes
+        ],
         notes=[{"line": each.line, "text": each.text} for each in done.notes],
     )
 
@@ -184,13 +195,22 @@ def _names_back(options: argparse.Namespace) -> Status:
         options.map = options.files.pop(0)  # as `adapt --names-back NAMES SOLUTION`
     if len(options.files) != 1 or options.map is None:
         raise UsageError("--names-back takes one solution, and the names of --map")
-    if options.in_place or options.patch or options.out_dir is not None or options.dry_run or options.summary or options.json:
+    if (
+        options.in_place
+        or options.patch
+        or options.out_dir is not None
+        or options.dry_run
+        or options.summary
+        or options.json
+    ):
         raise UsageError("--names-back writes a solution: it goes only with --map, -o and -q")
     given = one_input(options)
 
     def work() -> Outcome:
         try:
             return _with_names_given(given, options)
+        except RenameError as error:
+            return Outcome(Status.REJECTED, error=f"{given.path}: {error}")
         except ValueError as error:  # of JSON
             raise UsageError(f"{options.map}: {error}") from None
         except (OSError, MemoryError) as error:
@@ -202,14 +222,16 @@ def _names_back(options: argparse.Namespace) -> Status:
 def _with_names_given(given: Input, options: argparse.Namespace) -> Outcome:
     with open(options.map, "rb") as file:
         names = table_of(file.read())
-    text = with_names(_bytes_of(given.path), names)
-    return given_out(text, options.output, options)
+    solution = _bytes_of(given.path)
+    text = with_names(solution, names)
+    made = given_out(text, options.output, options)
+    return nothing_replaced(made, given.path, options.map) if names and text == solution else made
 
 
-def with_names(solution: bytes, given: Mapping[str, str]) -> bytes:
+def with_names(solution: bytes, given: GivenNames) -> bytes:
     """A solution in which each word that is a name written is the name given."""
-    text = solution.decode("utf-8", "surrogateescape")
-    return re.sub(r"[^\s]+", lambda word: given.get(word[0], word[0]), text).encode("utf-8", "surrogateescape")
+    text, name_of = solution.decode("utf-8", "surrogateescape"), name_from(given)
+    return re.sub(r"[^\s]+", lambda word: name_of(word[0]), text).encode("utf-8", "surrogateescape")
 
 
 def _bytes_of(path: str) -> bytes:

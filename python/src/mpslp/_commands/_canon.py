@@ -15,11 +15,14 @@ from mpslp._commands._outcomes import Outcome, Status, UsageError
 from mpslp._commands._targets import given_out, inputs_for, require_one_place_each, target_of
 from mpslp._commands._warned import is_printed, replacing, warned
 from mpslp._commands._work import for_each, for_one
-from mpslp._compression import pack
-from mpslp._files import is_one_file, replace_file
-from mpslp._patch import unified_diff
+from mpslp._errors._faults import ModelFileError
+from mpslp._files._compression import pack
+from mpslp._files._paths import is_one_file, replace_file
+from mpslp._files._sources import Format, Text, format_number, format_of_name
+from mpslp._rename import table
 from mpslp._solver_texts import SOLVERS, SolverError, solver_text
-from mpslp._sources import Format, Text, format_number, format_of_name
+from mpslp._text._conflict_markers import has_conflict_markers
+from mpslp._text._patch import unified_diff
 from mpslp._warnings import KINDS as WARNING_KINDS
 
 USAGE = "[OPTION].. FILE.."
@@ -28,12 +31,18 @@ Write the canonical text of a model file, without comments, the name after NAME
 and the order of rows and columns. Many files need -i, --diff or --out-dir.
 'canon FROM TO FILE', with mps or lp twice, is that of mpslp."""
 DETAILS = """\
-A file is replaced as a whole and keeps its mode: an interrupted or failing run leaves the old text or the new one. A file that is
-canonical already is not touched. A file that has the sense of the objective in a comment only, as those of PuLP, is left by -i, with
-exit status 2, unless --force is given. The format written is that of -t, or of the extension of the file given by -o, or of the file
-read. With --out-dir, -t changes the extensions. With --for, the text is what that solver reads as the model; what it has no place for
-is written in another way, with a warning; the exit status is 2, and nothing is written, if it would find another optimum. SOLVERS.md
-has the commands that read these texts. With --names-back, --map is read."""
+A file is replaced as a whole and keeps its mode: an interrupted or failing run leaves the old text or the new one. A
+file that is canonical already is not touched. A file that has the sense of the objective in a comment only, as those
+of PuLP, is left by -i, with exit status 2, unless --force is given. The format written is that of -t, or of the
+extension of the file given by -o, or of the file read. With --out-dir, -t changes the extensions. With --for, the text
+is what that solver reads as the model: glpsol, clp, cbc, lp_solve, esolver, highs or scip, or for portable what HiGHS,
+Gurobi, CPLEX and Xpress read alike; what it has no place for is written in another way, with a warning; the exit
+status is 2, and nothing is written, if it would find another optimum. SOLVERS.md has the commands that read these
+texts. --map writes the names that --for or --rename replaces, and --names-back reads it; the exit status of
+--names-back is 1, with a warning, if it replaces nothing. With --git-path, canon is git's clean filter for this path:
+it reads standard input, and does not change a file with conflict markers."""
+
+_NAMES_HINT = "--map FILE writes the names that are replaced, and --names-back --map FILE restores them in a solution"
 
 
 def add(parser: argparse.ArgumentParser) -> None:
@@ -41,11 +50,25 @@ def add(parser: argparse.ArgumentParser) -> None:
     add_one_of(parser, _options.OUTPUT, _options.OUT_DIR, _options.IN_PLACE, _options.PATCH)
     add_options(
         parser,
-        option("-t", "--to", choices=("mps", "lp", "glp"), metavar="FORMAT", help="write mps or lp; with --for glpsol also glp"),
-        option("--for", dest="solver", choices=tuple(SOLVERS), metavar="SOLVER", help="write what glpsol, clp, cbc, lp_solve or esolver reads"),
+        option(
+            "-t",
+            "--to",
+            type=str.lower,
+            choices=("mps", "lp", "glp"),
+            metavar="FORMAT",
+            help="write mps or lp; with --for glpsol also glp",
+        ),
+        option(
+            "--for",
+            dest="solver",
+            choices=tuple(SOLVERS),
+            metavar="SOLVER",
+            help="write what a solver reads: cbc, highs, .. or portable",
+        ),
         flag("--rename", help="with -t lp, give names that LP does not have legal ones"),
         _options.NAMES,
         _options.NAMES_BACK,
+        _options.GIT_PATH,
         flag("--force", help="with -i, also if the sense is in a comment only"),
         _options.JOBS,
         _options.QUIET,
@@ -54,8 +77,13 @@ def add(parser: argparse.ArgumentParser) -> None:
 
 
 def run(options: argparse.Namespace) -> Status:
-    if options.rename or options.names_back or options.map is not None:
+    if options.git_path is not None:
+        return _run_as_filter(options)
+    _require_one_format(options)
+    if options.rename or options.names_back or (options.map is not None and options.solver is None):
         return run_with_names(options)
+    if options.map is not None and options.out_dir is not None:
+        raise UsageError("--map has the names of one file")
     formats = formats_before(options.files, 3, (0, 1), options)
     if formats is not None:
         return _run_as_mpslp(options, *formats)
@@ -72,10 +100,53 @@ def run(options: argparse.Namespace) -> Status:
 
 def _run_as_mpslp(options: argparse.Namespace, form: Format, to: Format) -> Status:
     """``canon FROM TO PATH``, as the program mpslp."""
-    if options.in_place or options.patch or options.out_dir is not None or options.to is not None or options.solver is not None:
+    if (
+        options.in_place
+        or options.patch
+        or options.out_dir is not None
+        or options.to is not None
+        or options.solver is not None
+    ):
         raise UsageError("'canon FROM TO FILE' writes to standard output, or with -o to a file")
     options.to = to
+    _require_one_format(options)
     return for_one(Input(options.files[2], format=form), options, _write)
+
+
+def _require_one_format(options: argparse.Namespace) -> None:
+    """Raises UsageError if the extension of the file to be written is that of a format that is not written."""
+    extension = None if options.output is None else format_of_name(options.output)
+    if options.to is not None and extension is not None and extension != options.to:
+        asked = f"{options.to.upper()} is asked for"
+        raise UsageError(f"{asked}, and -o {options.output} is the name of a file in {extension.upper()}")
+
+
+def _run_as_filter(options: argparse.Namespace) -> Status:
+    """The clean filter of git, which gives the file on standard input."""
+    others = (options.in_place, options.patch, options.rename, options.names_back)
+    if (
+        options.files != [STANDARD_INPUT]
+        or any(others)
+        or any(each is not None for each in (options.out_dir, options.solver, options.map))
+    ):
+        raise UsageError("--git-path is for git's clean filter: canon --git-path=%f -")
+    return for_one(Input(STANDARD_INPUT, git_path=options.git_path), options, _clean)
+
+
+def _clean(text: Text, given: Input, options: argparse.Namespace) -> Outcome:
+    """Writes the canonical text of a file.
+
+    One with conflict markers is left unchanged: git diff needs it during a conflict.
+    """
+    try:
+        return _write(text, given, options)
+    except ModelFileError:
+        if not has_conflict_markers(text.content):
+            raise
+        return Outcome(
+            text=text.content,
+            error="" if options.quiet else f"warning: {given.name}: it has conflict markers, and is left unchanged",
+        )
 
 
 # ---- in place
@@ -108,7 +179,9 @@ def _show_patch(text: Text, given: Input, options: argparse.Namespace) -> Outcom
     content = _mpslp.canonical(text.content, text.format, text.format)
     if content == text.content:
         return warned(text, options).before(Outcome)
-    return replacing(text, options, lambda: Outcome(Status.DIFFERS, patch=unified_diff(given.path, text.content, content)))
+    return replacing(
+        text, options, lambda: Outcome(Status.DIFFERS, patch=unified_diff(given.path, text.content, content))
+    )
 
 
 # ---- to other files
@@ -116,7 +189,9 @@ def _show_patch(text: Text, given: Input, options: argparse.Namespace) -> Outcom
 
 def _run_for_all(options: argparse.Namespace) -> Status:
     inputs = inputs_for(options)
-    require_one_place_each(inputs, lambda given: _target(given, options, options.to or ("*" if options.solver else None)))
+    require_one_place_each(
+        inputs, lambda given: _target(given, options, options.to or ("*" if options.solver else None))
+    )
     return for_each(inputs, options, _write if options.solver is None else _write_for_solver).status
 
 
@@ -143,11 +218,18 @@ def _write_for_solver(text: Text, given: Input, options: argparse.Namespace) -> 
         made = solver_text(canonical, options.solver, asked)
     except SolverError as error:
         return Outcome(Status.REJECTED, error=f"{given.path}: {error}")
-    lines = "\n".join(f"warning: {given.path}: {each}" for each in made.warnings)
+    hint = [_NAMES_HINT] if made.names and options.map is None else []
+    lines = "\n".join(f"warning: {given.path}: {each}" for each in (*made.warnings, *hint))
     if lines and set(options.strict) >= set(WARNING_KINDS):
         return Outcome(Status.REJECTED, error=lines)
     path = _target(given, options, made.format)
-    return _written(text, given, options, path, lambda: given_out(made, path, options).preceded_by(lines if is_printed(options) else ""))
+
+    def work() -> Outcome:
+        if options.map is not None:
+            replace_file(options.map, table(made.names))
+        return given_out(made, path, options).preceded_by(lines if is_printed(options) else "")
+
+    return _written(text, given, options, path, work)
 
 
 def _written(text: Text, given: Input, options: argparse.Namespace, path: str, work: Callable[[], Outcome]) -> Outcome:

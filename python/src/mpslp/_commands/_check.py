@@ -11,8 +11,8 @@ from mpslp._commands._options import add_files, add_options, add_warnings, flag,
 from mpslp._commands._outcomes import Outcome, Status, UsageError, record_of
 from mpslp._commands._warned import warned
 from mpslp._commands._work import for_each
+from mpslp._files._sources import Format, Text
 from mpslp._portable import AGREED, KINDS, PROGRAMS, grouped, portability
-from mpslp._sources import Format, Text
 
 USAGE = "[OPTION].. FILE.."
 DESCRIPTION = """\
@@ -20,9 +20,9 @@ Print the paths of the files that are not canonical; or with --portable the
 lines that other programs may read differently, as PATH:LINE: KIND: what is
 read. The exit status is 1 if there is one."""
 DETAILS = """\
-Of each kind of remark of --portable there are the number of lines and the first three, as
-model.mps:3: objsense: the model is maximised; clp and cbc ignore OBJSENSE and minimise.
-With --all each line is printed, and also the kinds in which all programs that were measured agree. DIALECTS.md lists the kinds."""
+Of each kind of remark of --portable there are the number of lines and the first three, as model.mps:3: objsense: the
+model is maximised; clp and cbc ignore OBJSENSE and minimise. With --all each line is printed, and also the kinds in
+which all programs that were measured agree. DIALECTS.md lists the kinds."""
 
 
 def add(parser: argparse.ArgumentParser) -> None:
@@ -30,9 +30,21 @@ def add(parser: argparse.ArgumentParser) -> None:
     add_options(
         parser,
         flag("--portable", help="print what other programs may read differently"),
-        option("--target", choices=PROGRAMS, metavar="PROGRAM", help="with --portable, only what concerns glpsol, clp,\ncbc, lp_solve, esolver or coinutils"),
-        flag("--all", help="with --portable, all lines and all kinds"),
-        option("--ignore", action="append", default=[], choices=KINDS, metavar="KIND", help="with --portable, leave out a kind; may be repeated"),
+        option(
+            "--target",
+            choices=PROGRAMS,
+            metavar="PROGRAM",
+            help="with --portable, only what concerns glpsol, clp,\ncbc, lp_solve, esolver, coinutils, highs or scip",
+        ),
+        _options.ALL,
+        option(
+            "--ignore",
+            action="append",
+            default=[],
+            choices=KINDS,
+            metavar="KIND",
+            help="with --portable, leave out a kind; may be repeated",
+        ),
         _options.JOBS,
         _options.JSON,
         _options.QUIET,
@@ -62,7 +74,9 @@ def _portable(text: Text, given: Input, options: argparse.Namespace) -> Outcome:
     """What other programs may read differently in a file."""
     format: Format = "mps" if text.format == _mpslp.MPS else "lp"
     found = portability(text.content, format, target=options.target)
-    remarks = [remark for remark in found if remark.kind not in options.ignore and (options.all or remark.kind not in AGREED)]
+    remarks = [
+        remark for remark in found if remark.kind not in options.ignore and (options.all or remark.kind not in AGREED)
+    ]
     lines = map(str, remarks) if options.all else grouped(remarks)
     records = [{"line": each.line, "kind": each.kind, "text": each.text, "programs": each.programs} for each in remarks]
     return Outcome(

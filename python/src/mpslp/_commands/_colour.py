@@ -19,7 +19,13 @@ class _Style(Enum):
 
 _REJECTION = re.compile(r"(?P<where>[^\n]+?(?::\d+)?): (?P<kind>[A-Z][A-Za-z]+)(?=: |$)", re.M)
 _WARNING = re.compile(r"^warning:", re.M)
-_PATCH_STYLES = ((b"+++ ", _Style.BOLD), (b"--- ", _Style.BOLD), (b"@@ ", _Style.CYAN), (b"+", _Style.GREEN), (b"-", _Style.RED))
+_PATCH_STYLES = (
+    (b"+++ ", _Style.BOLD),
+    (b"--- ", _Style.BOLD),
+    (b"@@ ", _Style.CYAN),
+    (b"+", _Style.GREEN),
+    (b"-", _Style.RED),
+)
 
 
 def is_coloured(stream: Any) -> bool:

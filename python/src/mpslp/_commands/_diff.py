@@ -10,14 +10,23 @@ from typing import Any, NamedTuple
 from mpslp import _mpslp
 from mpslp._commands import _options
 from mpslp._commands._inputs import Input
+from mpslp._commands._entries_only import Renamed, Shown, entries_of, lines_of, with_renamed
 from mpslp._commands._options import add_files, add_options, add_warnings, flag
-from mpslp._commands._outcomes import Outcome, Status
+from mpslp._commands._outcomes import Outcome, Status, UsageError
 from mpslp._commands._pairs import NO_FILE, NOT_THE_SAME, Paths, run_for_pairs
 from mpslp._commands._warned import warned
 from mpslp._commands._work import attempt, for_one
-from mpslp._differences import ColumnDifference, ColumnOnly, Difference, EntryDifference, ModelDifference, RowDifference, RowOnly, diff
-from mpslp._numbers import number_text
-from mpslp._sources import Format, Text
+from mpslp._files._sources import Text, format_of
+from mpslp._models._differences import (
+    ColumnDifference,
+    ColumnOnly,
+    EntryDifference,
+    ModelDifference,
+    RowDifference,
+    RowOnly,
+    diff,
+)
+from mpslp._models._numbers import number_text
 
 USAGE = "[OPTION].. FIRST SECOND"
 DESCRIPTION = """\
@@ -25,9 +34,14 @@ Print a line for each difference of two models. If there is none, print 'same';
 or 'close' if the models are not the same, but no difference counts because of
 the options. Of two directories, files with the same paths are compared."""
 DETAILS = """\
+With --any-names it prints 'same but for names' if the models are; else rows and columns of one name are matched, and
+others that have one possible partner by their shape, that is, by limits, bounds, costs and coefficients. The first
+line says how many were matched.
 A difference is a line such as
 entry MYG Y: 1.5 -> 1.25.
-The exit status is 1 if there is one. One of the files may be /dev/null, as git names a file that is new or deleted."""
+After a row or a column that only one model has there are its first ten coefficients, or with --all each. One that
+differs in nothing but its name is a line such as row LIM1: name LIM1 -> LIM2. The exit status is 1 if there is one.
+One of the files may be /dev/null, as git names a file that is new or deleted."""
 
 
 def add(parser: argparse.ArgumentParser) -> None:
@@ -35,8 +49,10 @@ def add(parser: argparse.ArgumentParser) -> None:
     add_options(
         parser,
         flag("--ignore-objective-name", help="the name of the objective does not count"),
+        _options.ALL,
         _options.DIGITS,
         _options.BY_POSITION,
+        _options.ANY_NAMES,
         _options.JSON,
         _options.QUIET,
     )
@@ -44,6 +60,8 @@ def add(parser: argparse.ArgumentParser) -> None:
 
 
 def run(options: argparse.Namespace) -> Status:
+    if options.any_names and options.by_position:
+        raise UsageError("--any-names does not go with --by-position")
     comparison = _Differences(options)
     if len(options.files) == 2 and NO_FILE in options.files:
         is_first = options.files[1] == NO_FILE
@@ -59,30 +77,34 @@ class _Differences(NamedTuple):
         found = diff(
             first.content,
             second.content,
-            _format_of(first),
-            _format_of(second),
+            format_of(first),
+            format_of(second),
             ignore_objective_name=options.ignore_objective_name,
             digits=options.digits,
             by_position=options.by_position,
+            any_names=options.any_names,
         )
         each = iter(found)
         one = next(each, None)
         paths = Paths(first.filename, second.filename)
         if one is None:
-            return Outcome(output="" if options.quiet else found.verdict, record=paths.record(found.verdict, differences=[]))
+            return Outcome(
+                output="" if options.quiet else found.verdict, record=paths.record(found.verdict, differences=[])
+            )
         if options.quiet and not options.json:
             return Outcome(Status.DIFFERS)
-        differences = chain([one], each)
+        differences, matched = with_renamed(chain([one], each)), found.matched
         if options.json:
-            return Outcome(Status.DIFFERS, record=paths.record(NOT_THE_SAME, differences=map(record_of_difference, differences)))
-        return Outcome(Status.DIFFERS, lines=map(str, differences))
+            counts = {} if matched is None else {"matched": matched._asdict()}
+            return Outcome(
+                Status.DIFFERS,
+                record=paths.record(NOT_THE_SAME, **counts, differences=map(record_of_difference, differences)),
+            )
+        lines = chain.from_iterable(lines_of(each, options.all) for each in differences)
+        return Outcome(Status.DIFFERS, lines=lines if matched is None else chain([str(matched)], lines))
 
     def of_one(self, given: Input, is_first: bool) -> Outcome:
         return attempt(given, self.options, _of_first if is_first else _of_second)
-
-
-def _format_of(text: Text) -> Format:
-    return "mps" if text.format == _mpslp.MPS else "lp"
 
 
 def _of_first(text: Text, given: Input, options: argparse.Namespace) -> Outcome:
@@ -98,16 +120,21 @@ def _whole_model(text: Text, options: argparse.Namespace, sign: str, paths: Path
     rows, columns, entries = _mpslp.load(text.content, text.format).counts()
     line = f"{sign} model: {rows} rows, {columns} columns, {entries} entries"
     found = {"of": "model", "what": "only", "first": sign == "-", "second": sign == "+", "text": line}
-    outcome = Outcome(Status.DIFFERS, lines=[] if options.quiet else [line], record=paths.record(NOT_THE_SAME, differences=[found]))
+    outcome = Outcome(
+        Status.DIFFERS, lines=[] if options.quiet else [line], record=paths.record(NOT_THE_SAME, differences=[found])
+    )
     return warned(text, options).before(lambda: outcome)
 
 
-def record_of_difference(each: Difference) -> dict[str, Any]:
+def record_of_difference(each: Shown) -> dict[str, Any]:
     """A difference as JSON: what it is of, the values of both models, and the line that is printed of it."""
     if isinstance(each, RowOnly):
         return _only("row", each.row.name, each)
     if isinstance(each, ColumnOnly):
         return _only("column", each.column.name, each)
+    if isinstance(each, Renamed):
+        found = {"of": each.of, each.of: each.first, "what": "name"}
+        return {**found, "first": each.first, "second": each.second, "text": str(each)}
     if isinstance(each, ModelDifference):
         return _changed({"of": "model", "what": each.what}, each)
     if isinstance(each, RowDifference):
@@ -119,10 +146,14 @@ def record_of_difference(each: Difference) -> dict[str, Any]:
 
 def _only(of: str, name: str, each: RowOnly | ColumnOnly) -> dict[str, Any]:
     is_first = each.which == "first"
-    return {"of": of, of: name, "what": "only", "first": is_first, "second": not is_first, "text": str(each)}
+    entries = {other: number_text(value) for other, value in entries_of(each).items()}
+    found = {"of": of, of: name, "what": "only", "first": is_first, "second": not is_first}
+    return {**found, "entries": entries, "text": str(each)}
 
 
-def _changed(found: dict[str, Any], each: ModelDifference | RowDifference | ColumnDifference | EntryDifference) -> dict[str, Any]:
+def _changed(
+    found: dict[str, Any], each: ModelDifference | RowDifference | ColumnDifference | EntryDifference
+) -> dict[str, Any]:
     return {**found, "first": _value(each.first), "second": _value(each.second), "text": str(each)}
 
 

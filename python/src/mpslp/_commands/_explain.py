@@ -11,9 +11,9 @@ from mpslp._commands._inputs import STANDARD_INPUT, Input, inputs_of
 from mpslp._commands._options import add_options
 from mpslp._commands._outcomes import Outcome, Status, UsageError
 from mpslp._commands._work import for_each
-from mpslp._explanations import Explanation, all_kinds, explain
-from mpslp._output import write_line
-from mpslp._sources import Text, format_of_name
+from mpslp._errors._explanations import Explanation, all_kinds, explain
+from mpslp._files._output import write_line
+from mpslp._files._sources import Text, format_of_name
 
 USAGE = "[-f FORMAT] [KIND|FILE].."
 DESCRIPTION = """\
@@ -34,7 +34,10 @@ def run(options: argparse.Namespace) -> Status:
     if not found:
         write_line(sys.stdout, "\n".join(all_kinds()))
     last = len(found) - 1
-    return max((_print(word, each, at == last, options) for at, (word, each) in enumerate(zip(options.words, found))), default=Status.DONE)
+    return max(
+        (_print(word, each, at == last, options) for at, (word, each) in enumerate(zip(options.words, found))),
+        default=Status.DONE,
+    )
 
 
 def _kind_of(word: str) -> Explanation | None:

@@ -8,12 +8,17 @@ from enum import IntEnum
 from typing import Any, NamedTuple
 
 from mpslp._commands._rejections import rejection
-from mpslp._faults import ModelFileError
-from mpslp._sources import Text
+from mpslp._errors._faults import ModelFileError
+from mpslp._errors._own_checks import OwnCheckError
+from mpslp._files._output import shown_path
+from mpslp._files._sources import Text
 
 
 class Status(IntEnum):
-    """The exit statuses of all commands: those of the program mpslp. Of several files, the greatest is that of the command."""
+    """The exit statuses of all commands: those of the program mpslp, and one more.
+
+    Of several files, the greatest is that of the command.
+    """
 
     DONE = 0
     DIFFERS = 1
@@ -21,15 +26,20 @@ class Status(IntEnum):
     USAGE = 3
     FAILED = 4
     NO_MEMORY = 5
+    UNDECIDED = 6
 
 
 MEANINGS = {
     Status.DONE: "done; the models are the same, or close",
-    Status.DIFFERS: "the models differ; a file is not canonical, has a remark of check --portable, or is changed by adapt",
+    Status.DIFFERS: (
+        "the models differ; a merge has conflicts; a file is not canonical, has a remark of check --portable, or is"
+        " changed by adapt; --names-back replaces nothing"
+    ),
     Status.REJECTED: "a file is rejected",
     Status.USAGE: "usage error",
     Status.FAILED: "a file cannot be opened, read or written, or the output cannot be written",
     Status.NO_MEMORY: "out of memory",
+    Status.UNDECIDED: "same --any-names gave up: neither a map of names nor a difference was found",
 }
 """What each exit status means."""
 
@@ -65,6 +75,17 @@ class Outcome(NamedTuple):
         """The same, with further lines on standard error before its own."""
         return self._replace(error="\n".join(filter(None, (error, self.error))))
 
+    def with_shown(self, *paths: str) -> Outcome:
+        """The same, with these paths on one line each in messages.
+
+        On standard output the paths are as they are, for programs.
+        """
+        outcome = self
+        for path in paths:
+            if (shown := shown_path(path)) != path:
+                outcome = outcome._replace(error=outcome.error.replace(path, shown))
+        return outcome
+
 
 def record_of(path: str | None, result: str, **more: Any) -> dict[str, Any]:
     """The keys that the record of each file has, and more. ``result`` is one of those of a survey."""
@@ -75,14 +96,19 @@ def failure(path: str, error: Exception, text: Text | None = None) -> Outcome:
     """What comes of an error that ends the work on a file."""
     if isinstance(error, ModelFileError):
         line, reason = rejection(path, error, text)
-        return Outcome(Status.REJECTED, error=line, record=record_of(path, "rejected", error=error.kind, line=error.line, reason=reason))
+        record = record_of(path, "rejected", error=error.kind, line=error.line, reason=reason)
+        return Outcome(Status.REJECTED, error=line, record=record).with_shown(path)
     status, line = _status_and_line(path, error)
-    return Outcome(status, error=line, record=record_of(path, "unreadable", reason=line.removeprefix(f"{path}: ")))
+    return Outcome(
+        status, error=line, record=record_of(path, "unreadable", reason=line.removeprefix(f"{path}: "))
+    ).with_shown(path)
 
 
 def _status_and_line(path: str, error: Exception) -> tuple[Status, str]:
     if isinstance(error, UsageError):
         return Status.USAGE, str(error)
+    if isinstance(error, OwnCheckError):
+        return Status.REJECTED, f"{path}: {error}"
     if isinstance(error, MemoryError):
         return Status.NO_MEMORY, f"{path}: out of memory"
     if isinstance(error, OSError) and error.strerror:

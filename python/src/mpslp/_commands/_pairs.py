@@ -15,15 +15,18 @@ from mpslp._commands._progress import Progress
 from mpslp._commands._targets import with_extension
 from mpslp._commands._warned import before, warned
 from mpslp._commands._work import for_outcome, print_outcome, without_models
-from mpslp._compression import without_ending
-from mpslp._faults import ModelFileError
-from mpslp._files import found_files
-from mpslp._sources import Text
+from mpslp._errors._faults import ModelFileError
+from mpslp._files._compression import without_ending
+from mpslp._files._output import shown_path
+from mpslp._files._paths import found_files
+from mpslp._files._sources import Text
 
 NO_FILE = os.devnull
 """What git gives instead of a file that is new or deleted."""
 NOT_THE_SAME = "not the same"
 """The verdict about models that differ."""
+SAME_BUT_FOR_NAMES = "same but for names"
+"""The verdict about models that are the same under other names."""
 
 
 class Paths(NamedTuple):
@@ -98,7 +101,9 @@ def outcome_of_files(pair: Pair, options: argparse.Namespace, comparison: Compar
         return failure(str(text.filename), error, text)
     except MemoryError as error:
         return failure(pair.first.path, error)
-    return before((warned(first, options), warned(second, options)), lambda: done)
+    return before((warned(first, options), warned(second, options)), lambda: done).with_shown(
+        pair.first.path, pair.second.path
+    )
 
 
 # ---- two directories
@@ -110,7 +115,9 @@ def _run_for_directories(options: argparse.Namespace, comparison: Comparison) ->
     pairs = _pairs(first, second, failed.append)
     worst, verdicts = Status.DONE, {"same"}
     with Progress(len(pairs), not options.quiet) as progress:
-        for outcome in chain((failure(str(error.filename), error) for error in failed), _outcomes(pairs, options, comparison)):
+        for outcome in chain(
+            (failure(str(error.filename), error) for error in failed), _outcomes(pairs, options, comparison)
+        ):
             if outcome.status == Status.DONE:
                 verdicts.add(outcome.output)
                 outcome = outcome._replace(output="")
@@ -124,7 +131,7 @@ def _run_for_directories(options: argparse.Namespace, comparison: Comparison) ->
 
 def _verdict(verdicts: Collection[str]) -> Outcome:
     """What is said of two directories in which nothing differs."""
-    return Outcome(output="close" if "close" in verdicts else "same")
+    return Outcome(output=next(verdict for verdict in ("close", SAME_BUT_FOR_NAMES, "same") if verdict in verdicts))
 
 
 def _pairs(first: str, second: str, report: Callable[[OSError], None]) -> list[tuple[str, Pair]]:
@@ -134,10 +141,14 @@ def _pairs(first: str, second: str, report: Callable[[OSError], None]) -> list[t
     """
     ones, others = ({each.place: Input(*each) for each in found_files([path], report)} for path in (first, second))
     left, right = _by_stem(ones.keys() - others.keys()), _by_stem(others.keys() - ones.keys())
-    converted = {left[stem][0]: right[stem][0] for stem in left.keys() & right.keys() if len(left[stem]) == len(right[stem]) == 1}
+    converted = {
+        left[stem][0]: right[stem][0] for stem in left.keys() & right.keys() if len(left[stem]) == len(right[stem]) == 1
+    }
     missing, partners = Input(NO_FILE), set(converted.values())
     pairs = [(place, Pair(given, others.get(converted.get(place, place), missing))) for place, given in ones.items()]
-    pairs += [(place, Pair(missing, given)) for place, given in others.items() if place not in ones and place not in partners]
+    pairs += [
+        (place, Pair(missing, given)) for place, given in others.items() if place not in ones and place not in partners
+    ]
     return sorted(pairs)
 
 
@@ -149,12 +160,14 @@ def _by_stem(places: Iterable[str]) -> dict[str, list[str]]:
     return found
 
 
-def _outcomes(pairs: Iterable[tuple[str, Pair]], options: argparse.Namespace, comparison: Comparison) -> Iterator[Outcome]:
+def _outcomes(
+    pairs: Iterable[tuple[str, Pair]], options: argparse.Namespace, comparison: Comparison
+) -> Iterator[Outcome]:
     """What comes of each pair; a line with its place comes before what is printed of two that differ."""
     for place, pair in pairs:
         outcome = _outcome(pair, options, comparison)
-        if outcome.status == Status.DIFFERS and (outcome.output or outcome.lines):
-            outcome = outcome._replace(lines=chain([f"==> {place} <=="], outcome.lines))
+        if outcome.status in (Status.DIFFERS, Status.UNDECIDED) and (outcome.output or outcome.lines):
+            outcome = outcome._replace(lines=chain([f"==> {shown_path(place)} <=="], outcome.lines))
         yield outcome
 
 

@@ -4,13 +4,14 @@ from __future__ import annotations
 
 import argparse
 import sys
-from collections.abc import Sequence
+from collections.abc import Iterable, Sequence
+from difflib import get_close_matches
 from typing import Any, NoReturn
 
 from mpslp import _mpslp
 from mpslp._commands import COMMANDS, command_of
 from mpslp._commands._outcomes import Status
-from mpslp._output import write_all
+from mpslp._files._output import write_all
 
 _WIDTH = 24
 """The columns of the names of options, with the space around them."""
@@ -27,7 +28,8 @@ _EPILOG = """\
 or .lp, also before .gz, .bz2, .xz or .zst. A directory is its model files.
 
 exit status: 0 done, or the same; 1 different, or not canonical; 2 a file is
-rejected; 3 usage error; 4 a file cannot be read or written; 5 out of memory"""
+rejected; 3 usage error; 4 a file cannot be read or written; 5 out of memory;
+6 not decided"""
 
 
 class Parser(argparse.ArgumentParser):
@@ -39,6 +41,13 @@ class Parser(argparse.ArgumentParser):
 
     def format_usage(self) -> str:
         return f"usage: {self.prog} {self.usage}\n"
+
+    def _check_value(self, action: argparse.Action, value: Any) -> None:
+        try:
+            super()._check_value(action, value)
+        except argparse.ArgumentError as error:
+            error.message += _did_you_mean(str(value), map(str, action.choices or ()))
+            raise
 
     def _print_message(self, message: str, file: Any = None) -> None:
         write_all(file, message)  # None is standard output that is closed: there is always a standard error
@@ -57,6 +66,10 @@ class CommandParser(Parser):
             found, rest = self.parse_known_intermixed_args(_marked(args), namespace)
         finally:
             self._is_within = False
+        if rest:
+            names = (name for action in self._actions for name in action.option_strings)
+            unknown = " ".join(word.removeprefix(_MARK) for word in rest)
+            self.error(f"unrecognized arguments: {unknown}{_did_you_mean(rest[0].partition('=')[0], names)}")
         for operand in (action.dest for action in self._actions if not action.option_strings):
             setattr(found, operand, [word.removeprefix(_MARK) for word in getattr(found, operand)])
         return found, rest
@@ -73,16 +86,26 @@ class _MainParser(Parser):
 
 
 def parser(prog: str | None, name: str | None = None) -> Parser:
-    """The parser of all commands, with the options of all, or of the one that has this name; ``name`` is the first word of a command line."""
+    """The parser of all commands, with the options of all, or of the one that has this name; ``name`` is the first word
+    of a command line.
+    """
     made = _MainParser(prog=prog, usage="[--help | --version] COMMAND ..")
     made.add_argument("-V", "--version", action="version", version=f"mpslp {_mpslp.VERSION}")
-    commands = made.add_subparsers(dest="command", metavar="COMMAND", required=True, prog=made.prog, parser_class=CommandParser)
+    commands = made.add_subparsers(
+        dest="command", metavar="COMMAND", required=True, prog=made.prog, parser_class=CommandParser
+    )
     for each in () if name in _WITHOUT_COMMAND else COMMANDS if name not in COMMANDS else (name,):
         command = command_of(each)
         added = commands.add_parser(each, usage=command.USAGE, description=command.DESCRIPTION, add_help=False)
         command.add(added)
         added.add_argument("-h", "--help", action="help", help="print this help")
     return made
+
+
+def _did_you_mean(word: str, names: Iterable[str]) -> str:
+    """The end of a message about a word that is no name: the nearest name, or nothing."""
+    near = get_close_matches(word, list(names), n=1)
+    return f"; did you mean {near[0]}?" if near else ""
 
 
 def _marked(words: Sequence[str]) -> list[str]:

@@ -9,7 +9,7 @@ from contextlib import contextmanager
 from threading import Event, Lock, Thread
 from types import TracebackType
 
-from mpslp._output import OutputError, write_all
+from mpslp._files._output import OutputError, write_all
 
 _PATIENCE = 1.0
 """How many seconds a command takes before the line appears."""
@@ -18,7 +18,10 @@ _ERASE = "\r\x1b[K"
 
 
 class Progress:
-    """How many files are done, and for how long the command runs, in one line of a terminal. It is erased at the end."""
+    """How many files are done, and for how long the command runs, in one line of a terminal.
+
+    It is erased at the end.
+    """
 
     def __init__(self, total: int, is_wanted: bool = True) -> None:
         self._total = total
@@ -35,7 +38,9 @@ class Progress:
             self._thread.start()
         return self
 
-    def __exit__(self, kind: type[BaseException] | None, error: BaseException | None, trace: TracebackType | None) -> None:
+    def __exit__(
+        self, kind: type[BaseException] | None, error: BaseException | None, trace: TracebackType | None
+    ) -> None:
         if self._thread is not None:
             self._ended.set()
             self._thread.join()

@@ -4,8 +4,8 @@ from __future__ import annotations
 
 from typing import NamedTuple
 
-from mpslp._faults import ModelFileError
-from mpslp._sources import Text
+from mpslp._errors._faults import ModelFileError
+from mpslp._files._sources import Text
 
 
 class Rejection(NamedTuple):

@@ -12,9 +12,10 @@ from mpslp._commands._inputs import Input, formats_before, inputs_of, one_input
 from mpslp._commands._options import add_files, add_options
 from mpslp._commands._outcomes import Outcome, Status
 from mpslp._commands._work import for_each, for_one
-from mpslp._models import model_of
-from mpslp._shown import shown
-from mpslp._sources import Text
+from mpslp._files._output import shown_path
+from mpslp._files._sources import Text
+from mpslp._models._model import model_of
+from mpslp._models._shown import shown
 
 USAGE = "[OPTION].. FILE.."
 DESCRIPTION = """\
@@ -45,4 +46,8 @@ def _show(text: Text, given: Input, options: argparse.Namespace) -> Outcome:
 
 def _show_titled(text: Text, given: Input, options: argparse.Namespace) -> Outcome:
     outcome = _show(text, given, options)
-    return outcome if options.quiet else outcome._replace(lines=chain([f"==> {given.path} <=="], outcome.lines))
+    return (
+        outcome
+        if options.quiet
+        else outcome._replace(lines=chain([f"==> {shown_path(given.path)} <=="], outcome.lines))
+    )

@@ -8,13 +8,16 @@ from collections.abc import Callable
 
 from mpslp._commands._inputs import STANDARD_INPUT, Input, Inputs, inputs_of
 from mpslp._commands._outcomes import Outcome, UsageError
-from mpslp._compression import pack, without_ending
-from mpslp._files import replace_file
-from mpslp._sources import format_of_name
+from mpslp._files._compression import pack, without_ending
+from mpslp._files._paths import replace_file
+from mpslp._files._sources import format_of_name
 
 
 def inputs_for(options: argparse.Namespace) -> Inputs:
-    """The files of the arguments. With --out-dir, what is below it is left out, and standard input has no name to be written to."""
+    """The files of the arguments.
+
+    With --out-dir, what is below it is left out, and standard input has no name to be written to.
+    """
     directory: str | None = options.out_dir
     if directory is None:
         return inputs_of(options)

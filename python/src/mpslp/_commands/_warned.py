@@ -8,7 +8,7 @@ from collections.abc import Callable, Iterator, Sequence
 from typing import Any, NamedTuple
 
 from mpslp._commands._outcomes import Outcome, Status, record_of
-from mpslp._sources import Text
+from mpslp._files._sources import Text
 from mpslp._warnings import ModelFileWarning, warnings_in
 
 _MOST = 10
@@ -44,7 +44,9 @@ def before(files: Sequence[Warned], work: Callable[[], Outcome]) -> Outcome:
     records = [record for each in files for record in each.records]
     if any(each.is_rejected for each in files):
         path = next(each.path for each in files if each.is_rejected)
-        return Outcome(Status.REJECTED, error=lines, record=record_of(path, "rejected", reason=_REASON, warnings=records))
+        return Outcome(
+            Status.REJECTED, error=lines, record=record_of(path, "rejected", reason=_REASON, warnings=records)
+        )
     done = work().preceded_by(lines)
     return done if done.record is None else done._replace(record={**done.record, "warnings": records})
 
@@ -74,7 +76,9 @@ def replacing(text: Text, options: argparse.Namespace, work: Callable[[], Outcom
 def _as_asked(path: str, all_found: Sequence[ModelFileWarning], options: argparse.Namespace) -> Warned:
     found = [each for each in all_found if each.kind not in options.ignored]
     is_rejected = any(each.kind in options.strict for each in found)
-    return Warned(path, found if is_printed(options) else [each for each in found if each.kind in options.strict], is_rejected)
+    return Warned(
+        path, found if is_printed(options) else [each for each in found if each.kind in options.strict], is_rejected
+    )
 
 
 def _lines(path: str, found: Sequence[ModelFileWarning]) -> Iterator[str]:

@@ -17,10 +17,11 @@ from mpslp._commands import _colour
 from mpslp._commands._inputs import STANDARD_INPUT, Input, Inputs, text_of
 from mpslp._commands._outcomes import Outcome, Record, Status, UsageError, failure
 from mpslp._commands._progress import Progress
-from mpslp._faults import ModelFileError
-from mpslp._output import write_all, write_line, write_lines, write_pieces
-from mpslp._sources import Text, naming
-from mpslp._workers import results_in_order
+from mpslp._errors._faults import ModelFileError
+from mpslp._errors._own_checks import OwnCheckError
+from mpslp._files._output import printable, shown_path, write_all, write_line, write_lines, write_pieces
+from mpslp._files._sources import Text, naming
+from mpslp._files._workers import results_in_order
 
 Work = Callable[[Text, Input, argparse.Namespace], Outcome]
 """What is done with the text of a file."""
@@ -37,9 +38,9 @@ def attempt(given: Input, options: argparse.Namespace, work: Work) -> Outcome:
     try:
         text = text_of(given, options)
         with naming(text):
-            return work(text, given, options)
-    except (ModelFileError, UsageError, MemoryError, OSError, ImportError) as error:
-        return failure(given.path, error, text)
+            return work(text, given, options).with_shown(given.name)
+    except (ModelFileError, OwnCheckError, UsageError, MemoryError, OSError, ImportError) as error:
+        return failure(given.name, error, text)
 
 
 def for_one(given: Input, options: argparse.Namespace, work: Work) -> Status:
@@ -65,18 +66,31 @@ class Done(NamedTuple):
     """The numbers of files by these kinds."""
 
 
-def for_each(inputs: Inputs, options: argparse.Namespace, work: Work, bytes_that_pay: int = _BYTES_THAT_PAY) -> Done:
-    """Does something with each file, and prints what came of them in order. The status is the greatest."""
+def for_each(
+    inputs: Inputs,
+    options: argparse.Namespace,
+    work: Work,
+    bytes_that_pay: int = _BYTES_THAT_PAY,
+    note: Callable[[Input, Outcome], None] | None = None,
+) -> Done:
+    """Does something with each file, and prints what came of them in order. The status is the greatest.
+
+    ``note`` gets each file with what came of it.
+    """
     worst, counts, kinds = Status.DONE, Counter[str](), Counter[str]()
     files = inputs.files
-    results = results_in_order(partial(attempt, options=options, work=work), files, processes_for(files, options.jobs, bytes_that_pay))
+    results = results_in_order(
+        partial(attempt, options=options, work=work), files, processes_for(files, options.jobs, bytes_that_pay)
+    )
     with Progress(len(files), not options.quiet) as progress:
         for outcome in _unread(inputs, options):
             print_outcome(outcome, options, progress)
             worst = max(worst, outcome.status)
-        for outcome in results:
+        for given, outcome in zip(files, results):
             print_outcome(outcome, options, progress)
             progress.count()
+            if note is not None:
+                note(given, outcome)
             worst = max(worst, outcome.status)
             counts.update(outcome.counts or {})
             kinds.update((outcome.counts or {}).keys())
@@ -92,11 +106,13 @@ def _unread(inputs: Inputs, options: argparse.Namespace) -> Iterator[Outcome]:
 
 def without_models(directories: Iterable[str]) -> Outcome:
     """What is said of directories that have no model files."""
-    return Outcome(error="\n".join(f"warning: {path}: no model files" for path in directories))
+    return Outcome(error="\n".join(f"warning: {shown_path(path)}: no model files" for path in directories))
 
 
 def processes_for(inputs: Sequence[Input], jobs: int, bytes_that_pay: int) -> int:
-    """How many processes work on files: one if they are small, or if one is standard input, which is that of this process."""
+    """How many processes work on files: one if they are small, or if one is standard input, which is that of this
+    process.
+    """
     if any(each.path == STANDARD_INPUT for each in inputs):
         return 1
     size = 0
@@ -128,7 +144,8 @@ def print_outcome(outcome: Outcome, options: argparse.Namespace, progress: Progr
         return
     if outcome.error:
         with progress.hidden():
-            write_line(sys.stderr, _colour.message(outcome.error) if _colour.is_coloured(sys.stderr) else outcome.error)
+            error = printable(outcome.error)
+            write_line(sys.stderr, _colour.message(error) if _colour.is_coloured(sys.stderr) else error)
     if outcome.output or outcome.text or outcome.patch or outcome.lines:
         with _quiet_terminal(progress):
             _print_output(outcome)
@@ -145,7 +162,8 @@ def _print_output(outcome: Outcome) -> None:
     write_all(sys.stdout, _colour.patch(outcome.patch) if is_coloured else outcome.patch)
     write_lines(sys.stdout, _coloured(outcome.lines) if is_coloured else outcome.lines)
     if outcome.output:
-        write_line(sys.stdout, outcome.output)
+        is_terminal = sys.stdout is not None and sys.stdout.isatty()
+        write_line(sys.stdout, printable(outcome.output) if is_terminal else outcome.output)
 
 
 def _coloured(lines: Iterable[str]) -> Iterator[str]:

@@ -1,4 +1,6 @@
-"""Model files with other spacing, letter case of keywords, number text and line breaks, and everything else as it was written."""
+"""Model files with other spacing, letter case of keywords, number text and line breaks, and everything else as it was
+written.
+"""
 
 from mpslp._format._call import formatted, formatted_text
 

@@ -5,10 +5,10 @@ from __future__ import annotations
 import re
 
 from mpslp import _mpslp
+from mpslp._errors._own_checks import OwnCheckError, require_same
+from mpslp._files._sources import Format, Source, Text, naming, read
 from mpslp._format._lp import formatted_lp
 from mpslp._format._mps import formatted_mps
-from mpslp._own_checks import OwnCheckError, require_same
-from mpslp._sources import Format, Source, Text, naming, read
 
 _MPS_COMMENT = re.compile(rb"^\*.*", re.MULTILINE)
 _LP_COMMENT = re.compile(rb"\\.*")
@@ -17,12 +17,12 @@ _LP_COMMENT = re.compile(rb"\\.*")
 def formatted(source: Source, format: Format | None = None) -> str:
     """Returns a text with the spacing, letter case of keywords, number text and line breaks of ``mpslp-tools fmt``.
 
-    Comments, the NAME line, the order of rows, columns and sections, and what follows the end stay as they are. The result
-    is compared with the text by :func:`same` before it is returned, and so are its comments. Formatting it again changes
-    nothing.
+    Comments, the NAME line, the order of rows, columns and sections, and what follows the end stay as they are. The
+    result is compared with the text by :func:`same` before it is returned, and so are its comments. Formatting it again
+    changes nothing.
 
-    The format is optional for a path that ends in ``.mps`` or ``.lp``. Bytes of comments that are no UTF-8 are surrogates in
-    the result, as in names of files: ``.encode("utf-8", "surrogateescape")`` makes bytes of it.
+    The format is optional for a path that ends in ``.mps`` or ``.lp``. Bytes of comments that are no UTF-8 are
+    surrogates in the result, as in names of files: ``.encode("utf-8", "surrogateescape")`` makes bytes of it.
 
     Raises ModelFileError if the text declares no model.
 
@@ -41,7 +41,9 @@ def formatted(source: Source, format: Format | None = None) -> str:
 
 
 def formatted_text(text: Text) -> bytes:
-    """The same for the bytes of a text; raises OwnCheckError if it is not the same model, or has not the same comments."""
+    """The same for the bytes of a text; raises OwnCheckError if it is not the same model, or has
+    not the same comments.
+    """
     _mpslp.is_canonical(text.content, text.format)  # raises the error of a text that is rejected
     try:
         content = _formatted(text)

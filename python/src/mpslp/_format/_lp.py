@@ -5,10 +5,10 @@ from __future__ import annotations
 from collections.abc import Callable, Iterator, Sequence
 from typing import NamedTuple
 
-from mpslp._adapt._long_lines import LONGEST_LINE
-from mpslp._adapt._names import RESERVED
 from mpslp._format._numbers import plain
-from mpslp._lp_words import TOKEN
+from mpslp._text._lines import LONGEST_LINE
+from mpslp._text._lp_tokens import TOKEN
+from mpslp._text._lp_words import BOUNDS, FREE, OBJECTIVE, OPENINGS, ROWS, ROWS_IN_TWO_WORDS, SPELLINGS, VALUES
 
 WIDTH = 100
 """Rows are broken between terms before they are longer than this."""
@@ -16,10 +16,7 @@ _LONGEST_COMMENT = LONGEST_LINE - 1000
 """A longer comment gets a line of its own: after a token it could make a line that is too long, and is rejected."""
 
 _CONTINUED = " " * 4
-_LOWER_CASE = frozenset(("st", "s.t.", "st.", "inf", "infinity", "free"))
-_VALUES = frozenset(("inf", "infinity", "free"))
-_KEYWORDS = RESERVED - _VALUES
-"""The words that open a section, or end the file."""
+_LOWER_CASE = VALUES.union(SPELLINGS[ROWS]) - ROWS_IN_TWO_WORDS.keys()
 
 
 # ---- tokens, each with the comments around it
@@ -41,7 +38,7 @@ class Token:
         self.sort = sort
         self.text = text
         self.lower = text.lower() if sort == "word" else ""
-        self.is_keyword = self.lower in _KEYWORDS
+        self.is_keyword = self.lower in OPENINGS
         self.is_after_empty_line = is_after_empty_line
         self.before = before
         self.trailing = ""
@@ -111,16 +108,16 @@ class _Reader:
         self._at = 0
 
     def statements(self) -> Iterator[Statement]:
-        part: Callable[[], Statement] = self._objective
+        parts: dict[str, Callable[[], Statement]] = {
+            **dict.fromkeys(SPELLINGS, self._name),
+            OBJECTIVE: self._objective,
+            ROWS: self._row,
+            BOUNDS: self._bound,
+        }
         while self._at < len(self._tokens):
             word = self._next.lower
             yield self._opening()
-            if word in ("subject", "such", "st", "s.t.", "st."):
-                part = self._row
-            elif word in ("bound", "bounds"):
-                part = self._bound
-            elif not word.startswith(("min", "max")):
-                part = self._name
+            part = parts[OPENINGS[word]]
             while self._at < len(self._tokens) and not self._next.is_keyword:
                 yield part()
 
@@ -140,7 +137,7 @@ class _Reader:
     def _opening(self) -> Statement:
         word = self._next.lower
         pieces = [self._take()]
-        if word in ("subject", "such"):
+        if word in ROWS_IN_TWO_WORDS:
             pieces.append(self._capital())
         elif word == "semi" and self._is_at("sign"):
             pieces += [self._take(is_joined=True), self._capital()._replace(is_joined=True)]
@@ -163,7 +160,7 @@ class _Reader:
     def _bound(self) -> Statement:
         if not self._is_at_side():
             pieces = [self._take(), self._take()]
-            return Statement([pieces if pieces[1].token.lower == "free" else [*pieces, *self._side()]])
+            return Statement([pieces if pieces[1].token.lower == FREE else [*pieces, *self._side()]])
         pieces = [*self._side(), self._take(), self._take()]
         if self._is_at("relation"):
             pieces += [self._take(), *self._side()]
@@ -179,7 +176,7 @@ class _Reader:
         """Whether a value comes before a relation."""
         ahead = 1 if self._is_at("sign") else 0
         token = self._tokens[self._at + ahead]
-        return (token.sort == "number" or token.lower in _VALUES) and self._is_at("relation", ahead=ahead + 1)
+        return (token.sort == "number" or token.lower in VALUES) and self._is_at("relation", ahead=ahead + 1)
 
     def _side(self) -> Chunk:
         if self._is_at("sign"):
@@ -239,7 +236,9 @@ class _Lines:
         self._end()
 
     def _add_comments(self, token: Token, indent: str, is_begun: bool) -> None:
-        """Writes the comments before a token; empty lines between them and before it stay only at the beginning of a statement."""
+        """Writes the comments before a token; empty lines between them and before it stay only at the beginning of a
+        statement.
+        """
         for comment in token.before:
             self._end()
             if comment.is_after_empty_line and not is_begun:

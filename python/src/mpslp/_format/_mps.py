@@ -6,9 +6,9 @@ import re
 from collections.abc import Iterable, Sequence
 
 from mpslp._format._numbers import plain
+from mpslp._text._mps_words import MARKER, VALUED
 
 _END = re.compile(r"^ENDATA[ \t\r]*$\n?", re.MULTILINE)
-_VALUED = frozenset(("LO", "UP", "FX", "LI", "UI", "SC"))
 _GAP = "  "
 _STEP = 8
 _WIDEST = 40
@@ -73,23 +73,27 @@ def _with_plain_numbers(keyword: str, fields: list[str]) -> tuple[str, ...]:
 
 def _places_of_numbers(keyword: str, fields: Sequence[str]) -> Iterable[int]:
     if keyword == "COLUMNS":
-        return () if fields[1] == "'MARKER'" else range(2, len(fields), 2)
+        return () if fields[1] == MARKER else range(2, len(fields), 2)
     if keyword in ("RHS", "RANGES"):
         return range(1 + len(fields) % 2, len(fields), 2)
-    if keyword == "BOUNDS" and fields[0] in _VALUED:
+    if keyword == "BOUNDS" and fields[0] in VALUED:
         return (len(fields) - 1,)
     return ()
 
 
 def _widths(lines: Iterable[tuple[str, ...]], has_types: bool) -> list[int]:
-    """How wide each field of a section is, if another one follows: a multiple of 8, except for the types of rows and bounds."""
+    """How wide each field of a section is, if another one follows: a multiple of 8, except for the types of rows and
+    bounds.
+    """
     longest: list[int] = []
     for lengths in {tuple(map(len, fields[:-1])) for fields in lines}:  # few are different
         longest += [0] * (len(lengths) - len(longest))
         for place, length in enumerate(lengths):
             if longest[place] < length <= _WIDEST:
                 longest[place] = length
-    return [width if has_types and place == 0 else -(-max(width, 1) // _STEP) * _STEP for place, width in enumerate(longest)]
+    return [
+        width if has_types and place == 0 else -(-max(width, 1) // _STEP) * _STEP for place, width in enumerate(longest)
+    ]
 
 
 def _padded(fields: Sequence[str], widths: Sequence[int]) -> str:

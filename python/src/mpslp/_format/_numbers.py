@@ -6,8 +6,8 @@ import re
 from decimal import Decimal
 from functools import lru_cache
 
-from mpslp._adapt._numbers import parts
-from mpslp._numbers import number_text
+from mpslp._models._numbers import number_text
+from mpslp._text._numbers import parts
 
 _PLAIN = re.compile(r"0|-?(?:[1-9](?:[0-9]*[1-9])?0{0,5}|(?:0|[1-9][0-9]*)\.[0-9]{0,17}[1-9])")
 """Literals that are number text, of whole numbers and of decimals; most are, and need no second look."""

@@ -8,20 +8,22 @@ from functools import cached_property
 from typing import NamedTuple
 
 from mpslp import _mpslp
-from mpslp._faults import ModelFileError
+from mpslp._errors._faults import ModelFileError
+from mpslp._files._sources import Text
 from mpslp._messages._excerpt import Mark
-from mpslp._messages._lines import Line, line_at, line_with
 from mpslp._messages._nearest import Known
 from mpslp._messages._place import Field, Place, fields_of, place_of, section_before
 from mpslp._messages._tokens import Token, tokens_of
-from mpslp._sources import Text
+from mpslp._text._lines import Line, line_at, line_with
 
 _MOST_BACK = 2**16
 """A statement of LP is looked for among so many bytes before the line."""
 
 
 class Found(NamedTuple):
-    """What a rule has found in a line: more about the cause, what to write, a name for the first line, and further marks."""
+    """What a rule has found in a line: more about the cause, what to write, a name for the first line, and further
+    marks.
+    """
 
     detail: str = ""
     mend: str = ""
@@ -29,6 +31,10 @@ class Found(NamedTuple):
     marks: tuple[Mark, ...] = ()
     moves: bool = False
     """Whether the marks are shown instead of the place of the error."""
+    means_other: bool = False
+    """Whether ``adapt`` would read the line in another way than is meant, so that it is not named as what mends it."""
+    written: str = ""
+    """Lines that say the same in a form that mpslp reads, which are shown after the fix."""
 
 
 FOUND = Found()
@@ -65,7 +71,9 @@ class Case:
     @cached_property
     def at(self) -> int | None:
         """The number of the field that has the error, from 0."""
-        return next((at for at, field in enumerate(self.fields) if self.place and field.start == self.place.start), None)
+        return next(
+            (at for at, field in enumerate(self.fields) if self.place and field.start == self.place.start), None
+        )
 
     @property
     def field(self) -> str:
@@ -85,6 +93,10 @@ class Case:
     def mark_of(self, field: Field, line: Line | None = None) -> Mark:
         line = self.line if line is None else line
         return Mark(line.number, line.content, field.start, field.end)
+
+    def mark_of_span(self, start: int, end: int) -> Mark:
+        """The mark of a part of the line."""
+        return Mark(self.line.number, self.line.content, start, end)
 
     def first_match(self, pattern: bytes, start: int = 0, end: int | None = None) -> Mark | None:
         """The group of the first match of a pattern in the text before the line, or up to a place."""
@@ -128,7 +140,9 @@ class Case:
 
     @cached_property
     def tokens(self) -> list[Token]:
-        """The tokens from some lines before the line up to it, as far as they are needed to see the statement before."""
+        """The tokens from some lines before the line up to it, as far as they are needed to see the
+        statement before.
+        """
         first = max(0, self.line.start - _MOST_BACK)
         start = 0 if first == 0 else self.content.find(b"\n", first, self.line.start) + 1 or self.line.start
         number = self.line.number - self.content.count(b"\n", start, self.line.start)

@@ -1,7 +1,7 @@
 """Rules for LP: each recognises a cause of docs/errors.tsv, which has its name, in a line that is rejected.
 
-Line breaks have no meaning in LP, so that an error may be reported in a line after the mistake. The rules look back from the
-token with the error, and show the line of the mistake, too.
+Line breaks have no meaning in LP, so that an error may be reported in a line after the mistake. The rules look back
+from the token with the error, and show the line of the mistake, too.
 """
 
 from __future__ import annotations
@@ -9,74 +9,96 @@ from __future__ import annotations
 import re
 from collections.abc import Sequence
 from fractions import Fraction
-from typing import Optional
 
 from mpslp._messages._case import FOUND, Case, Found
-from mpslp._messages._causes_both import Rule, comma_in, is_nan
-from mpslp._messages._lines import line_at
+from mpslp._messages._causes_both import Rule, comma_in, conflict_marker, is_nan
+from mpslp._messages._causes_lp_relations import line_of_text
 from mpslp._messages._lp_rows import first_duplicate
-from mpslp._messages._lp_sums import decimal_text, solved_row
+from mpslp._messages._lp_sums import decimal_text, quotient_text, solved_row, sum_text, value_of
+from mpslp._messages._lp_suspects import lp_section
 from mpslp._messages._nearest import nearest
-from mpslp._messages._tokens import INFINITIES, LISTS, ROWS, SENSES, Token, tokens_of
+from mpslp._messages._tokens import Token, tokens_of
+from mpslp._text._lines import line_at
+from mpslp._text._lp_words import INFINITIES, ROWS, ROWS_IN_TWO_WORDS, SENSES, SPELLINGS
 
 _MOST_BACK = 6
 """A comma, a semicolon or a comment that starts in another way is looked for among so many tokens before the error."""
-_KEYWORDS = ("minimize", "maximize", "subject to", "such that", "bounds", "generals", "integers", "binaries", "semi-continuous", "end")
+_KEYWORDS = (
+    "minimize",
+    "maximize",
+    "subject to",
+    "such that",
+    "bounds",
+    "generals",
+    "integers",
+    "binaries",
+    "semi-continuous",
+    "end",
+)
 _OTHER_KEYWORDS = {
-    "minimise": "minimize", "minimization": "minimize", "minimisation": "minimize", "maximise": "maximize", "maximization": "maximize",
-    "maximisation": "maximize", "constraints": "subject to", "subjectto": "subject to", "subj": "subject to", "s.t": "st", "finish": "end",
-}  # fmt: skip
-_SECOND_WORDS = {"subject": "to", "such": "that"}
+    "minimise": "minimize",
+    "minimization": "minimize",
+    "minimisation": "minimize",
+    "maximise": "maximize",
+    "maximization": "maximize",
+    "maximisation": "maximize",
+    "constraints": "subject to",
+    "subjectto": "subject to",
+    "subj": "subject to",
+    "s.t": "st",
+    "finish": "end",
+    "subj.": "subject to",
+    "where": "subject to",
+    "boolean": "binaries",
+    "booleans": "binaries",
+    "bool": "binaries",
+    "bools": "binaries",
+    "logical": "binaries",
+    "logicals": "binaries",
+    "integral": "generals",
+}
 _FLIPPED = {"<": ">", ">": "<", "<=": ">=", "=<": ">=", ">=": "<=", "=>": "<=", "=": "="}
-_MPS = re.compile(rb"(?:\*[^\n]*\n|\s)*(?:NAME|ROWS|OBJSENSE|OBJNAME)\b")
 _MARK = re.compile(r"[%$#&!?]+")
 _DIVISOR = re.compile(r"/(\d+(?:\.\d*)?)", re.ASCII)
 _BRACKETS = re.compile(r"([A-Za-z_][\w.]*)\s*((?:\[[^\[\]^*]*\])+)", re.ASCII)
 _MOST_AFTER = 10_000
 
 
-# ---- files of another format or language
-
-
-def mps_as_lp(case: Case) -> Optional[Found]:
-    return FOUND if _MPS.match(case.content) else None
-
-
-def lp_solve_statements(case: Case) -> Optional[Found]:
-    """A colon after the sense, and a semicolon after the objective."""
-    if colon_after_keyword(case) is None or b";" not in case.content[case.line.start : case.line.start + 2000]:
-        return None
-    before = case.before()
-    return FOUND if before is not None and before.word in SENSES else None
-
-
-def lp_solve_comment(case: Case) -> Optional[Found]:
-    before, token = case.before(), case.token
-    return FOUND if before and token and token.text == "*" and before.text.endswith("/") and before.end == token.start else None
-
-
-def no_sense(case: Case) -> Optional[Found]:
-    return FOUND if case.token_at == 0 and case.tokens and not case.content[: case.line.start].strip(b" \t\r\n\\") else None
-
-
 # ---- keywords
 
 
-def colon_after_keyword(case: Case) -> Optional[Found]:
+def no_sense(case: Case) -> Found | None:
+    return (
+        FOUND
+        if case.token_at == 0 and case.tokens and not case.content[: case.line.start].strip(b" \t\r\n\\")
+        else None
+    )
+
+
+def colon_after_keyword(case: Case) -> Found | None:
     before, second, token = case.before(), case.before(2), case.token
     if before is None or token is None or token.text != ":":
         return None
     pair = f"{second.word} {before.word}" if second is not None else ""
     if before.word not in SENSES and not before.is_section and pair not in ("subject to", "such that"):
         return None
-    return Found(mend=f"{second.text} {before.text}" if second is not None and pair in ("subject to", "such that") else before.text)
+    return Found(
+        mend=f"{second.text} {before.text}"
+        if second is not None and pair in ("subject to", "such that")
+        else before.text
+    )
 
 
-def other_keyword(case: Case) -> Optional[Found]:
+def other_keyword(case: Case) -> Found | None:
     """A word on a line of its own, or the first one of the file, that is nearly a keyword; or one half of a keyword."""
     before, token = case.before(), case.token
-    if before is not None and token is not None and before.word in _SECOND_WORDS and token.word != _SECOND_WORDS[before.word]:
-        return Found(mend=f"{before.text} {_SECOND_WORDS[before.word]}")
+    if (
+        before is not None
+        and token is not None
+        and before.word in ROWS_IN_TWO_WORDS
+        and token.word != ROWS_IN_TWO_WORDS[before.word]
+    ):
+        return Found(mend=f"{before.text} {ROWS_IN_TWO_WORDS[before.word]}")
     for at in (case.token_at, case.token_at - 1, case.token_at - 2):
         if not 0 <= at < len(case.tokens) or not _is_like_keyword(case, at):
             continue
@@ -100,13 +122,15 @@ def _starts_line(case: Case, at: int) -> bool:
     return at == 0 or case.tokens[at - 1].line < case.tokens[at].line
 
 
-def lazy_constraints(case: Case) -> Optional[Found]:
+def lazy_constraints(case: Case) -> Found | None:
     before, token = case.before(), case.token
-    is_section = before is not None and token is not None and f"{before.word} {token.word}" in ("lazy constraints", "user cuts")
+    is_section = (
+        before is not None and token is not None and f"{before.word} {token.word}" in ("lazy constraints", "user cuts")
+    )
     return FOUND if is_section else None
 
 
-def no_subject_to(case: Case) -> Optional[Found]:
+def no_subject_to(case: Case) -> Found | None:
     """A relation, or the label of a row, in the objective."""
     token = case.token
     if token is None or lp_section(case) or not case.token_at:
@@ -119,25 +143,17 @@ def no_subject_to(case: Case) -> Optional[Found]:
 # ---- characters of other languages
 
 
-def other_relation(case: Case) -> Optional[Found]:
+def other_relation(case: Case) -> Found | None:
     before, token, after = case.before(), case.token, case.after
     if token is None:
         return None
     if token.text == "=" and before is not None and before.text == "=":
         return FOUND
-    is_unequal = token.text == "!" and after is not None and after.text == "="
+    is_unequal = token.text in ("!", "~", "/") and after is not None and after.text == "="
     return FOUND if is_unequal or (token.text == ">" and before is not None and before.text == "<") else None
 
 
-def other_comment(case: Case) -> Optional[Found]:
-    for at in reversed(range(max(0, case.token_at - _MOST_BACK), min(case.token_at + 1, len(case.tokens)))):
-        token = case.tokens[at]
-        if token.text.startswith("//") or token.text == "#" or (token.text[0] == "#" and _starts_line(case, at)):
-            return Found(marks=(case.mark_of_tokens([token]),), moves=True)
-    return None
-
-
-def decimal_comma(case: Case) -> Optional[Found]:
+def decimal_comma(case: Case) -> Found | None:
     """A number, and beside it a comma and digits, which are a name."""
     near = _back_from(case)
     for second, first in zip(near, near[1:]):
@@ -148,18 +164,27 @@ def decimal_comma(case: Case) -> Optional[Found]:
     return None
 
 
-def fraction(case: Case) -> Optional[Found]:
-    """A number, and beside it a slash and a number, which are a name."""
+def fraction(case: Case) -> Found | None:
+    """A number, and beside it a slash and a number, which are a name; or the three with spaces between them."""
     near = _back_from(case)
     for second, first in zip(near, near[1:]):
         divisor = _DIVISOR.fullmatch(second.text)
-        if divisor is not None and first.is_number and (first.line, first.end) == (second.line, second.start) and Fraction(divisor[1]):
-            value = decimal_text(Fraction(first.text) / Fraction(divisor[1]))
-            return Found(mend=value or "", marks=(case.mark_of_tokens([first, second]),), moves=True)
+        if divisor is not None and first.is_number and (first.line, first.end) == (second.line, second.start):
+            return _divided_numbers(case, [first, second], divisor[1])
+    for second, slash, first in zip(near, near[1:], near[2:]):
+        if first.is_number and slash.text == "/" and second.is_number and first.line == second.line:
+            return _divided_numbers(case, [first, second], second.text)
     return None
 
 
-def free_among_rows(case: Case) -> Optional[Found]:
+def _divided_numbers(case: Case, tokens: Sequence[Token], divisor: str) -> Found | None:
+    """What is said of a fraction, with its value if that is a decimal."""
+    if value_of(divisor) == 0:
+        return None
+    return Found(mend=quotient_text(tokens[0].text, divisor), marks=(case.mark_of_tokens(tokens),), moves=True)
+
+
+def free_among_rows(case: Case) -> Found | None:
     """A name and the word free at the start of a line among the rows."""
     before, token = case.before(), case.token
     if before is None or token is None or token.word != "free" or not before.is_name or before.line != token.line:
@@ -168,19 +193,26 @@ def free_among_rows(case: Case) -> Optional[Found]:
     return Found(marks=(case.mark_of_tokens([before, token]),), moves=True) if is_bound else None
 
 
-def nan_on_the_right(case: Case) -> Optional[Found]:
+def nan_on_the_right(case: Case) -> Found | None:
     """After a relation, what a program writes that has no number."""
-    return FOUND if case.token is not None and is_nan(case.token.text) and _follows_relation(case) else None
+    return (
+        Found(means_other=True)
+        if case.token is not None and is_nan(case.token.text) and _follows_relation(case)
+        else None
+    )
 
 
-def mark_after_number(case: Case) -> Optional[Found]:
+def mark_after_number(case: Case) -> Found | None:
     """After a number on the right, and beside it, a mark such as %, and nothing more in the line."""
     found = _right_of_relation(case)
     if found is None:
         return None
     first, rest = found
     is_mark = len(rest) == 1 and _MARK.fullmatch(rest[0].text) is not None and rest[0].start == first[-1].end
-    return Found(marks=(case.mark_of_tokens([*first, *rest]),), moves=True) if is_mark and not _has_more(case, rest[0]) else None
+    if not is_mark or _has_more(case, rest[0]):
+        return None
+    mend = quotient_text(first[-1].text, "100") if rest[0].text == "%" else first[-1].text
+    return Found(mend=mend, marks=(case.mark_of_tokens([*first, *rest]),), moves=True, means_other=True)
 
 
 def _has_more(case: Case, token: Token) -> bool:
@@ -188,19 +220,26 @@ def _has_more(case: Case, token: Token) -> bool:
     return any(each.line == token.line and each.start > token.start for each in case.tokens)
 
 
-def row_without_terms(case: Case) -> Optional[Found]:
+def row_without_terms(case: Case) -> Found | None:
     """A relation right after a label, or after the keyword that opens the rows."""
     before, token = case.before(), case.token
-    return FOUND if before is not None and token is not None and token.is_relation and before.text == ":" and lp_section(case) == "rows" else None
+    is_row = (
+        before is not None
+        and token is not None
+        and token.is_relation
+        and before.text == ":"
+        and lp_section(case) == "rows"
+    )
+    return Found(means_other=True) if is_row else None
 
 
-def no_label(case: Case) -> Optional[Found]:
+def no_label(case: Case) -> Found | None:
     """A colon at the start of a line, without a name before it."""
     is_first = case.token is not None and case.token.text == ":" and _starts_line(case, case.token_at)
     return FOUND if is_first and lp_section(case) in ("", "rows") else None
 
 
-def punctuation_after_row(case: Case) -> Optional[Found]:
+def punctuation_after_row(case: Case) -> Found | None:
     near = _back_from(case)
     for token, before in zip(near, near[1:]):
         if token.text in (";", ",") and (before.is_number or before.word in INFINITIES):
@@ -216,7 +255,7 @@ def _back_from(case: Case) -> list[Token]:
 # ---- rows
 
 
-def sum_on_the_right(case: Case) -> Optional[Found]:
+def sum_on_the_right(case: Case) -> Found | None:
     """After a relation numbers with signs: their sum is meant."""
     found = _right_of_relation(case)
     if found is None:
@@ -224,11 +263,11 @@ def sum_on_the_right(case: Case) -> Optional[Found]:
     first, rest = found
     if len(rest) % 2 or not all(each.is_sign for each in rest[::2]) or not all(each.is_number for each in rest[1::2]):
         return None
-    value = sum((Fraction(f"{sign.text}{number.text}") for sign, number in zip(rest[::2], rest[1::2])), _signed(first))
-    return Found(mend=decimal_text(value) or "", marks=(case.mark_of_tokens([*first, *rest]),))
+    values = [_signed(first), *(_signed(pair) for pair in zip(rest[::2], rest[1::2]))]
+    return Found(mend=sum_text(values) or "", marks=(case.mark_of_tokens([*first, *rest]),))
 
 
-def missing_number(case: Case) -> Optional[Found]:
+def missing_number(case: Case) -> Found | None:
     """After a relation a section or the next row comes."""
     token = case.token
     if token is None or not _follows_relation(case):
@@ -248,7 +287,7 @@ def _starts_row(case: Case) -> bool:
     return has_relation or (after is not None and after.text == ":")
 
 
-def second_relation(case: Case) -> Optional[Found]:
+def second_relation(case: Case) -> Found | None:
     """A relation after a relation and a number."""
     before, token = case.before(), case.token
     if before is None or token is None or not token.is_relation or not before.is_number:
@@ -257,7 +296,7 @@ def second_relation(case: Case) -> Optional[Found]:
     return FOUND if first is not None and first.is_relation else None
 
 
-def terms_on_the_right(case: Case) -> Optional[Found]:
+def terms_on_the_right(case: Case) -> Found | None:
     before, token = case.before(), case.token
     if before is not None and token is not None and token.is_name and not token.is_section and _follows_relation(case):
         return Found(mend=solved(case, token.line))
@@ -276,8 +315,10 @@ def _follows_relation(case: Case) -> bool:
     return before is not None and before.is_relation
 
 
-def _right_of_relation(case: Case) -> Optional[tuple[list[Token], list[Token]]]:
-    """The number after the last relation before the error, with its sign; and what comes after it in its line, up to the error."""
+def _right_of_relation(case: Case) -> tuple[list[Token], list[Token]] | None:
+    """The number after the last relation before the error, with its sign; and what comes after it in its line, up to
+    the error.
+    """
     tokens = case.tokens[: case.token_at + 1]
     at = _last_relation(tokens)
     if at is None:
@@ -289,17 +330,22 @@ def _right_of_relation(case: Case) -> Optional[tuple[list[Token], list[Token]]]:
         return None
     first, rest = tokens[at + 1 : end + 1], []
     for each, after in zip(tokens[end + 1 :], [*tokens[end + 2 :], None]):
-        if each.line != tokens[end].line or each.is_section or (after is not None and after.text == ":") or each.text == ":":
+        if (
+            each.line != tokens[end].line
+            or each.is_section
+            or (after is not None and after.text == ":")
+            or each.text == ":"
+        ):
             break
         rest.append(each)
     return (first, rest) if rest and (rest[0].is_sign or rest[0].is_name) else None
 
 
-def _last_relation(tokens: Sequence[Token]) -> Optional[int]:
+def _last_relation(tokens: Sequence[Token]) -> int | None:
     return next((at for at in reversed(range(len(tokens))) if tokens[at].is_relation), None)
 
 
-def number_on_the_left(case: Case) -> Optional[Found]:
+def number_on_the_left(case: Case) -> Found | None:
     """The last relation has a number on its left that starts the row, and terms on its right."""
     tokens, token = _complete_lines(case), case.token
     at = _last_relation(tokens)
@@ -317,7 +363,7 @@ def number_on_the_left(case: Case) -> Optional[Found]:
     return Found(mend=mend, marks=(case.mark_of_tokens(tokens[first : at + 1]),))
 
 
-def row_without_relation(case: Case) -> Optional[Found]:
+def row_without_relation(case: Case) -> Found | None:
     """Between a label, or the keyword that opens the rows, and the error there are terms and no relation."""
     token = case.token
     starts_row = token is not None and (token.text == ":" or token.is_section or _starts_row(case))
@@ -327,7 +373,7 @@ def row_without_relation(case: Case) -> Optional[Found]:
         each = tokens[at]
         if each.is_relation or (each.text == ":" and at > 1 and tokens[at - 2].word in SENSES) or each.word in SENSES:
             return None
-        if each.text == ":" or each.word in (*ROWS, "to", "that"):
+        if each.text == ":" or each.word in (*SPELLINGS[ROWS], *ROWS_IN_TWO_WORDS.values()):
             break
         if each.is_section:
             return None
@@ -347,86 +393,108 @@ def _complete_lines(case: Case) -> list[Token]:
     return case.tokens[:end]
 
 
-def no_sign(case: Case) -> Optional[Found]:
+def no_sign(case: Case) -> Found | None:
     """Two names, or a name and a number, without a sign between them."""
     before, token = case.before(), case.token
-    if before is None or token is None or not before.is_name or before.is_section or before.word in (*SENSES, "to", "that"):
+    if (
+        before is None
+        or token is None
+        or not before.is_name
+        or before.is_section
+        or before.word in (*SENSES, *ROWS_IN_TWO_WORDS.values())
+    ):
         return None
     if not (token.is_name or token.is_number) or token.is_section or lp_section(case) not in ("", "rows"):
         return None
     return Found(mend=f"{before.text} + {token.text}")
 
 
-def space_in_label(case: Case) -> Optional[Found]:
+def space_in_label(case: Case) -> Found | None:
     """Two words at the start of a line, and a colon."""
-    before, token, after = case.before(), case.token, case.after
-    if before is None or token is None or after is None or after.text != ":" or not token.is_name or not before.is_name:
-        return None
-    if before.line != token.line or not _starts_line(case, case.token_at - 1) or before.is_section or before.word in SENSES:
-        return None
-    return Found(mend=f"{before.text}_{token.text}", marks=(case.mark_of_tokens([before, token]),), moves=True)
+    for at in (case.token_at - 1, case.token_at):
+        words = case.tokens[at : at + 2] if at >= 0 else []
+        if len(words) == 2 and _is_label_of_two(case, at, words):
+            return Found(mend=f"{words[0].text}_{words[1].text}", marks=(case.mark_of_tokens(words),), moves=True)
+    return None
 
 
-def digit_first(case: Case) -> Optional[Found]:
+def _is_label_of_two(case: Case, at: int, words: Sequence[Token]) -> bool:
+    """Whether two words start a line, and a colon comes after them.
+
+    Only for a section that is there twice the first one is a keyword.
+    """
+    first, second = words
+    colon = case.tokens[at + 2] if at + 2 < len(case.tokens) else None
+    if (
+        colon is None
+        or colon.text != ":"
+        or second.line != first.line
+        or colon.line != first.line
+        or not _starts_line(case, at)
+    ):
+        return False
+    is_keyword = first.is_section or first.word in SENSES
+    return first.is_name and (second.is_name or second.is_number) and (not is_keyword or case.kind == "SectionRepeated")
+
+
+def digit_first(case: Case) -> Found | None:
     """A number at the start of a line, a word without a space, and a colon."""
-    number, before, token = case.before(2), case.before(), case.token
-    if number is None or before is None or token is None or token.text != ":" or not number.is_number or not before.is_name:
-        return None
-    is_label = number.line == before.line and number.end == before.start and _starts_line(case, case.token_at - 2)
-    return Found(marks=(case.mark_of_tokens([number, before]),), moves=True) if is_label else None
+    for at in (case.token_at - 2, case.token_at - 1):
+        words = case.tokens[at : at + 3] if at >= 0 else []
+        if (
+            len(words) == 3
+            and words[2].text == ":"
+            and words[0].is_number
+            and words[1].is_name
+            and _starts_line(case, at)
+        ):
+            is_label = (words[0].line, words[0].end) == (words[1].line, words[1].start)
+            return Found(marks=(case.mark_of_tokens(words[:2]),), moves=True) if is_label else None
+    return None
 
 
-def row_in_bounds(case: Case) -> Optional[Found]:
+def row_in_bounds(case: Case) -> Found | None:
     """A column on each side of a relation, or a sign after a column."""
     before, token = case.before(), case.token
     if before is None or token is None or lp_section(case) != "bounds" or token.is_section:
         return None
     if token.is_name and before.is_relation:
-        return FOUND
+        return FOUND if before.line == token.line else None
     return FOUND if token.is_sign and before.is_name and not before.is_section else None
 
 
-def coefficient_in_bounds(case: Case) -> Optional[Found]:
+def coefficient_in_bounds(case: Case) -> Found | None:
     before, token = case.before(), case.token
-    if before is None or token is None or lp_section(case) != "bounds" or not token.is_name or not (before.is_number or before.is_sign):
+    if (
+        before is None
+        or token is None
+        or lp_section(case) != "bounds"
+        or not token.is_name
+        or not (before.is_number or before.is_sign)
+    ):
         return None
     return Found(mend=_divided(case) or "")
 
 
-def _divided(case: Case) -> Optional[str]:
+def _divided(case: Case) -> str | None:
     """The bound without its coefficient, if it has one column and one number, and the quotient is a decimal."""
     of_line = [each for each in case.tokens if each.line == case.line.number]
     text = " ".join(each.text for each in of_line)
     match = re.fullmatch(r"(?:([+-]) )?(\S+ )?(\S+) (<=|>=|=|<|>|=<|=>) (?:([+-]) )?(\S+)", text)
     if match is None:
         return None
-    try:
-        coefficient = Fraction(f"{match[1] or ''}{(match[2] or '1').strip()}")
-        value = Fraction(f"{match[5] or ''}{match[6]}") / coefficient
-    except (ValueError, ZeroDivisionError):
+    coefficient = value_of(f"{match[1] or ''}{(match[2] or '1').strip()}")
+    side = value_of(f"{match[5] or ''}{match[6]}")
+    if not coefficient or side is None:
         return None
-    number = decimal_text(value)
+    number = decimal_text(side / coefficient)
     return None if number is None else f"{match[3]} {_FLIPPED[match[4]] if coefficient < 0 else match[4]} {number}"
-
-
-def lp_section(case: Case) -> str:
-    """The section of the token with the error: bounds, rows, a list, or nothing for the objective."""
-    for each in reversed(case.tokens[: case.token_at]):
-        if each.word in ("bound", "bounds"):
-            return "bounds"
-        if each.word in LISTS:
-            return "list"
-        if each.word in ROWS:
-            return "rows"
-        if each.word in SENSES:
-            return ""
-    return "rows"  # of a long section
 
 
 # ---- names
 
 
-def brackets_in_name(case: Case) -> Optional[Found]:
+def brackets_in_name(case: Case) -> Found | None:
     """A name, and beside it brackets without a power or a product."""
     line = case.line.content.decode("latin-1")
     token = case.token
@@ -438,7 +506,7 @@ def brackets_in_name(case: Case) -> Optional[Found]:
     return None
 
 
-def product(case: Case) -> Optional[Found]:
+def product(case: Case) -> Found | None:
     before, token, after = case.before(), case.token, case.after
     if before is None or token is None or after is None or token.text != "*":
         return None
@@ -447,7 +515,7 @@ def product(case: Case) -> Optional[Found]:
     return Found(mend=f"{after.text} {before.text}") if before.is_name and after.is_number else None
 
 
-def automatic_name(case: Case) -> Optional[Found]:
+def automatic_name(case: Case) -> Found | None:
     """One of the two rows has no label: its name is that of its position."""
     found = first_duplicate(case.content, case.line.start + len(case.line.content))
     if found is None:
@@ -499,15 +567,41 @@ def constant_in_row(case: Case) -> Found:
 # ---- numbers
 
 
-def _signed(tokens: Sequence[Token]) -> Fraction:
-    """The number of the last token, with the signs before it."""
-    value = Fraction(tokens[-1].text)
-    return -value if sum(each.text == "-" for each in tokens[:-1]) % 2 else value
+def _signed(tokens: Sequence[Token]) -> Fraction | None:
+    """The number of the last token, with the signs before it; None for one beyond the limits."""
+    value = value_of(tokens[-1].text)
+    return -value if value is not None and sum(each.text == "-" for each in tokens[:-1]) % 2 else value
 
 
 RULES: tuple[Rule, ...] = (
-    mps_as_lp, lp_solve_statements, lp_solve_comment, no_label, colon_after_keyword, other_relation, other_comment, lazy_constraints,
-    decimal_comma, fraction, punctuation_after_row, other_keyword, no_sense, row_without_terms, no_subject_to, digit_first, space_in_label,
-    row_in_bounds, sum_on_the_right, missing_number, second_relation, nan_on_the_right, mark_after_number, terms_on_the_right,
-    number_on_the_left, free_among_rows, row_without_relation, coefficient_in_bounds, no_sign, brackets_in_name, product, automatic_name,
-)  # fmt: skip
+    conflict_marker,
+    no_label,
+    colon_after_keyword,
+    other_relation,
+    lazy_constraints,
+    decimal_comma,
+    fraction,
+    punctuation_after_row,
+    other_keyword,
+    line_of_text,
+    no_sense,
+    row_without_terms,
+    no_subject_to,
+    digit_first,
+    space_in_label,
+    row_in_bounds,
+    sum_on_the_right,
+    missing_number,
+    second_relation,
+    nan_on_the_right,
+    mark_after_number,
+    terms_on_the_right,
+    number_on_the_left,
+    free_among_rows,
+    row_without_relation,
+    coefficient_in_bounds,
+    no_sign,
+    brackets_in_name,
+    product,
+    automatic_name,
+)

@@ -1,20 +1,24 @@
-"""What a message adds to the cause of a kind that no rule has recognised: the nearest name, or the line of the first of two."""
+"""What a message adds to the cause of a kind that no rule has recognised: the nearest name, or the line of the first of
+two.
+"""
 
 from __future__ import annotations
 
 import re
 from collections.abc import Callable, Mapping, Sequence
-from typing import Optional
 
 from mpslp._messages._case import FOUND, Case, Found
 from mpslp._messages._causes_lp import constant_in_row
 from mpslp._messages._causes_mps import is_number, other_type, several_sets
 from mpslp._messages._excerpt import Mark
-from mpslp._messages._lines import line_at
 from mpslp._messages._lp_rows import first_duplicate, named_rows
 from mpslp._messages._nearest import Known
-from mpslp._messages._place import UNVALUED, fields_of, illegal_name
-from mpslp._messages._tokens import SECTIONS, SENSES, Token
+from mpslp._messages._place import fields_of, illegal_name
+from mpslp._messages._tokens import Token
+from mpslp._messages._written_out import indicator, special_set
+from mpslp._text._lines import line_at
+from mpslp._text._lp_words import SECTIONS, SENSES, SPELLINGS
+from mpslp._text._mps_words import UNVALUED
 
 Detail = Callable[[Case], Found]
 _ROW_KINDS = frozenset(("InfiniteLimit", "RangeInexact", "LimitTooLarge", "LimitsCrossed"))
@@ -42,23 +46,25 @@ def named(case: Case) -> Found:
     return FOUND if mark is None else Found(marks=(mark,))
 
 
-def _mps_line_of(case: Case, name: str) -> Optional[Mark]:
+def _mps_line_of(case: Case, name: str) -> Mark | None:
     """The last line that has the name: it is in BOUNDS, RANGES or RHS if there is one."""
     pattern = rb"\n[ \t][^\n]*?[ \t](" + re.escape(name.encode("latin-1")) + rb")(?=[ \t\r\n])"
     start = case.start_of("ROWS" if case.kind in _ROW_KINDS else "COLUMNS")
     return _last_mark(case, pattern, start)
 
 
-def _lp_line_of(case: Case, name: str) -> Optional[Mark]:
+def _lp_line_of(case: Case, name: str) -> Mark | None:
     """The row, or the last line of Bounds that has the column."""
     if case.kind in _ROW_KINDS:
         row = next((row for row in named_rows(case.content, len(case.content)) if row.name == name), None)
         return None if row is None else case.mark_at(row.start, row.end)
     pattern = rb"(?<![\w.])(" + re.escape(name.encode("latin-1")) + rb")(?![\w.])(?=[ \t\r]*[<>=]|[ \t]+free)"
-    return _last_mark(case, rb"(?i:" + pattern + rb")", 0) or _last_mark(case, pattern.replace(rb"(?=[ \t\r]*[<>=]|[ \t]+free)", b""), 0)
+    return _last_mark(case, rb"(?i:" + pattern + rb")", 0) or _last_mark(
+        case, pattern.replace(rb"(?=[ \t\r]*[<>=]|[ \t]+free)", b""), 0
+    )
 
 
-def _last_mark(case: Case, pattern: bytes, start: int) -> Optional[Mark]:
+def _last_mark(case: Case, pattern: bytes, start: int) -> Mark | None:
     last = None
     for last in re.compile(pattern).finditer(case.content, start):
         pass
@@ -178,8 +184,16 @@ def open_marker(case: Case) -> Found:
 
 
 def first_label(case: Case) -> Found:
+    """Both labels; that of the second row may be in a line before the one with the error."""
     found = first_duplicate(case.content, case.line.start + len(case.line.content))
-    return FOUND if found is None else _first(case, case.mark_at(found[0].start, found[0].end))
+    if found is None:
+        return FOUND
+    first, second = (case.mark_at(row.start, row.end) for row in found)
+    what = "the first" if found[0].position else "the objective"
+    where = "both are in this line" if first.number == second.number else f"{what} is in line {first.number}"
+    if second.number != case.line.number:
+        where += f", the {'second' if found[0].position else 'row'} in line {second.number}"
+    return Found(where, words=found[1].name, marks=(first, second))
 
 
 def first_term(case: Case) -> Found:
@@ -210,14 +224,7 @@ def first_lp_section(case: Case) -> Found:
     return FOUND if mark is None else _first(case, mark)
 
 
-_SAME: Sequence[Sequence[str]] = (
-    ("minimize", "minimum", "min", "maximize", "maximum", "max"),
-    ("subject", "such", "st.", "s.t.", "st"),
-    ("bounds", "bound"),
-    ("generals", "general", "gen", "integers", "integer", "int"),
-    ("binaries", "binary", "bin"),
-    ("semis", "semi"),
-)
+_SAME: Sequence[Sequence[str]] = (tuple(SENSES), *SPELLINGS.values())
 
 
 def _first_token(case: Case, token: Token) -> Found:
@@ -233,18 +240,37 @@ def _first(case: Case, mark: Mark) -> Found:
 # ---- the tables
 
 _BOTH: Mapping[str, Detail] = {
-    "TooManyDigits": digits, "ExponentRange": infinity, "NotLp": not_lp,
+    "TooManyDigits": digits,
+    "ExponentRange": infinity,
+    "NotLp": not_lp,
+    "Sos": special_set,
+    "Indicator": indicator,
     **dict.fromkeys((*_ROW_KINDS, "NegativeUpper", "BoundsCrossed", "BinaryBounds", "SemiBounds"), named),
-}  # fmt: skip
+}
 _MPS: Mapping[str, Detail] = {
-    **_BOTH, "BadMarker": open_marker, "BadType": other_type, "ColumnSplit": split_column, "DuplicateBound": first_bound,
-    "DuplicateEntry": first_entry, "DuplicateRange": first_entry, "DuplicateRhs": first_entry, "DuplicateRow": first_row,
-    "FieldCount": joined_name, "SecondSet": several_sets, "SectionRepeated": first_section, "UnknownColumn": nearest_column,
+    **_BOTH,
+    "BadMarker": open_marker,
+    "BadType": other_type,
+    "ColumnSplit": split_column,
+    "DuplicateBound": first_bound,
+    "DuplicateEntry": first_entry,
+    "DuplicateRange": first_entry,
+    "DuplicateRhs": first_entry,
+    "DuplicateRow": first_row,
+    "FieldCount": joined_name,
+    "SecondSet": several_sets,
+    "SectionRepeated": first_section,
+    "UnknownColumn": nearest_column,
     "UnknownRow": nearest_row,
-}  # fmt: skip
+}
 _LP: Mapping[str, Detail] = {
-    **_BOTH, "ConstantInRow": constant_in_row, "DuplicateBound": first_lp_bound, "DuplicateEntry": first_term, "DuplicateRow": first_label, "SectionRepeated": first_lp_section,
-}  # fmt: skip
+    **_BOTH,
+    "ConstantInRow": constant_in_row,
+    "DuplicateBound": first_lp_bound,
+    "DuplicateEntry": first_term,
+    "DuplicateRow": first_label,
+    "SectionRepeated": first_lp_section,
+}
 
 
 def detail_of(case: Case) -> Found:

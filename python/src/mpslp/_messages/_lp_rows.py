@@ -3,9 +3,10 @@
 from __future__ import annotations
 
 from collections.abc import Iterator
-from typing import NamedTuple, Optional
+from typing import NamedTuple
 
-from mpslp._messages._tokens import INFINITIES, ROWS, SENSES, Token, tokens_of
+from mpslp._messages._tokens import Token, tokens_of
+from mpslp._text._lp_words import INFINITIES, ROWS, ROWS_IN_TWO_WORDS, SECTIONS, SENSES
 
 _MOST_READ = 2**24
 
@@ -20,7 +21,7 @@ class Row(NamedTuple):
     end: int
 
 
-def first_duplicate(content: bytes, end: int) -> Optional[tuple[Row, Row]]:
+def first_duplicate(content: bytes, end: int) -> tuple[Row, Row] | None:
     """The first row of a text up to a place whose name an earlier row or the objective has, after that one."""
     if end > _MOST_READ:
         return None
@@ -48,7 +49,7 @@ class _Scanner:
         self._at = 0
 
     @property
-    def _token(self) -> Optional[Token]:
+    def _token(self) -> Token | None:
         return self._tokens[self._at] if self._at < len(self._tokens) else None
 
     def _row(self, name: str, position: int, has_label: bool, token: Token) -> Row:
@@ -62,11 +63,11 @@ class _Scanner:
         """The objective; after it the place is that of the first row."""
         first = self._tokens[0]
         row = self._row("obj", 0, False, first)
-        while (token := self._token) is not None and token.word not in ROWS:
+        while (token := self._token) is not None and SECTIONS.get(token.word) != ROWS:
             if self._at == 1 and token.is_name and self._is_label():
                 row = self._row(token.text, 0, True, token)
             self._at += 1
-        self._at += 2 if token is not None and token.word in ("subject", "such") else 1
+        self._at += 2 if token is not None and token.word in ROWS_IN_TWO_WORDS else 1
         return row
 
     def rows(self) -> Iterator[Row]:

@@ -2,13 +2,39 @@
 
 from __future__ import annotations
 
-from collections.abc import Sequence
+from collections.abc import Iterable, Sequence
 from fractions import Fraction
-from typing import NamedTuple, Optional
+from typing import NamedTuple
 
-from mpslp._messages._tokens import INFINITIES, Token
+from mpslp._messages._tokens import Token
+from mpslp._text._lp_words import INFINITIES
+from mpslp._text._numbers import LITERAL, MOST_DIGITS, exact
 
-_MOST_DIGITS = 36
+
+def value_of(text: str) -> Fraction | None:
+    """The value of a number within the limits of mpslp, or None.
+
+    Its exponent is looked at before any power is computed.
+    """
+    found = exact(text) if LITERAL.fullmatch(text) else None
+    return None if found is None else Fraction(found)
+
+
+def product_text(factors: Iterable[str]) -> str:
+    """The product of numbers as a decimal; empty if one of them or the product is beyond the limits."""
+    product = Fraction(1)
+    for factor in factors:
+        value = value_of(factor)
+        if value is None:
+            return ""
+        product *= value
+    return decimal_text(product) or ""
+
+
+def quotient_text(dividend: str, divisor: str) -> str:
+    """The quotient of two numbers as a decimal; empty if it is none, or if a number is beyond the limits."""
+    first, second = value_of(dividend), value_of(divisor)
+    return "" if first is None or not second else decimal_text(first / second) or ""
 
 
 class Term(NamedTuple):
@@ -22,17 +48,20 @@ class Term(NamedTuple):
         return self._replace(is_negative=not self.is_negative)
 
     @property
-    def value(self) -> Fraction:
-        value = Fraction(self.coefficient or "1")
-        return -value if self.is_negative else value
+    def value(self) -> Fraction | None:
+        """None for a number beyond the limits."""
+        value = value_of(self.coefficient or "1")
+        return -value if self.is_negative and value is not None else value
 
     @property
     def text(self) -> str:
         return " ".join(filter(None, (self.coefficient, self.name)))
 
 
-def solved_row(tokens: Sequence[Token]) -> Optional[str]:
-    """The row without its label, with its terms on the left and one number on the right; None if it is not one of a simple form."""
+def solved_row(tokens: Sequence[Token]) -> str | None:
+    """The row without its label, with its terms on the left and one number on the right; None if it is not one of a
+    simple form.
+    """
     at = [number for number, token in enumerate(tokens) if token.is_relation]
     if len(at) != 1:
         return None
@@ -42,9 +71,15 @@ def solved_row(tokens: Sequence[Token]) -> Optional[str]:
     terms = [term for term in left if term.name] + [term.moved() for term in right if term.name]
     if not terms or len({term.name for term in terms}) < len(terms):
         return None
-    value = sum((term.value for term in right if not term.name), Fraction(0)) - sum(term.value for term in left if not term.name)
-    number = decimal_text(value)
+    constants = [term.value for term in right if not term.name] + [term.moved().value for term in left if not term.name]
+    number = sum_text(constants)
     return None if number is None else f"{_sum(terms)} {tokens[at[0]].text} {number}"
+
+
+def sum_text(values: Sequence[Fraction | None]) -> str | None:
+    """The sum of numbers as a decimal, or None if one of them or the sum is beyond the limits."""
+    known = [value for value in values if value is not None]
+    return decimal_text(sum(known, Fraction(0))) if len(known) == len(values) else None
 
 
 def _sum(terms: Sequence[Term]) -> str:
@@ -52,7 +87,7 @@ def _sum(terms: Sequence[Term]) -> str:
     return " ".join([first, *(f"{'-' if term.is_negative else '+'} {term.text}" for term in terms[1:])])
 
 
-def terms_of(tokens: Sequence[Token]) -> Optional[list[Term]]:
+def terms_of(tokens: Sequence[Token]) -> list[Term] | None:
     """The terms of a sum, or None if the tokens are not one."""
     found: list[Term] = []
     at = 0
@@ -74,17 +109,19 @@ def terms_of(tokens: Sequence[Token]) -> Optional[list[Term]]:
 
 
 def _is_column(token: Token) -> bool:
-    return token.is_name and not token.is_section and token.word not in INFINITIES and not set(token.text) & set("(),;/")
+    return (
+        token.is_name and not token.is_section and token.word not in INFINITIES and not set(token.text) & set("(),;/")
+    )
 
 
-def decimal_text(value: Fraction) -> Optional[str]:
+def decimal_text(value: Fraction) -> str | None:
     """A number as a decimal, or None if it has no end or is too long."""
     denominator, places = value.denominator, 0
     while denominator % 2 == 0 or denominator % 5 == 0:
         denominator //= 10 if denominator % 10 == 0 else 2 if denominator % 2 == 0 else 5
         places += 1
     digits = str(abs(int(value * 10**places)))
-    if denominator != 1 or max(len(digits), places) > _MOST_DIGITS:
+    if denominator != 1 or max(len(digits), places) > MOST_DIGITS:
         return None
     sign, digits = "-" if value < 0 else "", digits.rjust(places + 1, "0")
     return sign + (f"{digits[:-places]}.{digits[-places:]}" if places else digits)

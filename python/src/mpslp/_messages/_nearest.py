@@ -48,7 +48,8 @@ def nearest(name: str, names: Iterable[str]) -> str | None:
 
 
 def _nearest(name: bytes, names: Iterable[tuple[bytes, int]]) -> tuple[bytes, int] | None:
-    """The name that differs by the case of letters; or else by one letter; or else by few, if it is among the first ones.
+    """The name that differs by the case of letters; or else by one letter; or else by few, if it is among the first
+    ones.
 
     After many names the first one that differs by one letter is returned without a look at the rest.
     """
@@ -70,7 +71,9 @@ def _nearest(name: bytes, names: Iterable[tuple[bytes, int]]) -> tuple[bytes, in
 
 
 def _one_edit_from(name: bytes) -> Callable[[bytes], bool]:
-    """Whether a name of two letters or more is another one with a letter more, a letter less, another letter, or two swapped."""
+    """Whether a name of two letters or more is another one with a letter more, a letter less, another letter, or two
+    swapped.
+    """
     size, number = len(name), int.from_bytes(name, "big")
     shorter = {name[:at] + name[at + 1 :] for at in range(size)}
     swapped = {name[:at] + name[at + 1 : at + 2] + name[at : at + 1] + name[at + 2 :] for at in range(size - 1)}

@@ -1,7 +1,8 @@
 """Where an error of a line is: the field or token, and what the message names.
 
-The library reports the line and the kind only. If several parts of the line may have the error, it is asked again: with the
-text up to the line and a prefix of the line. What is found here is a help for readers of a message, and is not proved.
+The library reports the line and the kind only. If several parts of the line may have the error, it is asked again: with
+the text up to the line and a prefix of the line. What is found here is a help for readers of a message, and is not
+proved.
 """
 
 from __future__ import annotations
@@ -14,11 +15,13 @@ from contextlib import suppress
 from typing import NamedTuple
 
 from mpslp import _mpslp
-from mpslp._faults import ModelFileError
-from mpslp._illegal_names import name_not_legal
-from mpslp._messages._lines import Line, line_at
+from mpslp._errors._faults import ModelFileError
+from mpslp._errors._illegal_names import name_not_legal
+from mpslp._files._sources import Text
 from mpslp._messages._tokens import NAME, Token, tokens_of
-from mpslp._sources import Text
+from mpslp._text._lines import Line, line_at
+from mpslp._text._lp_words import FREE, INFINITIES
+from mpslp._text._mps_words import MARKER, UNVALUED
 
 _MOST_SHOWN = 80
 _MOST_READ_AGAIN = 2**24
@@ -36,14 +39,14 @@ _PACKED = {
 }
 NUMBER_KINDS = frozenset(("BadNumber", "LongNumber", "TooManyDigits", "ExponentRange"))
 _PAIRS = frozenset(("UnknownRow", "DuplicateEntry", "DuplicateRhs", "DuplicateRange", "RangeOnFree", "InfiniteValue"))
-UNVALUED = ("FR", "MI", "PL", "BV")
-"""The types of bounds without a number."""
 NUMBER = re.compile(r"[+-]?(?:\d+(?:\.\d*)?|\.\d+)(?:[eE][+-]?\d+)?", re.ASCII)
 
-_NO_NAMES_IN_BOUNDS = {"free", "inf", "infinity"}
+_NO_NAMES_IN_BOUNDS = {FREE, *INFINITIES}
 _HEADER = re.compile(rb"\n[^*\s][^\n]*")
 _LABELLED_LINE = re.compile(rb"\n[ \t]*[A-Za-z_][\w.]*[ \t]*:")
-_LP_SECTION = re.compile(rb"\n[ \t]*(?i:(?P<rows>subject[ \t]+to|such[ \t]+that|st|s\.t\.|st\.)|(?P<bounds>bounds?))[ \t\r]*(?=\n)")
+_LP_SECTION = re.compile(
+    rb"\n[ \t]*(?i:(?P<rows>subject[ \t]+to|such[ \t]+that|st|s\.t\.|st\.)|(?P<bounds>bounds?))[ \t\r]*(?=\n)"
+)
 
 
 class Field(NamedTuple):
@@ -139,6 +142,10 @@ def fields_of(line: bytes) -> list[Field]:
     return [Field(match[0].decode("latin-1"), *match.span()) for match in re.finditer(rb"[^\s]+", line)]
 
 
+_NO_PART = Place("", 0, 0)
+"""A line that is shown without a caret."""
+
+
 class _TooLarge(Exception):
     """The text up to the line is too large to be read again and again for one word of a message."""
 
@@ -221,7 +228,7 @@ class _Finder:
         most = {"ROWS": 2, "BOUNDS": 4, "OBJSENSE": 1, "OBJNAME": 1}.get(section, 5)
         if self._line.content[:1] not in b" \t":
             most = 2 if fields[0].text in ("OBJSENSE", "OBJNAME") else 1
-        elif section == "COLUMNS" and len(fields) > 1 and fields[1].text == "'MARKER'":
+        elif section == "COLUMNS" and len(fields) > 1 and fields[1].text == MARKER:
             most = 3
         words = "1 field" if len(fields) == 1 else f"{len(fields)} fields"
         if len(fields) > most:
@@ -262,7 +269,9 @@ class _Finder:
             first += 2
         if kind in NUMBER_KINDS:
             return _of(fields[first + 1])
-        return _of(fields[first], f"column {fields[0].text}, row {fields[first].text}" if kind == "DuplicateEntry" else None)
+        return _of(
+            fields[first], f"column {fields[0].text}, row {fields[first].text}" if kind == "DuplicateEntry" else None
+        )
 
     def _is_of_first_pair(self, kind: str, fields: list[Field], first: int) -> bool:
         if kind == "BadNumber":
@@ -272,13 +281,19 @@ class _Finder:
     def of_lp(self) -> Place:
         tokens = tokens_of(self._line.content)
         # An error of a line stays when tokens are added that do not have one of lower rank.
-        at = bisect_left(range(len(tokens)), True, key=lambda number: self._has_error(self._line.content[: tokens[number].end]))
+        at = bisect_left(
+            range(len(tokens)), True, key=lambda number: self._has_error(self._line.content[: tokens[number].end])
+        )
         tokens = tokens[: at + 1]
         kind = self._error.kind
         if kind in ("ConstantInRow", "DuplicateRhs"):  # the token after the number has the error
             return self._of_token(tokens[-2])
         if kind == "DuplicateBound":
-            names = (each for each in reversed(tokens) if NAME.match(each.text) and each.text.lower() not in _NO_NAMES_IN_BOUNDS)
+            names = (
+                each
+                for each in reversed(tokens)
+                if NAME.match(each.text) and each.text.lower() not in _NO_NAMES_IN_BOUNDS
+            )
             found = next(names, None)
             return _whole(self._line) if found is None else self._of_token(found)
         if kind == "DuplicateRow":
@@ -290,10 +305,12 @@ class _Finder:
         return Place(token.text, token.start, token.end)
 
     def _of_duplicate_label(self, tokens: list[Token]) -> Place:
-        """The last label of a line, if the error goes with it: a row without one has the name of its position."""
+        """The last label of a line, if the error goes with it; no part, if the label is in a line before, or the row
+        has none.
+        """
         labels = [one for one, other in zip(tokens, tokens[1:]) if other.text == ":"]
         if not labels:
-            return _whole(self._line)
+            return _NO_PART
         label, line = labels[-1], self._line.content[: tokens[-1].end]
         other = line[: label.start] + b"_" + os.urandom(16).hex().encode() + line[label.end :]
-        return _whole(self._line) if self._has_error(other) else self._of_token(label)
+        return _NO_PART if self._has_error(other) else self._of_token(label)

@@ -5,16 +5,13 @@ from __future__ import annotations
 import re
 from typing import NamedTuple
 
+from mpslp._text._lp_words import SECTIONS
+
 _NAME = r"[A-Za-z!\"#$%&()/,;?@_'`{}|~][\w!\"#$%&()/,.;?@'`{}|~]*"
 _TOKEN = re.compile(rb"\\[^\n]*|(?:\d+(?:\.\d*)?|\.\d+)(?:[eE][+-]?\d+)?|" + _NAME.encode() + rb"|<=|=<|>=|=>|::|->|\S")
 NAME = re.compile(r"[A-Za-z!\"#$%&()/,;?@_'`{}|~]")
 """The start of a name or a reserved word."""
 RELATIONS = frozenset(("<", ">", "=", "<=", "=<", ">=", "=>"))
-SENSES = frozenset(("min", "minimize", "minimum", "max", "maximize", "maximum"))
-ROWS = frozenset(("subject", "such", "st", "s.t.", "st."))
-LISTS = frozenset(("general", "generals", "gen", "integer", "integers", "int", "binary", "binaries", "bin", "semi", "semis"))
-SECTIONS = frozenset((*ROWS, *LISTS, "bound", "bounds", "end"))
-INFINITIES = frozenset(("inf", "infinity"))
 
 
 class Token(NamedTuple):

@@ -1,24 +1,23 @@
 """The call."""
 
 from collections.abc import Callable, Iterator, Mapping
-from typing import Optional
 
 from mpslp import _mpslp
+from mpslp._files._sources import Format, Source, naming, read
 from mpslp._portable import _lp_rules, _mps_rules
 from mpslp._portable._lp import LpFile
 from mpslp._portable._mps import MpsFile
 from mpslp._portable._remarks import PROGRAMS, Found, Program, Remark
-from mpslp._sources import Format, Source, naming, read
 
 KINDS = tuple(dict.fromkeys([*_mps_rules.RULES, *_lp_rules.RULES]))
 """The kinds of remarks."""
 
 
-def portability(source: Source, format: Optional[Format] = None, *, target: Optional[Program] = None) -> tuple[Remark, ...]:
+def portability(source: Source, format: Format | None = None, *, target: Program | None = None) -> tuple[Remark, ...]:
     """Returns what other programs may read differently in a text that this package accepts, in the order of lines.
 
-    The format may be left out for a path that ends in ``.mps`` or ``.lp``. With a target, only what this program was found to
-    read differently, or to reject, is returned.
+    The format may be left out for a path that ends in ``.mps`` or ``.lp``. With a target, only what this program was
+    found to read differently, or to reject, is returned.
 
     Raises ModelFileError where the text declares no model, and ValueError for an unknown target.
 
@@ -31,7 +30,9 @@ def portability(source: Source, format: Optional[Format] = None, *, target: Opti
     text = read(source, format)
     with naming(text):
         _mpslp.is_canonical(text.content, text.format)  # it raises the error of a text that is rejected
-    return tuple(remark for remark in remarks_of(text.content, text.format) if target is None or target in remark.programs)
+    return tuple(
+        remark for remark in remarks_of(text.content, text.format) if target is None or target in remark.programs
+    )
 
 
 def remarks_of(content: bytes, format: int) -> tuple[Remark, ...]:

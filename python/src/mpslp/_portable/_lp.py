@@ -4,21 +4,15 @@ from __future__ import annotations
 
 from collections.abc import Iterator, Sequence
 from dataclasses import dataclass, field
-from typing import NamedTuple, Optional
+from typing import NamedTuple
 
-from mpslp._lp_words import TOKEN
-from mpslp._portable._numbers import is_doubtful, is_infinite
+from mpslp._portable._numbers import is_doubtful
 from mpslp._portable._words import Word, first_text
+from mpslp._text._lp_tokens import TOKEN
+from mpslp._text._lp_words import BOUNDS, END, FREE, INFINITIES, LISTS, ROWS, ROWS_IN_TWO_WORDS, SECTIONS
+from mpslp._text._numbers import is_infinite
 
-_INFINITIES = ("inf", "infinity")
-_BOUNDS = ("bound", "bounds")
-_LISTS = {
-    **dict.fromkeys(("general", "generals", "gen", "integer", "integers", "int"), "generals"),
-    **dict.fromkeys(("binary", "binaries", "bin"), "binaries"),
-    **dict.fromkeys(("semi", "semis"), "semis"),
-}
-_ROWS = ("subject", "such", "st", "s.t.", "st.")
-_SECTIONS = frozenset((*_ROWS, *_BOUNDS, *_LISTS, "end"))
+_SHORT = ("int", "gen", "bin")
 
 
 class Token(NamedTuple):
@@ -57,8 +51,16 @@ class Bound(NamedTuple):
     """A line of Bounds: the sides that it gives, with their signs."""
 
     line: int
-    lower: Optional[str]
-    upper: Optional[str]
+    lower: str | None
+    upper: str | None
+
+
+class ShortKeyword(NamedTuple):
+    """The keyword ``int``, ``gen`` or ``bin``, and whether it comes after the keyword of Bounds."""
+
+    line: int
+    text: str
+    is_after_bounds: bool
 
 
 class LpFile:
@@ -69,22 +71,24 @@ class LpFile:
         self.is_maximised = False
         self.names: dict[str, int] = {}
         """The first lines of the names of columns and of labels."""
-        self.constant: Optional[Word] = None
+        self.constant: Word | None = None
         """The constant of the objective."""
         self.rows: list[Row] = []
         self.bounds: dict[str, list[Bound]] = {}
         """What Bounds has, by columns."""
-        self.lists: dict[str, dict[str, int]] = {name: {} for name in _LISTS.values()}
+        self.lists: dict[str, dict[str, int]] = {name: {} for name in LISTS}
         """The columns of the sections that list names, with their lines."""
         self.signs: list[int] = []
         """The lines of terms with several signs."""
         self.joined: dict[int, str] = {}
         """The first two tokens of each line that other programs want a space between."""
+        self.short_keywords: list[ShortKeyword] = []
+        """The keywords of the sections that list names that CoinUtils does not have."""
         self.has_integer = False
         """Whether the keyword of the integer columns is the word ``integer``."""
         self.numbers: list[Word] = []
         """The numbers that a double may not hold; of the infinite ones none."""
-        self.rest: Optional[Word] = None
+        self.rest: Word | None = None
         """The first text after the end."""
         self._tokens = self._all_tokens(content.decode("latin-1").split("\n"))
         self._now, self._next, self._third = (next(self._tokens, _END) for _ in range(3))
@@ -106,7 +110,7 @@ class LpFile:
                 before, end = token, match.end()
                 yield token
                 if match[0].lower() == "end":
-                    self.rest = first_text(lines, number, "\\")
+                    self.rest = first_text(lines[number:], number + 1, "\\")
                     return
 
     def _advance(self) -> Token:
@@ -116,28 +120,34 @@ class LpFile:
         return token
 
     def _is_section(self) -> bool:
-        return self._now.sort == "word" and self._now.text.lower() in _SECTIONS
+        return self._now.sort == "word" and self._now.text.lower() in SECTIONS
 
     # ---- sections
 
     def _read(self) -> None:
         self.is_maximised = self._advance().text.lower().startswith("max")
         self._objective()
+        has_bounds = False
         while self._now.sort == "word":
-            word = self._advance().text.lower()
-            if word in _ROWS:
-                if word in ("subject", "such"):
+            keyword = self._advance()
+            word = keyword.text.lower()
+            section = SECTIONS[word]
+            if section == ROWS:
+                if word in ROWS_IN_TWO_WORDS:
                     self._advance()
                 self._read_rows()
-            elif word in _BOUNDS:
+            elif section == BOUNDS:
+                has_bounds = True
                 self._read_bounds()
-            elif word in _LISTS:
+            elif section in LISTS:
+                if word in _SHORT:
+                    self.short_keywords.append(ShortKeyword(keyword.line, keyword.text, has_bounds))
                 if word == "semi" and self._now.text == "-":
                     self._advance()
                     self._advance()
-                self._read_list(self.lists[_LISTS[word]])
+                self._read_list(self.lists[section])
                 self.has_integer |= word == "integer"
-            elif word == "end":
+            elif section == END:
                 break
 
     def _objective(self) -> None:
@@ -171,9 +181,11 @@ class LpFile:
         row.sides.append(self._side())
 
     def _starts_with_side(self) -> bool:
-        """Whether a row starts with a side: a number with a relation after it, or a word for infinity; a sign may come first."""
+        """Whether a row starts with a side: a number with a relation after it, or a word for infinity; a sign may come
+        first.
+        """
         first, second = (self._next, self._third) if self._now.sort == "sign" else (self._now, self._next)
-        return second.sort == "relation" if first.sort == "number" else first.text.lower() in _INFINITIES
+        return second.sort == "relation" if first.sort == "number" else first.text.lower() in INFINITIES
 
     def _terms(self) -> None:
         while self._now.sort != "relation":
@@ -195,9 +207,9 @@ class LpFile:
 
     def _read_bound(self) -> None:
         line = self._now.line
-        if self._now.sort == "word" and self._now.text.lower() not in _INFINITIES:
+        if self._now.sort == "word" and self._now.text.lower() not in INFINITIES:
             name = self._name()
-            if self._now.text.lower() == "free":
+            if self._now.text.lower() == FREE:
                 self._advance()
                 self._give(name, Bound(line, "-inf", "inf"))
                 return
@@ -260,4 +272,3 @@ def _bound(line: int, relation: str, side: str) -> Bound:
     if "<" in relation:
         return Bound(line, None, side)
     return Bound(line, side, None) if ">" in relation else Bound(line, side, side)
-

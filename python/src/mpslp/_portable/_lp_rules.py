@@ -4,11 +4,11 @@ from __future__ import annotations
 
 import re
 
-from mpslp._adapt._numbers import parts
 from mpslp._portable._lp import LpFile
 from mpslp._portable._numbers import is_large
-from mpslp._portable._remarks import COIN, NONE, Found, by_kind
+from mpslp._portable._remarks import COIN, NONE, PUBLISHED, Found, by_kind
 from mpslp._portable._words import Word, of_names, of_numbers, of_rest
+from mpslp._text._numbers import parts
 
 _READERS = ("glpsol", *COIN, "esolver")
 """The measured programs that read LP."""
@@ -31,7 +31,8 @@ def objective_constant(file: LpFile) -> Found:
 def ranged_row(file: LpFile) -> Found:
     for row in file.rows:
         if len(row.sides) == 2:
-            yield row.line, f"the row is between {row.sides[0].text} and {row.sides[1].text}; clp and cbc read another row", _READERS
+            first, last = (side.text for side in row.sides)
+            yield row.line, f"the row is between {first} and {last}; clp and cbc read another row", _READERS
 
 
 def row_after_side(file: LpFile) -> Found:
@@ -42,7 +43,11 @@ def row_after_side(file: LpFile) -> Found:
 
 def upper_zero(file: LpFile) -> Found:
     for name, bounds in file.bounds.items():
-        zero = [each for each in bounds if each.upper is not None and each.upper.lstrip("-") != "inf" and not parts(each.upper)[0]]
+        zero = [
+            each
+            for each in bounds
+            if each.upper is not None and each.upper.lstrip("-") != "inf" and not parts(each.upper)[0]
+        ]
         if zero and all(each.lower is None for each in bounds):
             yield zero[0].line, f"{name} is fixed at 0, as its lower bound stays 0", NONE
 
@@ -64,13 +69,26 @@ def spaced_side(file: LpFile) -> Found:
     for row in file.rows:
         for side in row.sides:
             if side.is_spaced:
-                yield side.line, f"the side is {side.text}; for clp and cbc, with a space after its sign, it is something else", (*COIN, "esolver")
+                read = "for clp and cbc, with a space after its sign, it is something else"
+                yield side.line, f"the side is {side.text}; {read}", (*COIN, "esolver")
 
 
 def integer_section(file: LpFile) -> Found:
     for name, line in file.lists["generals"].items():
         if file.has_integer and not any(each.upper for each in file.bounds.get(name, [])):
-            yield line, f"{name} is an integer column without an upper bound; for esolver it has the upper bound 1", ("esolver",)
+            yield line, f"{name} is an integer column without an upper bound; for esolver it has the upper bound 1", (
+                "esolver",
+            )
+
+
+def short_keyword(file: LpFile) -> Found:
+    for line, word, is_after_bounds in file.short_keywords:
+        others = (
+            "is a column, and the columns after it are continuous"
+            if is_after_bounds
+            else "is no keyword, and they reject the file"
+        )
+        yield line, f"{word} starts a list of integer columns; for clp and cbc it {others}", (*COIN, "esolver")
 
 
 def several_signs(file: LpFile) -> Found:
@@ -87,7 +105,7 @@ def name_like_arithmetic(file: LpFile) -> Found:
 
 
 def number_not_held(file: LpFile) -> Found:
-    return of_numbers(file.numbers, ("glpsol", *COIN))
+    return of_numbers(file.numbers, ("glpsol", *COIN, *PUBLISHED))
 
 
 RULES = by_kind(
@@ -100,6 +118,7 @@ RULES = by_kind(
     joined_tokens,
     spaced_side,
     integer_section,
+    short_keyword,
     several_signs,
     text_after_end,
     name_like_arithmetic,

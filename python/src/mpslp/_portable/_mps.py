@@ -2,16 +2,20 @@
 
 from __future__ import annotations
 
-from collections.abc import Callable, Sequence
-from functools import cached_property
-from typing import NamedTuple, Optional
+from collections.abc import Callable
+from enum import Enum
+from functools import partial
+from typing import NamedTuple
 
-from mpslp._portable._numbers import is_doubtful, is_infinite
+from mpslp._portable._numbers import is_doubtful
 from mpslp._portable._words import Word, first_text
+from mpslp._text._mps import DataLine, MpsText, bound_of, pairs_of
+from mpslp._text._mps_words import INTORG, MARKER
+from mpslp._text._numbers import is_infinite
 
-
-_OWN_OBJECTIVE = "obj"
-"""The objective of a file without an N row."""
+_FIXED_SECTIONS = ("COLUMNS", "RHS", "RANGES")
+_FIRST_NAME, _SECOND_NAME = slice(4, 12), slice(14, 22)
+"""The columns of a line that have the two names of fixed columns; those between are empty."""
 
 
 class Pair(NamedTuple):
@@ -30,6 +34,14 @@ class Bound(NamedTuple):
     number: str
 
 
+class Fixed(Enum):
+    """What a line is to CoinUtils as long as it reads in fixed columns."""
+
+    IN_PLACE = "its names are in their places, or it does not begin in the first name's and is read by fields"
+    JOINED = "the place of the first name has several fields"
+    NOT_FIXED = "it cannot be read so: from this line on all are read by fields"
+
+
 class Column(NamedTuple):
     """The first line of a column, and whether it is between markers."""
 
@@ -38,14 +50,15 @@ class Column(NamedTuple):
 
 
 class MpsFile:
-    """Reads the lines."""
+    """Takes the lines of the sections, in the order of the file."""
 
     def __init__(self, content: bytes) -> None:
-        self.comments: list[Word] = []
-        self.sense: Optional[Word] = None
+        text = MpsText(content)
+        self.comments = [Word(*comment) for comment in text.numbered_comments]
+        self.sense: Word | None = None
         self.is_sense_in_header = False
         """Whether the word is on the line of OBJSENSE."""
-        self.objname: Optional[Word] = None
+        self.objective = text.objective.decode("ascii")
         self.types: dict[str, Word] = {}
         """The types of the rows, by names, N rows among them."""
         self.columns: dict[str, Column] = {}
@@ -55,98 +68,88 @@ class MpsFile:
         """The lines of BOUNDS by columns."""
         self.numbers: list[Word] = []
         """The numbers that a double may not hold; of the infinite ones none."""
-        self.rest: Optional[Word] = None
+        self.empty_markers: list[int] = []
+        """The lines of INTORG without a column before INTEND."""
+        self.joined: list[Word] = []
+        """The fields that are in the columns of the first name, if CoinUtils reads the lines in fixed columns."""
+        self.rest = first_text(text.rest.decode("latin-1").split("\n"), text.number_of_rest, "*")
         """The first text after the end."""
-        self.headers: dict[str, int] = {}
+        self.headers = {header: line.number for header, line in text.headers.items()}
         """The lines of the section headers."""
-        self._line = 0
         self._is_marked = False
-        self._read(content.decode("latin-1").split("\n"))
-
-    @cached_property
-    def objective(self) -> str:
-        """The name of the objective: that of an N row if there is one."""
-        if self.objname is not None:
-            return self.objname.text
-        return next((name for name, word in self.types.items() if word.text == "N"), _OWN_OBJECTIVE)
+        self._marker: int | None = None
+        """The line of an INTORG that no column has followed."""
+        self._is_fixed = "NAME" not in text.headers or "FREE" not in text.headers["NAME"].fields[1:]
+        """Whether CoinUtils still reads in fixed columns."""
+        takes: dict[str, Callable[[DataLine], None]] = {
+            "OBJSENSE": self._sense,
+            "ROWS": self._row,
+            "COLUMNS": self._coefficients,
+            "RHS": partial(self._pairs, self.sides),
+            "RANGES": partial(self._pairs, self.ranges),
+            "BOUNDS": self._bound,
+        }
+        for header in text.headers:
+            for line in text.data_lines(header) if header in takes else ():
+                if self._is_fixed and header in _FIXED_SECTIONS and MARKER not in line.fields:
+                    self._look_at_columns(line)
+                takes[header](line)
 
     def type_of(self, row: str) -> str:
         """The type of a row; the objective that a file without an N row gets is one."""
         return self.types[row].text if row in self.types else "N"
 
-    def _read(self, lines: Sequence[str]) -> None:
-        takes: dict[str, Callable[[list[str]], None]] = {
-            "NAME": self._nothing,
-            "OBJSENSE": self._sense,
-            "OBJNAME": self._objname,
-            "ROWS": self._row,
-            "COLUMNS": self._coefficients,
-            "RHS": self._sides,
-            "RANGES": self._ranges,
-            "BOUNDS": self._bound,
-        }
-        take = takes["NAME"]
-        for self._line, line in enumerate(lines, 1):
-            fields = line.split()
-            if line.startswith("*"):
-                self.comments.append(Word(self._line, line))
-            elif not fields:
-                continue
-            elif line[0] in " \t":
-                take(fields)
-            elif fields[0] == "ENDATA":
-                self.rest = first_text(lines, self._line, "*")
-                break
-            else:
-                take = takes[fields[0]]
-                self.headers.setdefault(fields[0], self._line)
-                if len(fields) > 1:
-                    self.is_sense_in_header |= fields[0] == "OBJSENSE"
-                    take(fields[1:])
+    def _sense(self, line: DataLine) -> None:
+        self.sense = Word(line.number, line.fields[0])
+        self.is_sense_in_header = line.number == self.headers["OBJSENSE"]
 
-    def _nothing(self, fields: list[str]) -> None:
-        pass
+    def _row(self, line: DataLine) -> None:
+        self.types[line.fields[1]] = Word(line.number, line.fields[0])
 
-    def _sense(self, fields: list[str]) -> None:
-        self.sense = Word(self._line, fields[0])
-
-    def _objname(self, fields: list[str]) -> None:
-        self.objname = Word(self._line, fields[0])
-
-    def _row(self, fields: list[str]) -> None:
-        self.types[fields[1]] = Word(self._line, fields[0])
-
-    def _coefficients(self, fields: list[str]) -> None:
-        if fields[1] == "'MARKER'":
-            self._is_marked = fields[2] == "'INTORG'"
+    def _coefficients(self, line: DataLine) -> None:
+        name, row = line.fields[:2]
+        if row == MARKER:
+            self._is_marked = line.fields[2] == INTORG
+            if not self._is_marked and self._marker is not None:
+                self.empty_markers.append(self._marker)
+            self._marker = line.number if self._is_marked else None
             return
-        if fields[0] not in self.columns:
-            self.columns[fields[0]] = Column(self._line, self._is_marked)
-        for number in fields[2::2]:
-            self._number(number)
+        self._marker = None
+        if name not in self.columns:
+            self.columns[name] = Column(line.number, self._is_marked)
+        for number in line.fields[2::2]:
+            self._number(line, number)
 
-    def _sides(self, fields: list[str]) -> None:
-        self._pairs(fields, self.sides)
-
-    def _ranges(self, fields: list[str]) -> None:
-        self._pairs(fields, self.ranges)
-
-    def _pairs(self, fields: list[str], found: list[Pair]) -> None:
-        first = len(fields) % 2
-        for row, number in zip(fields[first::2], fields[first + 1 :: 2]):
-            found.append(Pair(self._line, row, number))
+    def _pairs(self, found: list[Pair], line: DataLine) -> None:
+        for row, number in pairs_of(line.fields):
+            found.append(Pair(line.number, row, number))
             if not is_infinite(number):
-                self._number(number)
+                self._number(line, number)
 
-    def _bound(self, fields: list[str]) -> None:
-        has_number = fields[0] not in ("FR", "MI", "PL", "BV")
-        number = fields[-1] if has_number else ""
-        column = fields[-2] if has_number else fields[1] if len(fields) == 2 else fields[2]
-        self.bounds.setdefault(column, []).append(Bound(self._line, fields[0], number))
-        if has_number and not is_infinite(number):
-            self._number(number)
+    def _bound(self, line: DataLine) -> None:
+        kind, column, number = bound_of(line.fields)
+        self.bounds.setdefault(column, []).append(Bound(line.number, kind, number))
+        if number and not is_infinite(number):
+            self._number(line, number)
 
-    def _number(self, number: str) -> None:
+    def _look_at_columns(self, line: DataLine) -> None:
+        kind = _in_fixed_columns(line.text)
+        if kind is Fixed.JOINED:
+            self.joined.append(Word(line.number, line.text[_FIRST_NAME].strip()))
+        self._is_fixed = kind is not Fixed.NOT_FIXED
+
+    def _number(self, line: DataLine, number: str) -> None:
         if is_doubtful(number):
-            self.numbers.append(Word(self._line, number))
+            self.numbers.append(Word(line.number, number))
 
+
+def _in_fixed_columns(line: str) -> Fixed:
+    """How CoinUtils takes a line of COLUMNS, RHS or RANGES, as long as it reads in fixed columns."""
+    if line[:4].strip() or line[4:5].isspace():
+        return Fixed.IN_PLACE
+    if line[12:13].strip():
+        return Fixed.NOT_FIXED
+    if len(line[_FIRST_NAME].split()) > 1:
+        return Fixed.JOINED
+    is_in_place = not line[13:14].strip() and not line[14:15].isspace() and len(line[_SECOND_NAME].split()) == 1
+    return Fixed.IN_PLACE if is_in_place else Fixed.NOT_FIXED

@@ -3,14 +3,13 @@
 from __future__ import annotations
 
 import re
-from typing import Optional
 
 _OPERATOR = re.compile(r"[-+*/^<>=]")
 _NUMBER = re.compile(r"\.?[0-9]")
 _EXPONENT = re.compile(r"[eE][0-9]*")
 
 
-def arithmetic(name: str) -> Optional[str]:
+def arithmetic(name: str) -> str | None:
     """What a name looks like, if it looks like arithmetic; a reader of another language may take it apart."""
     if _NUMBER.match(name):
         return "it starts with a number"

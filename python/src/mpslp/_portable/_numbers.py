@@ -2,9 +2,8 @@
 
 from __future__ import annotations
 
-from typing import Optional
 
-from mpslp._adapt._numbers import LITERAL, is_infinite as _is_infinite, parts
+from mpslp._text._numbers import LITERAL, is_infinite, parts
 
 MOST_DIGITS = 17
 """No double needs more digits, and one with more is another number than the text."""
@@ -19,17 +18,12 @@ def is_doubtful(literal: str) -> bool:
     return len(literal) > MOST_DIGITS or "e" in literal or "E" in literal
 
 
-def is_infinite(literal: str) -> bool:
-    """Whether a limit or a bound is infinite by its magnitude."""
-    return (len(literal) > 20 or "e" in literal or "E" in literal) and _is_infinite(literal)
-
-
 def is_large(literal: str) -> bool:
     """Whether a limit or a bound is infinite, but smaller than the 1e30 that many programs write for infinity."""
     return is_infinite(literal) and abs(float(literal)) < _USUAL_INFINITY
 
 
-def nearest_if_lost(literal: str) -> Optional[str]:
+def nearest_if_lost(literal: str) -> str | None:
     """The double that is nearest to a number, if it does not hold the number; or None."""
     assert LITERAL.fullmatch(literal)
     mantissa, _ = parts(literal)

@@ -6,10 +6,12 @@ from collections.abc import Callable, Iterable, Iterator
 from dataclasses import dataclass
 from typing import Literal, TypeVar
 
-Program = Literal["glpsol", "clp", "cbc", "lp_solve", "esolver", "coinutils"]
-"""A program that was measured; coinutils is the reader of clp and cbc."""
+Program = Literal["glpsol", "clp", "cbc", "lp_solve", "esolver", "coinutils", "highs", "scip"]
+"""A program that was measured, where coinutils is the reader of clp and cbc; or highs or scip, by their documents."""
 
-PROGRAMS: tuple[Program, ...] = ("glpsol", "clp", "cbc", "lp_solve", "esolver", "coinutils")
+MEASURED: tuple[Program, ...] = ("glpsol", "clp", "cbc", "lp_solve", "esolver", "coinutils")
+PUBLISHED: tuple[Program, ...] = ("highs", "scip")
+PROGRAMS: tuple[Program, ...] = (*MEASURED, *PUBLISHED)
 COIN: tuple[Program, ...] = ("clp", "cbc", "coinutils")
 NONE: tuple[Program, ...] = ()
 
@@ -42,7 +44,9 @@ SHOWN = 3
 
 
 def grouped(remarks: Iterable[Remark]) -> Iterator[str]:
-    """The lines of a summary: for each kind, in the order of their first lines, how many lines have it, and the first ones."""
+    """The lines of a summary: for each kind, in the order of their first lines, how many lines have it, and the first
+    ones.
+    """
     kinds: dict[str, list[Remark]] = {}
     for remark in remarks:
         kinds.setdefault(remark.kind, []).append(remark)

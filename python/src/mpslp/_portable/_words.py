@@ -2,8 +2,8 @@
 
 from __future__ import annotations
 
-from collections.abc import Iterable, Sequence
-from typing import NamedTuple, Optional
+from collections.abc import Iterable
+from typing import NamedTuple
 
 from mpslp._portable._names import arithmetic
 from mpslp._portable._numbers import nearest_if_lost
@@ -17,16 +17,19 @@ class Word(NamedTuple):
     text: str
 
 
-def first_text(lines: Sequence[str], at: int, comment: str) -> Optional[Word]:
-    """The first line after the end that is neither empty nor a comment; byte 26 is what old programs end a file with."""
-    for number, line in enumerate(lines[at:], at + 1):
+def first_text(rest: Iterable[str], first: int, comment: str) -> Word | None:
+    """The first line after the end that is neither empty nor a comment; the first of these lines has a number.
+
+    Byte 26 is what old programs end a file with.
+    """
+    for number, line in enumerate(rest, first):
         text = line.strip(" \t\r\x1a")
         if text and not text.startswith(comment):
             return Word(number, text)
     return None
 
 
-def of_rest(rest: Optional[Word], keyword: str, programs: tuple[Program, ...]) -> Found:
+def of_rest(rest: Word | None, keyword: str, programs: tuple[Program, ...]) -> Found:
     if rest is not None:
         yield rest.line, f"the text after {keyword} is ignored", programs
 

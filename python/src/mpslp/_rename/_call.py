@@ -2,14 +2,14 @@
 
 from __future__ import annotations
 
-from collections.abc import Mapping
 from typing import NamedTuple
 
 from mpslp import _mpslp
+from mpslp._errors._own_checks import OwnCheckError, require_same
+from mpslp._files._sources import Text
+from mpslp._matching._map import NameMap, renamed_arrays
 from mpslp._rename._names import RenameError, lp_name, original_name
-from mpslp._rename._texts import name_from, with_names
-from mpslp._own_checks import require_same
-from mpslp._sources import Text
+from mpslp._rename._texts import GivenNames, name_from, with_names
 
 
 class Renamed(NamedTuple):
@@ -38,11 +38,13 @@ def renamed(text: Text) -> Renamed:
     return Renamed(content, names)
 
 
-def names_back(text: Text, names: Mapping[str, str] | None) -> bytes:
+def names_back(text: Text, names: GivenNames | None) -> bytes:
     """The canonical MPS text of a model under the names of a table, or else under those that the rule gives back.
 
     Raises RenameError if the rule writes no such names, or if names would be the same.
     """
+    if isinstance(names, NameMap):
+        return _mapped(text, names)
     name_of = original_name if names is None else name_from(names)
     canonical = _mpslp.canonical(text.content, text.format, _mpslp.MPS)
     restored: dict[str, str] = {}
@@ -56,6 +58,31 @@ def names_back(text: Text, names: Mapping[str, str] | None) -> bytes:
     content = _mpslp.canonical(with_names(canonical, restored_name), _mpslp.MPS, _mpslp.MPS)
     _check(canonical, with_names(content, restored.__getitem__))
     return content
+
+
+def _mapped(text: Text, names: NameMap) -> bytes:
+    """The same for a map that has names of rows and of columns apart."""
+    arrays = _mpslp.load(text.content, text.format)
+    try:
+        mapped = renamed_arrays(arrays, names)
+    except ValueError as error:
+        raise RenameError(str(error)) from None
+    content = _mpslp.store(mapped, _mpslp.MPS)
+    # The model that is written is read again, and compared under the names before, which are those at the same places
+    # of both models.
+    if renamed_arrays(_mpslp.load(content, _mpslp.MPS), _back(arrays, names)) != arrays:
+        raise OwnCheckError
+    return content
+
+
+def _back(arrays: _mpslp.Arrays, names: NameMap) -> NameMap:
+    """The names of a model by those that a map gives them."""
+    (rows, columns), (_, objective, _) = arrays.names(), arrays.objective()
+    return NameMap(
+        {names.objective.get(objective, objective): objective},
+        {names.rows.get(row, row): row for row in rows},
+        {names.columns.get(column, column): column for column in columns},
+    )
 
 
 def _check(given: bytes, back: bytes) -> None:

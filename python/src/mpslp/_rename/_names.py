@@ -1,19 +1,20 @@
 """The legal name of LP for each name of MPS, and back.
 
-A byte is written as ``_x`` and two hexadecimal digits, 0 to 9 and A to F, if it is not a symbol of LP names. So is the first byte
-of a name that is then still not legal: one that starts with a digit or a period, that looks like an exponent, or that is a reserved
-word. And so is the ``_`` of each ``_x`` and two such digits that a name has itself. All other bytes stay.
+A byte is written as ``_x`` and two hexadecimal digits, 0 to 9 and A to F, if it is not a symbol of LP names. So is the
+first byte of a name that is then still not legal: one that starts with a digit or a period, that looks like an
+exponent, or that is a reserved word. And so is the ``_`` of each ``_x`` and two such digits that a name has itself. All
+other bytes stay.
 
-No two names become the same, since reading each escape back gives the name again: an escape starts with ``_``, which is neither
-``x`` nor a digit, so what looks like an escape in a written name is one that was written, or lies in bytes that stayed; and of
-those each ``_`` was written as an escape. A legal name without such an escape stays as it is.
+No two names become the same, since reading each escape back gives the name again: an escape starts with ``_``, which is
+neither ``x`` nor a digit, so what looks like an escape in a written name is one that was written, or lies in bytes that
+stayed; and of those each ``_`` was written as an escape. A legal name without such an escape stays as it is.
 """
 
 from __future__ import annotations
 
 import re
 
-from mpslp._adapt._names import MOST_BYTES, is_lp_name, is_mps_name
+from mpslp._text._names import MOST_BYTES, is_lp_name, is_mps_name
 
 _ESCAPE = re.compile(r"_x([0-9A-F]{2})")
 _ESCAPED = re.compile(r"_(?=x[0-9A-F]{2})|[^A-Za-z0-9!\"#$%&()/,.;?@_'`{}|~]")
@@ -41,7 +42,9 @@ def original_name(written: str) -> str:
 
 def _written(name: str) -> str:
     written = _ESCAPED.sub(lambda found: _escape(found[0]), name)
-    is_legal = is_lp_name(written[:MOST_BYTES])  # what a name is not legal for is within its first bytes, except its length
+    is_legal = is_lp_name(
+        written[:MOST_BYTES]
+    )  # what a name is not legal for is within its first bytes, except its length
     return written if is_legal else _escape(written[0]) + written[1:]
 
 

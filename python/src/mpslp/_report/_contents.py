@@ -9,8 +9,8 @@ from dataclasses import dataclass, field
 from decimal import Decimal
 from typing import NamedTuple
 
-from mpslp._arrays import Arrays
-from mpslp._models import Model
+from mpslp._models._arrays import Arrays
+from mpslp._models._model import Model
 
 
 class Extreme(NamedTuple):
@@ -81,7 +81,15 @@ ROW_KINDS = ("equation", "at most", "at least", "ranged", "free")
 COLUMN_KINDS = ("continuous", "integer", "semi-continuous")
 _BOUNDS = ("fixed", "upper bound only", "lower bound only", "lower and upper bound", "free", "0 to infinity", "0 to 1")
 
-COLUMN_BOUNDS = ("0 to infinity", "0 to 1", "lower and upper bound", "lower bound only", "upper bound only", "fixed", "free")
+COLUMN_BOUNDS = (
+    "0 to infinity",
+    "0 to 1",
+    "lower and upper bound",
+    "lower bound only",
+    "upper bound only",
+    "fixed",
+    "free",
+)
 
 
 def contents_of(model: Model, arrays: Arrays) -> Contents:
@@ -93,7 +101,9 @@ def contents_of(model: Model, arrays: Arrays) -> Contents:
     coefficients, costs, limits, of_columns = _magnitudes(model, arrays)
     contents = Contents(
         row_kinds=Counter({ROW_KINDS[kind]: count for kind, count in Counter(row_kinds).items()}),
-        columns=Counter({(_BOUNDS[each], COLUMN_KINDS[kind]): count for (each, kind), count in Counter(zip(bounds, kinds)).items()}),
+        columns=Counter(
+            {(_BOUNDS[each], COLUMN_KINDS[kind]): count for (each, kind), count in Counter(zip(bounds, kinds)).items()}
+        ),
         coefficients=coefficients,
         costs=costs,
         limits=limits,

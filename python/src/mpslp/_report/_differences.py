@@ -7,14 +7,16 @@ from collections.abc import Iterable
 
 import mpslp
 from mpslp import _mpslp
+from mpslp._files._sources import Format
 from mpslp._report._markup import Markup, code, element, joined, many, table
 from mpslp._report._subjects import Subject
-from mpslp._sources import Format
 
 _MOST_SHOWN = 100
 _FORMATS: dict[int, Format] = {_mpslp.MPS: "mps", _mpslp.LP: "lp"}
 
-_READING = "A number of the first file -> that of the second one; - is what only the first has, + what only the second has."
+_READING = (
+    "A number of the first file -> that of the second one; - is what only the first has, + what only the second has."
+)
 
 # What the classes of differences are about.
 _SORTS = {
@@ -46,7 +48,13 @@ def differences(first: Subject, second: Subject, digits: int | None, by_position
         (
             element("p", f"The files define different models: {many(count, 'difference')}{compared}."),
             table(f"Differences of {first.label} and {second.label}", ["what", "differences"], lines),
-            element("details", element("summary", _shown(count, len(shown))), element("p", _READING, class_="soft"), element("ol", joined(shown, "\n")), open=""),
+            element(
+                "details",
+                element("summary", _shown(count, len(shown))),
+                element("p", _READING, class_="soft"),
+                element("ol", joined(shown, "\n")),
+                open="",
+            ),
         ),
         "\n",
     )

@@ -5,9 +5,9 @@ from __future__ import annotations
 from collections.abc import Iterator, Sequence
 from decimal import Context, Decimal
 
-from mpslp._numbers import EXACT
+from mpslp._models._numbers import EXACT
 from mpslp._report._contents import Extreme, Magnitudes
-from mpslp._report._markup import Markup, code, digits, element, joined, markup, table
+from mpslp._report._markup import Content, Heading, Markup, code, digits, element, joined, markup, table
 
 # What guides of solvers advise at most for the ratio of the largest to the smallest coefficient.
 _WIDE, _VERY_WIDE = Decimal("1e6", EXACT), Decimal("1e9", EXACT)
@@ -30,13 +30,21 @@ def histogram(caption: str, all_magnitudes: Sequence[Magnitudes]) -> Markup:
     rows = []
     for first, last in _lines(powers):
         what = f"1e{first}" if first == last else f"1e{first} to 1e{last}"
-        rows.append([markup(what), *(_bar(magnitudes.powers[first], top) for magnitudes, top in zip(all_magnitudes, most))])
+        rows.append(
+            [markup(what), *(_bar(magnitudes.powers[first], top) for magnitudes, top in zip(all_magnitudes, most))]
+        )
     zeros = [markup("zero"), *(_bar(magnitudes.zeros, 0) for magnitudes in all_magnitudes)]
-    return table(caption, ["power of ten", *(magnitudes.what for magnitudes in all_magnitudes)], rows, zeros, class_="histogram")
+    head: list[Content | Heading] = [
+        "power of ten",
+        *(Heading(magnitudes.what, "bars") for magnitudes in all_magnitudes),
+    ]
+    return table(caption, head, rows, zeros, class_="histogram")
 
 
 def _lines(powers: Sequence[int]) -> Iterator[tuple[int, int]]:
-    """The powers of ten from the largest to the smallest, each once, but a long run of those without numbers in one line."""
+    """The powers of ten from the largest to the smallest, each once, but a long run of those without numbers in one
+    line.
+    """
     before: int | None = None
     for power in powers:
         missing = range(power if before is None else before - 1, power, -1)
@@ -65,7 +73,9 @@ def extremes(caption: str, all_magnitudes: Sequence[Magnitudes]) -> Markup:
             ratio = _ratio(magnitudes.smallest, magnitudes.largest)
             cells = [*_cells(magnitudes.smallest), *_cells(magnitudes.largest), markup(_rounded(ratio))]
         rows.append([markup(magnitudes.what), markup(magnitudes.count), *cells])
-    return table(caption, ["numbers", "nonzero", "smallest", "where", "largest", "where", "ratio"], rows, words=(3, 5))
+    smallest, largest = Heading("smallest", "exact"), Heading("largest", "exact")
+    where = Heading("where", "words")
+    return table(caption, ["numbers", "nonzero", smallest, where, largest, where, "ratio"], rows)
 
 
 def _cells(extreme: Extreme) -> tuple[Markup, Markup]:
@@ -74,7 +84,11 @@ def _cells(extreme: Extreme) -> tuple[Markup, Markup]:
 
 def _rounded(number: Decimal) -> str:
     """A positive number with two digits or three, and without zeros at its end."""
-    return f"{float(number):.3g}" if Decimal("0.01") <= number < 999 else f"{number:.1e}".replace(".0e", "e").replace("e+", "e")
+    return (
+        f"{float(number):.3g}"
+        if Decimal("0.01") <= number < 999
+        else f"{number:.1e}".replace(".0e", "e").replace("e+", "e")
+    )
 
 
 def _ratio(smallest: Extreme, largest: Extreme) -> Decimal:
@@ -87,21 +101,30 @@ def remarks(coefficients: Magnitudes, costs: Magnitudes, limits: Magnitudes, bou
     yield from _of_range(costs)
     tiny = _count(coefficients, most=_TREATED_AS_0 - 1)
     if tiny:
-        yield markup(f"Coefficients of magnitude below 1e{_TREATED_AS_0}: {tiny:,}. Some solvers, such as HiGHS, treat them as 0.")
+        yield markup(
+            f"Coefficients of magnitude below 1e{_TREATED_AS_0}: {tiny:,}. Some solvers, such as HiGHS, treat them"
+            " as 0."
+        )
     huge = _count(coefficients, least=_REJECTED)
     if huge:
-        yield markup(f"Coefficients of magnitude 1e{_REJECTED} or more: {huge:,}. Some solvers, such as HiGHS, reject them.")
+        yield markup(
+            f"Coefficients of magnitude 1e{_REJECTED} or more: {huge:,}. Some solvers, such as HiGHS, reject them."
+        )
     for magnitudes in (limits, bounds):
         coarse = _count(magnitudes, least=_COARSE)
         if coarse:
             yield markup(
-                f"{_title(magnitudes)} of magnitude 1e{_COARSE} or more: {coarse:,}. Neighbouring doubles differ by more than 1e-6 there,"
-                " the usual tolerance of solvers. Leave out what is not meant as a limit, and use a larger unit for the rest."
+                f"{_title(magnitudes)} of magnitude 1e{_COARSE} or more: {coarse:,}. Neighbouring doubles differ by"
+                " more than 1e-6 there, the usual tolerance of solvers. Leave out what is not meant as a limit, and"
+                " use a larger unit for the rest."
             )
     for magnitudes in (coefficients, costs, limits, bounds):
         beyond = _count(magnitudes, most=_LEAST_OF_DOUBLES - 1) + _count(magnitudes, least=_MOST_OF_DOUBLES + 1)
         if beyond:
-            yield markup(f"{_title(magnitudes)} of a magnitude that no double has: {beyond:,}. Solvers read them as 0 or as infinity.")
+            yield markup(
+                f"{_title(magnitudes)} of a magnitude that no double has: {beyond:,}. Solvers read them as 0 or as"
+                " infinity."
+            )
 
 
 def _of_range(magnitudes: Magnitudes) -> Iterator[Markup]:
@@ -111,8 +134,9 @@ def _of_range(magnitudes: Magnitudes) -> Iterator[Markup]:
     if ratio > _WIDE:
         smallest, largest = (_rounded(each.number.copy_abs()) for each in (magnitudes.smallest, magnitudes.largest))
         yield markup(
-            f"{_title(magnitudes)}: the range is {'very wide' if ratio > _VERY_WIDE else 'wide'}, from {smallest} to {largest}."
-            " Guides of solvers advise a ratio of at most 1e6, or 1e9 at the utmost. Other units for rows or columns reduce it."
+            f"{_title(magnitudes)}: the range is {'very wide' if ratio > _VERY_WIDE else 'wide'}, from {smallest} to"
+            f" {largest}. Guides of solvers advise a ratio of at most 1e6, and never more than 1e9. Other units for"
+            " rows or columns reduce it."
         )
 
 

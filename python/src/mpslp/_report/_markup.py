@@ -6,12 +6,15 @@ import html
 import os
 from collections.abc import Iterable, Sequence
 from decimal import Decimal
-from typing import Union
+from typing import Literal, NamedTuple, TypeAlias
 
-from mpslp._numbers import number_text
+from mpslp._models._numbers import number_text
 
 MOST_NAMES = 8
 """So many names are listed; of the others only the number."""
+
+# Nothing is fetched, whatever a name may contain: images are within the page.
+_POLICY = "default-src 'none'; img-src data:; style-src 'unsafe-inline'"
 
 
 class Markup(str):
@@ -20,7 +23,7 @@ class Markup(str):
     __slots__ = ()
 
 
-Content = Union[str, int]
+Content = str | int
 """A piece of HTML, or text, or a count."""
 
 
@@ -40,7 +43,9 @@ def joined(contents: Iterable[Content], between: str = "") -> Markup:
 
 def element(tag: str, *contents: Content, **attributes: Content) -> Markup:
     """An element with its contents; an attribute whose word Python keeps for itself is given as ``class_``."""
-    given = "".join(f' {name.rstrip("_").replace("_", "-")}="{markup(str(value))}"' for name, value in attributes.items())
+    given = "".join(
+        f' {name.rstrip("_").replace("_", "-")}="{markup(str(value))}"' for name, value in attributes.items()
+    )
     return Markup(f"<{tag}{given}>{joined(contents)}</{tag}>")
 
 
@@ -69,52 +74,81 @@ def path_text(path: str | bytes | os.PathLike[str] | os.PathLike[bytes]) -> str:
     return os.fsencode(path).decode("utf-8", "backslashreplace")
 
 
-def names(found: Sequence[str]) -> Markup:
+def names(found: Sequence[str], most: int = MOST_NAMES) -> Markup:
     """The first names of a list, and how many others there are."""
-    shown = joined(map(code, found[:MOST_NAMES]), ", ")
-    others = len(found) - MOST_NAMES
+    shown = joined(map(code, found[:most]), ", ")
+    others = len(found) - most
     return joined((shown, f" and {others:,} more")) if others > 0 else shown
+
+
+ColumnSort: TypeAlias = Literal["name", "words", "formula", "count", "exact", "bars"]
+"""What a column of a table has. All columns of a sort begin with the same width, so that tables can be compared."""
+
+
+_NUMBERS = ("count", "exact", "bars")
+
+
+class Heading(NamedTuple):
+    """The heading of a column that has no counts."""
+
+    content: Content
+    sort: ColumnSort
 
 
 def table(
     caption: Content,
-    head: Sequence[Content],
+    head: Sequence[Content | Heading],
     rows: Iterable[Sequence[Content]],
     total: Sequence[Content] = (),
-    words: Sequence[int] = (),
     class_: str = "plain",
 ) -> Markup:
     """A table whose first column heads its rows, with a row of totals if there is one.
 
-    Numbers are on the right; ``words`` are the columns that have words.
+    A heading that is content is that of names in the first column, and that of counts in the others.
     """
-    left = {0, *words}
+    headings = [_heading(place, given) for place, given in enumerate(head)]
+    attributes = [{"class_": "number"} if each.sort in _NUMBERS else {} for each in headings]
 
     def cell(place: int, content: Content) -> Markup:
         if place == 0:
             return element("th", content, scope="row")
-        if place in left:
-            return element("td", content)
-        return element("td", content, class_="number" if content != 0 else "number zero")
-
-    def heading(place: int, content: Content) -> Markup:
-        return element("th", content, scope="col") if place in left else element("th", content, scope="col", class_="number")
+        is_zero = content == 0 and attributes[place]
+        return element("td", content, **({"class_": "number zero"} if is_zero else attributes[place]))
 
     def line(row: Sequence[Content]) -> Markup:
         return element("tr", *(cell(place, content) for place, content in enumerate(row)))
 
+    columns = (element("th", each.content, scope="col", **given) for each, given in zip(headings, attributes))
     return element(
         "div",
         element(
             "table",
             element("caption", caption),
-            element("thead", element("tr", *(heading(place, content) for place, content in enumerate(head)))),
+            element("colgroup", *(Markup(f'<col class="{each.sort}">') for each in headings)),
+            element("thead", element("tr", *columns)),
             element("tbody", joined(map(line, rows), "\n")),
             element("tfoot", line(total)) if total else Markup(),
             class_=class_,
         ),
         class_="wide",
     )
+
+
+def _heading(place: int, given: Content | Heading) -> Heading:
+    return given if isinstance(given, Heading) else Heading(given, "count" if place else "name")
+
+
+def document(title: str, style: str, body: Iterable[Content]) -> str:
+    """A whole page, which has everything within it."""
+    head = element(
+        "head",
+        Markup('<meta charset="utf-8">'),
+        Markup(f'<meta http-equiv="Content-Security-Policy" content="{_POLICY}">'),
+        Markup('<meta name="viewport" content="width=device-width, initial-scale=1">'),
+        element("title", title),
+        element("style", Markup(style)),
+    )
+    return f'<!DOCTYPE html>\n<html lang="en">\n{head}\n{element("body", joined(body, chr(10)))}\n</html>\n'
 
 
 def section(name: str, heading: Content, *contents: Content) -> Markup:
@@ -126,4 +160,6 @@ def _printable(text: str) -> str:
     """Text in which what has no picture, as a control character or a change of direction, is written as an escape."""
     if text.isprintable():
         return text
-    return "".join(each if each.isprintable() or each == "\n" else each.encode("unicode_escape").decode() for each in text)
+    return "".join(
+        each if each.isprintable() or each == "\n" else each.encode("unicode_escape").decode() for each in text
+    )

@@ -11,10 +11,10 @@ from itertools import chain
 from math import ceil, log
 from typing import NamedTuple
 
-from mpslp._arrays import Arrays
-from mpslp._models import Model
-from mpslp._numbers import number_text
-from mpslp._positions import Names
+from mpslp._models._arrays import Arrays
+from mpslp._models._model import Model
+from mpslp._models._numbers import number_text
+from mpslp._models._positions import Names
 from mpslp._report._markup import Markup, element, joined, many
 
 MOST_LABELLED = 40
@@ -129,7 +129,9 @@ def _squares(matrix: Matrix, left: float, top: float) -> Iterator[Markup]:
 def _sampled(matrix: Matrix) -> tuple[_Drawing, str]:
     rows, columns = len(matrix.rows), len(matrix.columns)
     ratio = min(max(columns / rows, 1 / _MOST_HIGH), _MOST_WIDE)
-    width, height = (_LONGEST_SIDE, round(_LONGEST_SIDE / ratio)) if ratio >= 1 else (round(_LONGEST_SIDE * ratio), _LONGEST_SIDE)
+    width, height = (
+        (_LONGEST_SIDE, round(_LONGEST_SIDE / ratio)) if ratio >= 1 else (round(_LONGEST_SIDE * ratio), _LONGEST_SIDE)
+    )
     cells = cells_of(matrix, min(columns, width), min(rows, height))
     image = element(
         "image",
@@ -171,7 +173,9 @@ def cells_of(matrix: Matrix, width: int, height: int) -> Cells:
     for x in range(width):
         # The columns whose place times width, divided by the number of columns, is x.
         end = -(-columns * (x + 1) // width)
-        rows_of = chain.from_iterable(indices[starts[number] : starts[number + 1]] for number in matrix.column_numbers[first:end])
+        rows_of = chain.from_iterable(
+            indices[starts[number] : starts[number + 1]] for number in matrix.column_numbers[first:end]
+        )
         counts.append(Counter(map(cell_of_row.__getitem__, rows_of)))
         first = end
     return Cells(width, height, counts)

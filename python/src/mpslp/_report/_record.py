@@ -8,7 +8,7 @@ from collections import Counter
 from collections.abc import Iterator
 from typing import Any
 
-from mpslp._numbers import number_text
+from mpslp._models._numbers import number_text
 from mpslp._report._contents import Contents, Extreme, Lengths, Magnitudes
 from mpslp._report._differences import found_differences
 from mpslp._report._markup import Content
@@ -46,7 +46,8 @@ def _record(subject: Subject) -> dict[str, Any]:
         "magnitudes": {each.what: _magnitudes(each) for each in contents.magnitudes},
         "remarks": [{"section": each.section, "text": _plain(each.what)} for each in remarks(subject)],
         "rules": [
-            {"what": _plain(each.what), "number": each.number, "effect": _plain(each.effect)} for each in rules_of(subject.declared, model, contents)
+            {"what": _plain(each.what), "number": each.number, "effect": _plain(each.effect)}
+            for each in rules_of(subject.declared, model, contents)
         ],
     }
 
@@ -59,7 +60,13 @@ def _column_kinds(contents: Contents) -> Iterator[dict[str, Any]]:
 def _lengths(lengths: Lengths | None) -> dict[str, Any] | None:
     if lengths is None:
         return None
-    return {"least": lengths.least, "median": lengths.median, "most": lengths.most, "longest": lengths.longest, "empty": len(lengths.empty)}
+    return {
+        "least": lengths.least,
+        "median": lengths.median,
+        "most": lengths.most,
+        "longest": lengths.longest,
+        "empty": len(lengths.empty),
+    }
 
 
 def _magnitudes(magnitudes: Magnitudes) -> dict[str, Any]:

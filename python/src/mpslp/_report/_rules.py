@@ -6,7 +6,7 @@ from collections import defaultdict
 from collections.abc import Iterator
 from typing import NamedTuple
 
-from mpslp._models import Model
+from mpslp._models._model import Model
 from mpslp._report._contents import Contents
 from mpslp._report._declared import BOTH, LOWER, UPPER, Declared
 from mpslp._report._markup import Content, code, digits, joined, names
@@ -72,7 +72,12 @@ def _of_mps(declared: Declared, model: Model) -> Iterator[Rule]:
         yield Rule("N rows other than the objective", len(free), joined(("kept as free rows: ", names(free))))
     ignored = [row for row in free if row in declared.with_rhs]
     if ignored:
-        yield Rule("N rows with a number in RHS", len(ignored), joined(("the number is ignored: ", names(ignored))), is_remark=True)
+        yield Rule(
+            "N rows with a number in RHS",
+            len(ignored),
+            joined(("the number is ignored: ", names(ignored))),
+            is_remark=True,
+        )
     without = len(declared.row_types) - len(free) - len(declared.with_rhs) + len(ignored)
     if without:
         yield Rule("rows without a number in RHS", without, "the right-hand side is 0")
@@ -120,33 +125,62 @@ def _of_lp(declared: Declared, model: Model) -> Iterator[Rule]:
         yield Rule("no label on the objective", None, joined(("its name is ", code(model.objective))))
     unlabelled = len(model.rows) - declared.labels
     if unlabelled:
-        yield Rule("rows without a label", unlabelled, joined(("named ", code("c"), " and the position among all rows")), is_remark=bool(declared.labels))
+        yield Rule(
+            "rows without a label",
+            unlabelled,
+            joined(("named ", code("c"), " and the position among all rows")),
+            is_remark=bool(declared.labels),
+        )
     yield from _infinite_sides(declared, "sides of rows that are inf, or of magnitude 1e20 or more")
     if declared.binaries:
-        yield Rule("columns under Binaries", len(declared.binaries), "integer; the bounds that are not given are 0 and 1")
+        yield Rule(
+            "columns under Binaries", len(declared.binaries), "integer; the bounds that are not given are 0 and 1"
+        )
 
 
 def _infinite_sides(declared: Declared, what: str) -> Iterator[Rule]:
     if declared.infinite_sides:
-        yield Rule(what, declared.infinite_sides, "no limit: a row without another one is free", is_remark=declared.is_mps)
+        yield Rule(
+            what, declared.infinite_sides, "no limit: a row without another one is free", is_remark=declared.is_mps
+        )
 
 
 def _of_columns(declared: Declared, contents: Contents) -> Iterator[Rule]:
     with_upper_1 = declared.columns_with_upper_1()
     unit = [column for column in declared.marked if column in with_upper_1]
     if unit:
-        yield Rule("columns between markers without a bound", len(unit), joined(("the bounds are 0 and 1: ", names(unit))), is_remark=True)
+        yield Rule(
+            "columns between markers without a bound",
+            len(unit),
+            joined(("the bounds are 0 and 1: ", names(unit))),
+            is_remark=True,
+        )
     open_ended = [column for column in declared.marked if declared.bounds.get(column) == LOWER]
     if open_ended:
-        yield Rule("columns between markers with a lower bound only", len(open_ended), joined(("no upper bound: ", names(open_ended))), is_remark=True)
+        yield Rule(
+            "columns between markers with a lower bound only",
+            len(open_ended),
+            joined(("no upper bound: ", names(open_ended))),
+            is_remark=True,
+        )
     zero = [column for column in contents.fixed_at_0 if declared.bounds.get(column) == UPPER]
     if zero:
-        yield Rule("upper bounds of 0 without a lower bound", len(zero), joined(("fixed at 0: ", names(zero))), is_remark=True)
+        yield Rule(
+            "upper bounds of 0 without a lower bound", len(zero), joined(("fixed at 0: ", names(zero))), is_remark=True
+        )
     if contents.negative_upper:
         found = contents.negative_upper
-        yield Rule("upper bounds below 0", len(found), joined(("each has its lower bound in the file, as is required: ", names(found))))
+        yield Rule(
+            "upper bounds below 0",
+            len(found),
+            joined(("each has its lower bound in the file, as is required: ", names(found))),
+        )
     if declared.infinite_bounds:
-        what = "bounds of magnitude 1e20 or more" if declared.is_mps else "bounds that are inf, or of magnitude 1e20 or more"
+        what = (
+            "bounds of magnitude 1e20 or more"
+            if declared.is_mps
+            else "bounds that are inf, or of magnitude 1e20 or more"
+        )
         yield Rule(what, declared.infinite_bounds, "infinite: no bound")
 
 
@@ -155,7 +189,12 @@ def _of_both(declared: Declared, model: Model, contents: Contents) -> Iterator[R
     if zeros:
         yield Rule("coefficients of 0", zeros, "accepted, and not part of the model")
     if contents.unused:
-        yield Rule("columns without a coefficient", len(contents.unused), joined(("part of the model: ", names(contents.unused))), is_remark=True)
+        yield Rule(
+            "columns without a coefficient",
+            len(contents.unused),
+            joined(("part of the model: ", names(contents.unused))),
+            is_remark=True,
+        )
     if declared.problem:
         yield Rule(joined(("the problem name ", code(declared.problem))), None, "not part of the model")
     if declared.goes_on:

@@ -6,17 +6,31 @@ from collections.abc import Callable, Iterator, Sequence
 from typing import NamedTuple
 
 from mpslp import _mpslp
-from mpslp._positions import names_by_position
 from mpslp._report._contents import COLUMN_BOUNDS, COLUMN_KINDS, ROW_KINDS, Lengths
+from mpslp._report._formulas import MOST_ROWS, bounds_as_formulas, rows_as_formulas
 from mpslp._report._magnitudes import extremes, histogram
 from mpslp._report._magnitudes import remarks as remarks_on_magnitudes
-from mpslp._report._markup import Content, Markup, code, digits, element, joined, link, many, markup, names, table
+from mpslp._report._markup import (
+    Content,
+    Heading,
+    Markup,
+    code,
+    digits,
+    element,
+    joined,
+    link,
+    many,
+    markup,
+    names,
+    table,
+)
 from mpslp._report._picture import matrix_of, picture
 from mpslp._report._rules import given_bounds, rules_of
 from mpslp._report._subjects import Subject
 
 HEADINGS = {
     "differences": "Differences",
+    "formulas": "Formulas",
     "remarks": "Remarks",
     "counts": "Counts",
     "magnitudes": "Magnitudes",
@@ -47,7 +61,9 @@ def remarks(subject: Subject) -> Iterator[Remark]:
         yield Remark("counts", joined((f"Rows without a nonzero ({len(empty):,}): ", names(empty), ".")))
     if subject.model.rows and contents.only_costs:
         found = contents.only_costs
-        yield Remark("counts", joined((f"Columns that are only in the objective ({len(found):,}): ", names(found), ".")))
+        yield Remark(
+            "counts", joined((f"Columns that are only in the objective ({len(found):,}): ", names(found), "."))
+        )
     for remark in remarks_on_magnitudes(*contents.magnitudes):
         yield Remark("magnitudes", remark)
     for rule in rules_of(subject.declared, subject.model, contents):
@@ -72,25 +88,45 @@ def remark_list(subjects: Sequence[Subject]) -> Markup:
     return element("ul", *lines, class_="remarks")
 
 
+def model_formulas(subjects: Sequence[Subject]) -> Markup:
+    """The models as formulas; nothing if all are too large."""
+    small = [subject for subject in subjects if len(subject.model.rows) <= MOST_ROWS]
+    return _beside(
+        *(rows_as_formulas(each.model, each.order, _caption(subjects, each)) for each in small),
+        *(bounds_as_formulas(each.model, each.order, _caption(subjects, each)) for each in small),
+    )
+
+
 def counts(subjects: Sequence[Subject]) -> Markup:
     """How many rows, columns and nonzeros there are, and of which kinds."""
-    rows = _compared("Rows by kind", ["rows", "count"], subjects, _row_kinds, has_total=True)
-    groups = [[_column_kinds(subjects, subject), _lengths(subjects, subject)] for subject in subjects]
-    groups[:1] = [[rows, *groups[0]]] if len(subjects) == 1 else [[rows], groups[0]]
-    facts = _compared("The model", ["property", "value"], subjects, _facts, is_words=True)
-    return joined((facts, *(element("div", *group, class_="flow") for group in groups)), "\n")
+    facts = _compared("The model", "property", Heading("value", "words"), subjects, _facts)
+    rows = _compared("Rows by kind", "rows", "count", subjects, _row_kinds, has_total=True)
+    of_columns = [_column_kinds(subjects, subject) for subject in subjects]
+    lengths = [_lengths(subjects, subject) for subject in subjects]
+    if len(subjects) == 1:
+        return _beside(facts, *of_columns, rows, *lengths)
+    return joined((facts, rows, _beside(*of_columns, *lengths)), "\n")
 
 
 def magnitudes(subjects: Sequence[Subject]) -> Markup:
     """The magnitudes of all numbers."""
     note = (
-        "The line 1e3 counts the numbers from 1000 to below 10000, by their absolute value. A row limit or a column bound that is infinite is left out."
+        "The line 1e3 counts the numbers from 1000 to below 10000, by their absolute value. "
+        "A row limit or a column bound that is infinite is left out."
     )
     return joined(
         (
             element("p", note, class_="soft"),
-            *(extremes(_caption("Smallest and largest numbers", subjects, subject), subject.contents.magnitudes) for subject in subjects),
-            *(histogram(_caption("How many numbers have each power of ten", subjects, subject), subject.contents.magnitudes) for subject in subjects),
+            *(
+                extremes(f"Smallest and largest numbers{_caption(subjects, subject)}", subject.contents.magnitudes)
+                for subject in subjects
+            ),
+            *(
+                histogram(
+                    f"How many numbers have each power of ten{_caption(subjects, subject)}", subject.contents.magnitudes
+                )
+                for subject in subjects
+            ),
         ),
         "\n",
     )
@@ -98,22 +134,35 @@ def magnitudes(subjects: Sequence[Subject]) -> Markup:
 
 def pictures(subjects: Sequence[Subject]) -> Markup:
     """Where the nonzeros are."""
-    return element("div", *(_picture(subject, number) for number, subject in enumerate(subjects, 1)), class_="flow pictures")
+    return element("div", *(_picture(subject, number) for number, subject in enumerate(subjects, 1)), class_="pictures")
 
 
 def defaults(subjects: Sequence[Subject]) -> Markup:
     """What the files leave to defaults."""
-    return joined((each for subject in subjects for each in (_given_bounds(subjects, subject), _rules(subjects, subject))), "\n")
+    return joined(
+        (each for subject in subjects for each in (_given_bounds(subjects, subject), _rules(subjects, subject))), "\n"
+    )
 
 
 def summary(subject: Subject) -> Markup:
     """A sentence about a file."""
     model, contents = subject.model, subject.contents
     whole = sum(count for (_, kind), count in contents.columns.items() if kind == "integer")
-    rows, columns, nonzeros = many(len(model.rows), "row"), many(len(model.columns), "column"), many(contents.coefficients.count, "nonzero")
+    rows, columns, nonzeros = (
+        many(len(model.rows), "row"),
+        many(len(model.columns), "column"),
+        many(contents.coefficients.count, "nonzero"),
+    )
     columns += f", {whole:,} of them integer," if whole else ""
     text = f" ({_FORMATS[subject.text.format]}, {len(subject.text.content):,} bytes): {model.sense} "
-    return element("p", code(subject.path), text, code(model.objective), f" over {columns} in {rows} with {nonzeros}.", class_="soft")
+    return element(
+        "p",
+        code(subject.path),
+        text,
+        code(model.objective),
+        f" over {columns} in {rows} with {nonzeros}.",
+        class_="soft",
+    )
 
 
 def _facts(subject: Subject) -> Lines:
@@ -125,7 +174,7 @@ def _facts(subject: Subject) -> Lines:
         ("rows", len(model.rows)),
         ("columns", len(model.columns)),
         ("nonzeros", counted),
-        ("share of all places", f"{100 * counted / places:.3g} %" if places else "no places"),
+        ("density", f"{100 * counted / places:.3g} %" if places else "no rows or no columns"),
         ("SHA-256 of the canonical MPS text", code(subject.digest)),
     )
 
@@ -144,7 +193,8 @@ def _column_kinds(subjects: Sequence[Subject], subject: Subject) -> Markup:
             lines.append([bounds, *found, sum(found)])
     totals = [sum(count for (_, each), count in columns.items() if each == kind) for kind in COLUMN_KINDS]
     total: list[Content] = ["all columns", *totals, sum(totals)]
-    return table(_caption("Columns by bounds and type", subjects, subject), ["bounds", *COLUMN_KINDS, "all"], lines, total)
+    caption = f"Columns by bounds and type{_caption(subjects, subject)}"
+    return table(caption, ["bounds", *COLUMN_KINDS, "all"], lines, total)
 
 
 def _lengths(subjects: Sequence[Subject], subject: Subject) -> Markup:
@@ -161,7 +211,8 @@ def _lengths(subjects: Sequence[Subject], subject: Subject) -> Markup:
         line("with no nonzero", lambda lengths: len(lengths.empty)),
         line("with one nonzero", lambda lengths: lengths.singles),
     )
-    return table(_caption("Nonzeros of rows and columns", subjects, subject), ["nonzeros", "of a row", "of a column"], lines)
+    caption = f"Nonzeros of rows and columns{_caption(subjects, subject)}"
+    return table(caption, ["nonzeros", "of a row", "of a column"], lines)
 
 
 def _picture(subject: Subject, number: int) -> Markup:
@@ -169,46 +220,69 @@ def _picture(subject: Subject, number: int) -> Markup:
     if not rows:
         return element("p", f"{subject.label} has no rows, so there is no picture.")
     title = f"Nonzeros of {subject.label}: {many(rows, 'row')}, {many(columns, 'column')}, {many(counted, 'nonzero')}"
-    return picture(matrix_of(subject.model, subject.arrays, names_by_position(subject.text, subject.model)), title, number)
+    return picture(matrix_of(subject.model, subject.arrays, subject.order), title, number)
 
 
 def _given_bounds(subjects: Sequence[Subject], subject: Subject) -> Markup:
-    lines = [(each.given, each.bounds, len(each.columns), names(each.columns)) for each in given_bounds(subject.declared, subject.model)]
-    caption = _caption("Column bounds that the file gives", subjects, subject)
-    return table(caption, ["given in the file", "bounds of the model", "columns", "which"], lines, words=(1, 3))
+    lines = [
+        (each.given, each.bounds, len(each.columns), names(each.columns))
+        for each in given_bounds(subject.declared, subject.model)
+    ]
+    caption = f"Column bounds that the file gives{_caption(subjects, subject)}"
+    head: list[Content | Heading] = [
+        "given in the file",
+        Heading("bounds of the model", "words"),
+        "columns",
+        Heading("which", "words"),
+    ]
+    return table(caption, head, lines)
 
 
 def _rules(subjects: Sequence[Subject], subject: Subject) -> Markup:
     rules = rules_of(subject.declared, subject.model, subject.contents)
+    of_file = _caption(subjects, subject)
     if not rules:
-        return element("p", _caption("No other rule of the format changes what the file says", subjects, subject), ".")
-    lines: list[list[Content]] = [[rule.what, Markup() if rule.number is None else rule.number, rule.effect] for rule in rules]
-    return table(_caption("Rules that apply to the file", subjects, subject), ["in the file", "count", "in the model"], lines, words=(2,))
+        return element("p", f"No other rule of the format changes what the file says{of_file}.")
+    lines: list[list[Content]] = [
+        [rule.what, Markup() if rule.number is None else rule.number, rule.effect] for rule in rules
+    ]
+    head: list[Content | Heading] = [Heading("in the file", "words"), "count", Heading("in the model", "words")]
+    return table(f"Rules that apply to the file{of_file}", head, lines)
 
 
 def _compared(
     caption: str,
-    head: Sequence[Content],
+    what: str,
+    heading: str | Heading,
     subjects: Sequence[Subject],
     lines_of: Callable[[Subject], Lines],
-    is_words: bool = False,
     has_total: bool = False,
 ) -> Markup:
-    """A table of one file, whose head is given; or of two, with a column that says where they differ. The last line may be a total."""
+    """A table of one file, whose values have this heading; or of two, with a column that says where they differ.
+
+    The last line may be a total.
+    """
     lines: list[list[Content]] = []
     for cells in zip(*map(lines_of, subjects)):
         values = [value for _, value in cells]
         differs = [element("b", "differs") if len(set(values)) > 1 else Markup()] if len(subjects) > 1 else []
         lines.append([cells[0][0], *values, *differs])
-    if len(subjects) > 1:
-        head = [head[0], *(element("span", subject.label, class_="label") for subject in subjects), "comparison"]
-    last = len(subjects) + 1
     total = lines.pop() if has_total else ()
-    return table(caption, head, lines, total, words=range(1, last + 1) if is_words else (last,))
+    if len(subjects) == 1:
+        return table(caption, [what, heading], lines, total)
+    files = (Heading(subject.label, "words") for subject in subjects)
+    return table(caption, [what, *files, Heading("comparison", "words")], lines, total)
 
 
-def _caption(words: str, subjects: Sequence[Subject], subject: Subject) -> str:
-    return words if len(subjects) == 1 else f"{words}: {subject.label}"
+def _beside(*contents: Content) -> Markup:
+    """Tables beside each other where there is room; nothing if there are none."""
+    found = [element("div", each) for each in contents if each]
+    return element("div", *found, class_="beside") if found else Markup()
+
+
+def _caption(subjects: Sequence[Subject], subject: Subject) -> str:
+    """The end of the caption of a table: the file, if there are two."""
+    return "" if len(subjects) == 1 else f": {subject.label}"
 
 
 def _capital(content: Content) -> Markup:

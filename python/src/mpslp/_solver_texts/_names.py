@@ -2,16 +2,12 @@
 
 from __future__ import annotations
 
-import re
-
-from mpslp._adapt._names import is_lp_name
 from mpslp._solver_texts._solvers import Language
+from mpslp._text._names import is_lp_name
 
 _ROOM = 12
 """What is left for a number after a name that is cut."""
 _REPLACED = str.maketrans("[]", "()")
-_OTHERS = re.compile(r"[^A-Za-z0-9.!\"#%&(),;?@_'`{}~]")
-"""The bytes that are not in the names of all languages."""
 
 
 def is_read(name: str, language: Language) -> bool:
@@ -23,5 +19,5 @@ def is_read(name: str, language: Language) -> bool:
 
 def readable_name(name: str, language: Language) -> str:
     """A name that is read, and looks like the one given. Names that are different may become the same."""
-    text = _OTHERS.sub("_", name.translate(_REPLACED))[: language.most_bytes - _ROOM]
+    text = language.replaced.sub("_", name.translate(_REPLACED))[: language.most_bytes - _ROOM]
     return text if is_read(text, language) else f"_{text}"

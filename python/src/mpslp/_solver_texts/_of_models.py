@@ -2,20 +2,20 @@
 
 # Apart from the other modules, which tests without the library use too.
 
-from typing import Optional
 
-from mpslp._models import Model, dumps
+from mpslp._models._model import Model, dumps
 from mpslp._solver_texts._call import SolverError, SolverName, SolverText, solver_text
 from mpslp._solver_texts._solvers import TextFormat
 
 __all__ = ["SolverError", "SolverText", "text_for"]
 
 
-def text_for(model: Model, solver: SolverName, format: Optional[TextFormat] = None) -> SolverText:
+def text_for(model: Model, solver: SolverName, format: TextFormat | None = None) -> SolverText:
     """Returns the text that a solver reads as the model, with warnings for what it does not hold.
 
-    Without a format, the text is in the first one of the solver that holds the model. The text is read back and compared with
-    the model before it is returned.
+    ``names`` of the text has the names that are other ones in it, with what is written for them. Without a format, the
+    text is in the first one of the solver that holds the model. The text is read back and compared with the model
+    before it is returned.
 
     Raises SolverError where the solver would find another optimum.
 

@@ -5,18 +5,17 @@ from __future__ import annotations
 from collections.abc import Callable, Iterator
 from dataclasses import dataclass, field
 from decimal import Decimal
-from typing import Optional
 
-from mpslp._numbers import EXACT, ZERO
+from mpslp._models._numbers import EXACT, ZERO
 
 
 @dataclass
 class Row:
     """The limits of a row; None is infinite. The range of a ranged row is its upper limit minus its lower one."""
 
-    lower: Optional[Decimal] = None
-    upper: Optional[Decimal] = None
-    range: Optional[Decimal] = None
+    lower: Decimal | None = None
+    upper: Decimal | None = None
+    range: Decimal | None = None
 
     @property
     def is_ranged(self) -> bool:
@@ -29,8 +28,8 @@ class Column:
 
     is_integer: bool = False
     is_semi_continuous: bool = False
-    lower: Optional[Decimal] = ZERO
-    upper: Optional[Decimal] = None
+    lower: Decimal | None = ZERO
+    upper: Decimal | None = None
     cost: Decimal = ZERO
     entries: dict[str, Decimal] = field(default_factory=dict)
 
@@ -68,7 +67,12 @@ class _Lines:
         self.model = Model()
         self._is_integer = False
         takes: dict[str, Callable[..., None]] = {
-            "OBJSENSE": self._sense, "ROWS": self._row, "COLUMNS": self._entry, "RHS": self._side, "RANGES": self._range, "BOUNDS": self._bound,
+            "OBJSENSE": self._sense,
+            "ROWS": self._row,
+            "COLUMNS": self._entry,
+            "RHS": self._side,
+            "RANGES": self._range,
+            "BOUNDS": self._bound,
         }
         take = self._sense
         for line in text.splitlines():

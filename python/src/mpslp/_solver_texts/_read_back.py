@@ -1,14 +1,15 @@
-"""Reads a text as its solver reads it, and compares what it says with the model: a second look that shares nothing with the writers."""
+"""Reads a text as its solver reads it, and compares what it says with the model: a second look that shares nothing with
+the writers.
+"""
 
 from __future__ import annotations
 
 import re
 from collections.abc import Callable, Iterator, Mapping
 from dataclasses import dataclass, field
-from decimal import Decimal
-from typing import Optional
+from decimal import ROUND_CEILING, ROUND_FLOOR, Decimal
 
-from mpslp._numbers import EXACT, INFINITY, MINUS_INFINITY, ONE, ZERO
+from mpslp._models._numbers import EXACT, INFINITY, MINUS_INFINITY, ONE, ZERO
 from mpslp._solver_texts._solvers import Constant, Language, TextFormat
 
 _MPSLP = Language("mps", Constant.NEGATED, Constant.NEGATED)
@@ -17,7 +18,9 @@ _ULPS = 8 * 2.0**-53
 
 @dataclass
 class Said:
-    """What a text says: limits and bounds by names, kinds by names, and coefficients by rows and columns; the objective is a row."""
+    """What a text says: limits and bounds by names, kinds by names, and coefficients by rows and columns; the objective
+    is a row.
+    """
 
     objective: str = ""
     is_maximised: bool = False
@@ -95,14 +98,22 @@ def _mps(text: str, language: Language) -> Said:
 
 
 def _limits_of(letter: str, side: Decimal) -> tuple[Decimal, Decimal]:
-    return {"N": (MINUS_INFINITY, INFINITY), "L": (MINUS_INFINITY, side), "G": (side, INFINITY), "E": (side, side)}[letter]
+    return {"N": (MINUS_INFINITY, INFINITY), "L": (MINUS_INFINITY, side), "G": (side, INFINITY), "E": (side, side)}[
+        letter
+    ]
 
 
 def _mps_bound(said: Said, fields: list[str]) -> None:
     letters, name, number = fields[0], fields[2], Decimal((fields[3:] or ["0"])[0])
     lower, upper = said.bounds[name]
     said.bounds[name] = {
-        "FX": (number, number), "FR": (MINUS_INFINITY, INFINITY), "MI": (MINUS_INFINITY, upper), "PL": (lower, INFINITY), "LO": (number, upper), "UP": (lower, number), "SC": (lower, number),
+        "FX": (number, number),
+        "FR": (MINUS_INFINITY, INFINITY),
+        "MI": (MINUS_INFINITY, upper),
+        "PL": (lower, INFINITY),
+        "LO": (number, upper),
+        "UP": (lower, number),
+        "SC": (lower, number),
     }[letters]
     if letters == "SC":
         said.kinds[name] = "semi-continuous"
@@ -112,7 +123,15 @@ def _mps_bound(said: Said, fields: list[str]) -> None:
 
 _TOKEN = re.compile(r"\S+")
 _NUMBER = re.compile(r"[-+]?(?:\d+(?:\.\d*)?|\.\d+)(?:[eE][-+]?\d+)?")
-_KEYWORDS = {"Minimize": "", "Maximize": "", "Subject To": "rows", "Bounds": "bounds", "Generals": "integer", "Semi-Continuous": "semi-continuous", "End": "end"}
+_KEYWORDS = {
+    "Minimize": "",
+    "Maximize": "",
+    "Subject To": "rows",
+    "Bounds": "bounds",
+    "Generals": "integer",
+    "Semi-Continuous": "semi-continuous",
+    "End": "end",
+}
 
 
 def _lp(text: str, language: Language) -> Said:
@@ -226,7 +245,14 @@ def _glp(text: str, language: Language) -> Said:
 def _glp_limits(words: list[str]) -> tuple[Decimal, Decimal]:
     letter, *numbers = words
     values = list(map(Decimal, numbers))
-    return {"f": (MINUS_INFINITY, INFINITY), "l": (*values, INFINITY), "u": (MINUS_INFINITY, *values), "d": tuple(values), "s": (*values, *values)}[letter]  # type: ignore[return-value]
+    lower, upper = {
+        "f": (MINUS_INFINITY, INFINITY),
+        "l": (*values, INFINITY),
+        "u": (MINUS_INFINITY, *values),
+        "d": tuple(values),
+        "s": (*values, *values),
+    }[letter]
+    return lower, upper
 
 
 _READERS: Mapping[TextFormat, Callable[[str, Language], Said]] = {"mps": _mps, "lp": _lp, "glp": _glp}
@@ -237,19 +263,26 @@ _READERS: Mapping[TextFormat, Callable[[str, Language], Said]] = {"mps": _mps, "
 
 @dataclass(frozen=True)
 class Added:
-    """What a text has beside the model: the column of the constant, columns for the values of ranged rows, and a row."""
+    """What a text has beside the model: the column of the constant, columns for the values of
+    ranged rows, and a row.
+    """
 
-    constant: Optional[str] = None
+    constant: str | None = None
     values: Mapping[str, str] = field(default_factory=dict)
-    row: Optional[str] = None
+    row: str | None = None
     are_continuous: frozenset[str] = frozenset()
     """Semi-continuous columns that are written as continuous, as their lower bound is 0."""
+    have_whole_bounds: frozenset[str] = frozenset()
+    """Integer columns whose bounds are rounded inwards."""
     renamed: Mapping[str, str] = field(default_factory=dict)
     """The names of the model by those of the text that replace them."""
 
 
 def differences(model: Said, text: Said, added: Added, is_exact: bool) -> Iterator[str]:
-    """In what a text differs from a model once what was added is taken away. Rounded numbers differ by rounding only."""
+    """In what a text differs from a model once what was added is taken away.
+
+    Rounded numbers differ by rounding only.
+    """
     for reason in _take_away(text, added):
         yield reason
         return
@@ -258,6 +291,11 @@ def differences(model: Said, text: Said, added: Added, is_exact: bool) -> Iterat
         column = added.renamed.get(written, written)
         if model.bounds[column][0] == 0:
             model.kinds[column] = "continuous"
+    for written in added.have_whole_bounds:
+        column = added.renamed.get(written, written)
+        if model.kinds[column] == "integer":
+            lower, upper = model.bounds[column]
+            model.bounds[column] = lower.to_integral_value(ROUND_CEILING), upper.to_integral_value(ROUND_FLOOR)
     if (model.objective, model.is_maximised) != (text.objective, text.is_maximised):
         yield "the objective, or its sense"
     is_same = _is_equal if is_exact else _is_near
@@ -275,7 +313,11 @@ def differences(model: Said, text: Said, added: Added, is_exact: bool) -> Iterat
     if set(model.coefficients) != set(text.coefficients):
         yield "the places of the coefficients"
         return
-    yield from (f"coefficient of {column} in {row}" for (row, column), number in model.coefficients.items() if not is_same(number, text.coefficients[row, column]))
+    yield from (
+        f"coefficient of {column} in {row}"
+        for (row, column), number in model.coefficients.items()
+        if not is_same(number, text.coefficients[row, column])
+    )
 
 
 def _with_own_names(text: Said, names: Mapping[str, str]) -> Said:
@@ -285,7 +327,9 @@ def _with_own_names(text: Said, names: Mapping[str, str]) -> Said:
         return names.get(name, name)
 
     return Said(
-        own(text.objective), text.is_maximised, text.constant,
+        own(text.objective),
+        text.is_maximised,
+        text.constant,
         {own(name): limits for name, limits in text.limits.items()},
         {own(name): kind for name, kind in text.kinds.items()},
         {own(name): bounds for name, bounds in text.bounds.items()},
@@ -299,12 +343,20 @@ def _take_away(text: Said, added: Added) -> Iterator[str]:
         yield "the row that was added"
     for row, column in added.values.items():
         is_equation = text.limits.get(row) == (ZERO, ZERO)
-        if not is_equation or text.kinds.pop(column, "") != "continuous" or text.coefficients.pop((row, column), None) != -1:
+        if (
+            not is_equation
+            or text.kinds.pop(column, "") != "continuous"
+            or text.coefficients.pop((row, column), None) != -1
+        ):
             yield f"the column that was added for row {row}"
             return
         text.limits[row] = text.bounds.pop(column)
     if added.constant is not None:
-        if text.kinds.pop(added.constant, "") != "continuous" or text.bounds.pop(added.constant, None) != (ONE, ONE) or text.constant:
+        if (
+            text.kinds.pop(added.constant, "") != "continuous"
+            or text.bounds.pop(added.constant, None) != (ONE, ONE)
+            or text.constant
+        ):
             yield "the column that was added for the constant"
             return
         text.constant = text.coefficients.pop((text.objective, added.constant), Decimal(0))
@@ -312,10 +364,17 @@ def _take_away(text: Said, added: Added) -> Iterator[str]:
             text.coefficients.pop((added.row, added.constant), None)
 
 
-def _is_same_pair(is_same: Callable[[Decimal, Decimal], bool], one: tuple[Decimal, Decimal], other: tuple[Decimal, Decimal]) -> bool:
+def _is_same_pair(
+    is_same: Callable[[Decimal, Decimal], bool], one: tuple[Decimal, Decimal], other: tuple[Decimal, Decimal]
+) -> bool:
     """Whether two limits are the same; a range is their distance, and is rounded on its own."""
     same = list(map(is_same, one, other))
-    return all(same) or any(same) and all(side.is_finite() for side in (*one, *other)) and is_same(EXACT.subtract(one[1], one[0]), EXACT.subtract(other[1], other[0]))
+    return (
+        all(same)
+        or any(same)
+        and all(side.is_finite() for side in (*one, *other))
+        and is_same(EXACT.subtract(one[1], one[0]), EXACT.subtract(other[1], other[0]))
+    )
 
 
 def _is_equal(one: Decimal, other: Decimal) -> bool:
@@ -323,7 +382,13 @@ def _is_equal(one: Decimal, other: Decimal) -> bool:
 
 
 def _is_near(one: Decimal, other: Decimal) -> bool:
-    """Whether a number is written as one that is the same double, or, for the sum of a limit and a range, one beside it."""
+    """Whether a number is written as one that is the same double, or, for the sum of a limit and a range, one beside
+    it.
+    """
     if one == other or float(one) == float(other):
         return True
-    return one.is_finite() and other.is_finite() and abs(float(one) - float(other)) <= _ULPS * max(abs(float(one)), abs(float(other)))
+    return (
+        one.is_finite()
+        and other.is_finite()
+        and abs(float(one) - float(other)) <= _ULPS * max(abs(float(one)), abs(float(other)))
+    )

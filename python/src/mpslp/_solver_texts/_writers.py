@@ -65,7 +65,10 @@ def _letter(row: Row, language: Language) -> str:
 
 
 def _is_below(row: Row) -> bool:
-    """Whether the right-hand side is the upper limit. Of two limits it is the smaller one: the sum of it and the range is rounded less."""
+    """Whether the right-hand side is the upper limit.
+
+    Of two limits it is the smaller one: the sum of it and the range is rounded less.
+    """
     return row.lower is None or row.upper is not None and abs(row.upper) < abs(row.lower)
 
 
@@ -116,7 +119,11 @@ def lp_lines(model: Model, language: Language, literal: Literals) -> Iterator[st
         yield f" {name}:"
         yield from _terms(terms[name] or {first: Decimal(0)}, literal)
         yield _limit(row, literal)
-    bounds = [_lp_bound(name, column, literal) for name, column in model.columns.items() if column.lower != 0 or column.upper is not None]
+    bounds = [
+        _lp_bound(name, column, language, literal)
+        for name, column in model.columns.items()
+        if column.lower != 0 or column.upper is not None
+    ]
     integers = [f" {name}" for name, column in model.columns.items() if column.is_integer]
     semis = [f" {name}" for name, column in model.columns.items() if column.is_semi_continuous]
     for header, lines in (("Bounds", bounds), ("Generals", integers), ("Semi-Continuous", semis)):
@@ -142,11 +149,11 @@ def _limit(row: Row, literal: Literals) -> str:
     return f"  >= {f'-{_INFINITY}' if row.lower is None else literal(row.lower)}"
 
 
-def _lp_bound(name: str, column: Column, literal: Literals) -> str:
+def _lp_bound(name: str, column: Column, language: Language, literal: Literals) -> str:
     lower, upper = column.lower, column.upper
     if lower is None and upper is None:
         return f" {name} free"
-    if lower is not None and lower == upper:
+    if lower is not None and lower == upper and language.has_equal_bounds:
         return f" {name} = {literal(lower)}"
     least = f"-{_INFINITY}" if lower is None else literal(lower)
     return f" {name} >= {least}" if upper is None else f" {least} <= {name} <= {literal(upper)}"
@@ -159,7 +166,10 @@ def glp_lines(model: Model, language: Language, literal: Literals) -> Iterator[s
     is_mip = any(column.is_integer for column in model.columns.values())
     numbers = {name: number for number, name in enumerate(model.rows, 1)}
     count = sum(len(column.entries) for column in model.columns.values())
-    yield f"p {'mip' if is_mip else 'lp'} {'max' if model.is_maximised else 'min'} {len(model.rows)} {len(model.columns)} {count}"
+    yield (
+        f"p {'mip' if is_mip else 'lp'} {'max' if model.is_maximised else 'min'} "
+        f"{len(model.rows)} {len(model.columns)} {count}"
+    )
     yield f"n z {model.objective}"
     for name, row in model.rows.items():
         yield f"i {numbers[name]} {_glp_limits(row.lower, row.upper, literal)}"

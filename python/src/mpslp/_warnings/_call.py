@@ -1,20 +1,20 @@
 """The call."""
 
-from collections.abc import Callable, Iterator, Mapping
-from typing import Optional
+from collections.abc import Callable, Mapping
 
 from mpslp import _mpslp
-from mpslp._sources import Format, Source, naming, read
+from mpslp._files._sources import Format, Source, naming, read
+from mpslp._text._lines import numbers_of
+from mpslp._text._mps import MpsText
 from mpslp._warnings import _lp_rules, _mps_rules
 from mpslp._warnings._lp import LpText
-from mpslp._warnings._mps import MpsText
 from mpslp._warnings._records import Found, ModelFileWarning
 
 KINDS = tuple(dict.fromkeys([*_mps_rules.RULES, *_lp_rules.RULES]))
 """The kinds of warnings."""
 
 
-def warnings_of(source: Source, format: Optional[Format] = None) -> tuple[ModelFileWarning, ...]:
+def warnings_of(source: Source, format: Format | None = None) -> tuple[ModelFileWarning, ...]:
     """Returns what is accepted in a text and rarely meant, in the order of lines.
 
     The format may be left out for a path that ends in ``.mps`` or ``.lp``.
@@ -40,12 +40,7 @@ def warnings_in(content: bytes, format: int) -> tuple[ModelFileWarning, ...]:
 
 def _in_order(content: bytes, file: object, rules: Mapping[str, Callable[..., Found]]) -> tuple[ModelFileWarning, ...]:
     found = sorted((place, kind, text) for kind, rule in rules.items() for place, text in rule(file))
-    return tuple(ModelFileWarning(line, kind, text) for line, (_, kind, text) in zip(_lines(content, [place for place, _, _ in found]), found))
-
-
-def _lines(content: bytes, places: list[int]) -> Iterator[int]:
-    """The lines of places that rise."""
-    line, before = 1, 0
-    for place in places:
-        line, before = line + _mpslp.count_line_feeds(content, before, place), place
-        yield line
+    return tuple(
+        ModelFileWarning(line, kind, text)
+        for line, (_, kind, text) in zip(numbers_of(content, [place for place, _, _ in found]), found)
+    )

@@ -1,13 +1,19 @@
-"""Where the rows of an LP file end, and the names after them. The file has been accepted, so nothing of it is tested here."""
+"""Where the rows of an LP file end, and the names after them.
+
+The file has been accepted, so nothing of it is tested here.
+"""
 
 from __future__ import annotations
 
 import re
+import string
 from collections.abc import Iterator
 from functools import cached_property
 from typing import NamedTuple
 
-from mpslp._lp_words import OTHERS, SYMBOLS, WORD
+from mpslp._text._lp import LpTokens
+from mpslp._text._lp_tokens import OTHERS, SYMBOLS, WORD
+from mpslp._text._lp_words import BINARIES, BOUNDS, GENERALS, ROWS, SECTIONS, SEMIS, VALUES
 from mpslp._warnings._records import shown
 
 _TOKEN = re.compile(f"{WORD}|{OTHERS}".encode(), re.ASCII)
@@ -22,28 +28,39 @@ _MOST_DIGITS = 8
 
 
 def _after_number(sign: str, fewest: int) -> str:
-    """A pattern for what comes before a sign that starts a name: a number with some digits at least, or with none at all."""
+    """A pattern for what comes before a sign that starts a name: a number with some digits at least, or with none at
+    all.
+    """
     return "|".join(f"(?<=[^{_LETTERS}][0-9.]{{{digits}}}{sign})" for digits in range(fewest, _MOST_DIGITS + 1))
 
 
-ODD_PARENTHESIS = re.compile(rf"\((?:{_after_number(re.escape('('), 0)}|[{_INNER_LETTERS}]*[^){_INNER_LETTERS}])".encode())
+ODD_PARENTHESIS = re.compile(
+    rf"\((?:{_after_number(re.escape('('), 0)}|[{_INNER_LETTERS}]*[^){_INNER_LETTERS}])".encode()
+)
 """A parenthesis that starts a name, or is not closed in it. It is searched for by its first byte, which is fast."""
 DECIMAL_COMMA = re.compile(rf",(?:{_after_number(',', 1)})(?=[0-9])".encode())
 """A comma after a number and before a digit."""
-_LISTS = {
-    **dict.fromkeys((b"general", b"generals", b"gen", b"integer", b"integers", b"int"), "Generals"),
-    **dict.fromkeys((b"binary", b"binaries", b"bin"), "Binaries"),
-    **dict.fromkeys((b"semi", b"semis"), "the semi-continuous columns"),
-}
-_BOUNDS = (b"bound", b"bounds")
-_SECTIONS = frozenset((*_BOUNDS, *_LISTS, b"end"))
-_RESERVED = _SECTIONS | {b"inf", b"infinity", b"free"}
+_TITLES = {BOUNDS: "Bounds", GENERALS: "Generals", BINARIES: "Binaries", SEMIS: "the semi-continuous columns"}
+"""What messages call the sections after the rows."""
+_SECTIONS = frozenset(word.encode() for word, section in SECTIONS.items() if section != ROWS)
+_RESERVED = _SECTIONS | {word.encode() for word in VALUES}
 """The words after the rows that are no names. The one of ``semi-continuous`` is none only there."""
 _SEMI_CONTINUOUS = b"semi-continuous"
-_SECTION_ON_A_LINE = re.compile(rb"\n[ \t]*((?:[Bb][OoIi]|[Gg][Ee]|[Ii][Nn]|[Ss][Ee]|[Ee][Nn])[A-Za-z]*)" + f"(?![A-Za-z0-9.{SYMBOLS}])".encode())
+_SECTION_ON_A_LINE = re.compile(
+    rb"\n[ \t]*((?:[Bb][OoIi]|[Gg][Ee]|[Ii][Nn]|[Ss][Ee]|[Ee][Nn])[A-Za-z]*)" + f"(?![A-Za-z0-9.{SYMBOLS}])".encode()
+)
 _MOST_READ_IN_FULL = 1 << 18
 """Up to this size each token is looked at; in larger files, a section is looked for at the start of a line."""
 _MOST_NAMES_COMPARED = 5000
+_MOST_MARKED = 20
+"""So many names with a mark are looked at: beyond that, names have it by design."""
+_MOST_OCCURRENCES = 50
+_MOST_SEARCHED = 1 << 17
+_LONGEST_LINE = 1 << 11
+"""A comment is looked for in so many bytes before a mark."""
+_LONGEST_NAME = 256
+_NAME_BYTES = f"{string.ascii_letters}{string.digits}.{SYMBOLS}".encode()
+_DIGITS = f"{string.digits}.".encode()
 _BLOCK = 1 << 20
 
 
@@ -100,6 +117,40 @@ class LpText:
             yield [*_TOKEN.finditer(self.content, start, end)]
             found = pattern.search(self.content, end, most)
 
+    def names_with(self, mark: bytes) -> Iterator[tuple[int, bytes]]:
+        """The names that have a mark, and where they start: the first ones, in the first part of the file."""
+        most = min(self.end, _BLOCK)
+        place = self.content.find(mark, 0, most)
+        for _ in range(_MOST_MARKED):
+            if place < 0:
+                return
+            before = self.content[max(0, place - _LONGEST_LINE) : place]
+            start = place - len(before) + len(before.rstrip(_NAME_BYTES))
+            after = self.content[place : place + _LONGEST_NAME]
+            end = place + len(after) - len(after.lstrip(_NAME_BYTES))
+            name = self.content[start:end].lstrip(_DIGITS)
+            if b"\\" not in before[before.rfind(b"\n") + 1 :]:
+                yield end - len(name), name
+            place = self.content.find(mark, end, most)
+
+    def has_column(self, name: bytes) -> bool:
+        """Whether a name is a word of the objective or of a row, other than a label: one of its first occurrences,
+        which take little time.
+        """
+        most, place = min(self.rows_end, _MOST_SEARCHED), -1
+        for _ in range(_MOST_OCCURRENCES):
+            place = self.content.find(name, place + 1, most)
+            if place < 0:
+                return False
+            end = place + len(name)
+            is_word = (
+                self.content[place - 1 : place].strip(_NAME_BYTES)
+                and not self.content[end : end + 1].lstrip(_NAME_BYTES) == b""
+            )
+            if is_word and not self.content[end : end + _LONGEST_NAME].lstrip().startswith(b":"):
+                return True
+        return False
+
     @property
     def rest(self) -> bytes:
         """The text after the end."""
@@ -131,20 +182,11 @@ class LpText:
             start = end
 
     def _first_places(self, names: set[bytes]) -> Iterator[Late]:
-        left = set(names)
-        section, before = "", b""
-        for match in _TOKEN.finditer(self.content, self.rows_end, self.end):
-            if match.lastgroup is None:  # a comment
-                continue
-            word = match[0].lower()
-            if word == b"end":  # of a large file, on the line of something else
-                return
-            if word in _SECTIONS:
-                section = _LISTS.get(word, "Bounds")
-            elif match[0] in left and before != b"semi-":
-                left.remove(match[0])
-                yield Late(match[0], match.start(), section)
-            before = b"semi-" if before == b"semi" and word == b"-" else word
+        left = {name.decode("ascii") for name in names}
+        for section, _, text, place in LpTokens(self.content[self.rows_end : self.end].decode("latin-1")):
+            if text in left:
+                left.remove(text)
+                yield Late(text.encode("ascii"), self.rows_end + place, _TITLES[section])
 
     @cached_property
     def names(self) -> dict[str, bytes]:

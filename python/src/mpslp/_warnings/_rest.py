@@ -14,5 +14,6 @@ def sections_in(rest: bytes, place: int, words: Collection[bytes], keyword: str)
     """The first line of the text after the end that starts as a section does."""
     for match in _LINE.finditer(rest):
         if match[1].upper() in words:
-            yield place + match.start(), f"{shown(match[1])} comes after {keyword}, and is ignored with all that follows"
+            said = f"{shown(match[1])} comes after {keyword}, and is ignored with all that follows"
+            yield place + match.start(), said
             return

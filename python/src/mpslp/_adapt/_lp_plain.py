@@ -1,0 +1,248 @@
+"""Statements of LP files that are read as a whole, without a token for each word.
+
+Most statements of most files have only plain words: names and numbers that no rule changes, and that have one reading
+in any place. A pattern for each section takes such a statement with the lines that it is on. Whatever no pattern takes
+is read token by token, and so is the whole file if it is left: the patterns are fast, and decide nothing.
+"""
+
+from __future__ import annotations
+
+import re
+from collections.abc import Callable, Iterator
+from typing import NamedTuple
+
+from mpslp._adapt._lp_parts import BoundLine, Item, Row
+from mpslp._adapt._lp_sections import NOT_SUPPORTED, OTHER_INFINITIES, SECTIONS_OF_OTHERS
+from mpslp._adapt._lp_tokens import PLAIN_BOUND, PLAIN_NAMES, PLAIN_OBJECTIVE, PLAIN_ROW, Token, new_token
+from mpslp._text._names import is_lp_name
+
+_NAME = r"[A-Za-z_][A-Za-z0-9_.,()#$@!~'&%]*"
+_MANTISSA = r"(?:[0-9]{1,20}(?:\.[0-9]{0,15})?|\.[0-9]{1,15})"
+_NUMBER = rf"{_MANTISSA}(?:[eE][+-][0-9]{{1,2}})?"
+"""The letter E and digits after a number may be a name as well: only a sign makes them an exponent."""
+
+_SIGN = r"[+-][ \t]*"
+_COEFFICIENT = rf"{_NUMBER}(?:[ \t]+|[ \t]*\*[ \t]*)"
+_TERM = rf"(?:{_COEFFICIENT})?{_NAME}"
+_RELATION = r"(?:<=?|>=?|=[<>]?)"
+_AT_MOST = r"(?:<=?|=<)"
+_SIDE = rf"(?:{_SIGN})?{_NUMBER}"
+_BOUND_SIDE = rf"(?:{_SIGN})?(?:{_MANTISSA}(?:[eE][+-]?[0-9]{{1,2}})?|[iI][nN][fF](?:[iI][nN][iI][tT][yY])?)"
+_LINE_END = r"[ \t\r]*(?=\n"
+_COMMENTS = r"(?:[ \t\r\n]|\\[^\n]*\n)*"
+_NEXT_STATEMENT = rf"{_LINE_END}{_COMMENTS}[A-Za-z_0-9])"
+_NEXT_BOUND = rf"{_LINE_END}{_COMMENTS}[A-Za-z_0-9+.-])"
+_NEXT_HEADER = rf"{_LINE_END}{_COMMENTS}(?i:subject[ \t]+to|st|s\.t\.|such[ \t]+that)[ \t\r]*\n)"
+
+
+def _sum(space: str, first: str = rf"(?:{_SIGN})?(?:{_TERM}|{_NUMBER})") -> str:
+    """Terms and constants with a sign between them, and spaces, or also line ends, before the signs."""
+    return rf"{first}(?:{space}{_SIGN}(?:{_TERM}|{_NUMBER}))*"
+
+
+_ANY_SPACE, _SPACE = r"[ \t\r\n]*", r"[ \t]*"
+_LABEL = rf"{_NAME}[ \t]*:{_ANY_SPACE}"
+_SUM = _sum(_ANY_SPACE)
+_LABELLED_ROW = re.compile(
+    rf"[ \t]*({_LABEL}(?:{_SIDE}[ \t]*{_AT_MOST}[ \t]*{_sum(_SPACE)}[ \t]*{_AT_MOST}|{_SUM}[ \t]*{_RELATION})"
+    rf"[ \t]*{_SIDE}){_NEXT_STATEMENT}"
+)
+_ROW = re.compile(
+    # what starts with a sign or is a number may go on with the row before it
+    rf"[ \t]*({_sum(_SPACE, rf'(?![.]){_TERM}')}[ \t]*{_RELATION}[ \t]*{_SIDE}){_NEXT_STATEMENT}"
+)
+_OBJECTIVE = re.compile(rf"[ \t]*((?:{_LABEL})?{_SUM}){_NEXT_HEADER}")
+_BOUND = re.compile(
+    rf"[ \t]*((?:{_BOUND_SIDE}[ \t]*{_AT_MOST}[ \t]*{_NAME}[ \t]*{_AT_MOST}|{_NAME}"
+    rf"[ \t]*{_RELATION})[ \t]*{_BOUND_SIDE}"
+    rf"|{_BOUND_SIDE}[ \t]*{_RELATION}[ \t]*{_NAME}|{_NAME}[ \t]+[fF][rR][eE][eE]){_NEXT_BOUND}"
+)
+_NAMES = re.compile(rf"[ \t]*({_NAME}(?:[ \t]+{_NAME})*){_NEXT_STATEMENT}")
+
+_WORD = re.compile(rf"{_NUMBER}|({_NAME})")
+_WORD_OF_BOUND = re.compile(rf"{_MANTISSA}(?:[eE][+-]?[0-9]+)?|({_NAME})")
+_RELATIONS = re.compile(rf"({_RELATION})")
+_ITEM = re.compile(rf"([+-]?)[ \t\r\n]*(?=[0-9.A-Za-z_])({_NUMBER})?[ \t]*(\*?)[ \t]*({_NAME})?")
+_WORDS_OF_BOUNDS = ("free", "inf", "infinity")
+
+HEADERS = {
+    **dict.fromkeys(
+        ("min", "minimize", "minimum", "minimise", "max", "maximize", "maximum", "maximise"), PLAIN_OBJECTIVE
+    ),
+    **dict.fromkeys(("subject to", "such that", "st", "s.t."), PLAIN_ROW),
+    **dict.fromkeys(("bound", "bounds"), PLAIN_BOUND),
+    **dict.fromkeys(("general", "generals", "gen", "integer", "integers", "int"), PLAIN_NAMES),
+    **dict.fromkeys(("binary", "binaries", "bin", "semi-continuous", "semis", "semi"), PLAIN_NAMES),
+    "end": "",
+}
+"""The kind of the statements after a header that is the only text on its line."""
+
+_LONGEST_HEADER = 80
+
+
+class PlainStatements:
+    """The plain statements of a text."""
+
+    def __init__(self, text: str, dialect: str | None) -> None:
+        self._text = text
+        self._dialect = dialect
+        self.names: set[str] = set()
+        """The names that are plain in any place, of columns and of rows."""
+        self.kind = ""
+        """The kind of the statements of this section; empty where none is taken."""
+
+    def take(self, at: int, line: int) -> Token | None:
+        """The statement that starts with a line, if it is plain."""
+        if not self.kind:
+            return None
+        found = _PATTERNS[self.kind](self._text, at)
+        if found is None:
+            return None
+        statement = found[1]
+        names = names_of_bound(statement) if self.kind == PLAIN_BOUND else names_in(statement)
+        if not names or not self._are_plain(names):
+            return None
+        if self.kind == PLAIN_ROW and len(names) == 1 and ":" in statement:
+            return None  # the name is that of the row
+        if self.kind == PLAIN_OBJECTIVE and not self._is_kept(sum_of(parts_of(statement).body)):
+            return None
+        return new_token(Token, (self.kind, statement, *found.span(1), line))
+
+    def pass_line(self, at: int, end: int) -> None:
+        """Takes notice of a line that is read token by token."""
+        line = self._text[at:end].strip(" \t\r\n") if end - at < _LONGEST_HEADER else "+"
+        kind = HEADERS.get(" ".join(line.lower().split()))
+        if kind is not None:
+            self.kind = kind
+        elif self.kind == PLAIN_OBJECTIVE and line and not line.startswith("\\"):
+            self.kind = ""  # the rest of an objective is none
+
+    def _is_kept(self, objective: Sum) -> bool:
+        """Whether no rule changes an objective, and no comment does."""
+        constants = {None: 1, "lp_solve": 1, "coinutils": 0}.get(self._dialect, -1)
+        return objective.constants <= constants and not objective.has_products and not objective.is_again
+
+    def _are_plain(self, names: list[str]) -> bool:
+        if self.names.issuperset(names):
+            return True
+        new = [name for name in names if name not in self.names]
+        if not all(map(is_plain, new)):
+            return False
+        self.names.update(new)
+        return True
+
+
+def _row_at(text: str, at: int) -> re.Match[str] | None:
+    return _LABELLED_ROW.match(text, at) or _ROW.match(text, at)
+
+
+_PATTERNS: dict[str, Callable[[str, int], re.Match[str] | None]] = {
+    PLAIN_OBJECTIVE: _OBJECTIVE.match,
+    PLAIN_ROW: _row_at,
+    PLAIN_BOUND: _BOUND.match,
+    PLAIN_NAMES: _NAMES.match,
+}
+
+
+_WORDS_OF_OTHERS = frozenset((*NOT_SUPPORTED, *OTHER_INFINITIES, *SECTIONS_OF_OTHERS))
+
+
+def is_plain(name: str) -> bool:
+    """Whether a name is legal and is no name that may be something else."""
+    if not is_lp_name(name) or name.lower() in _WORDS_OF_OTHERS:
+        return False
+    return name[-1] != "," and ("(" not in name and ")" not in name or name.count("(") == name.count(")"))
+
+
+# ---- what is in a statement
+
+
+def names_in(statement: str) -> list[str]:
+    """The names of a statement, in their order."""
+    return [name for name in _WORD.findall(statement) if name]
+
+
+def names_of_bound(statement: str) -> list[str]:
+    """The name of the column that a statement is a bound of."""
+    return [name for name in _WORD_OF_BOUND.findall(statement) if name and name.lower() not in _WORDS_OF_BOUNDS]
+
+
+class Parts(NamedTuple):
+    """A statement: its label, which may be empty, and what comes after it."""
+
+    label: str
+    body: str
+
+
+def parts_of(statement: str) -> Parts:
+    label, colon, body = statement.partition(":")
+    return Parts(label.rstrip(" \t"), body) if colon else Parts("", statement)
+
+
+class Sum(NamedTuple):
+    """What is in a row or an objective: the columns of its terms, how many numbers without a column, and whether it has
+    products.
+    """
+
+    names: list[str]
+    constants: int
+    has_products: bool
+
+    @property
+    def is_again(self) -> bool:
+        """Whether a column comes twice."""
+        return len(set(self.names)) < len(self.names)
+
+
+def sum_of(body: str) -> Sum:
+    words = _ITEM.findall(body)
+    names = [name for _, _, _, name in words if name]
+    return Sum(names, len(words) - len(names), "*" in body)
+
+
+def has_two_relations(body: str) -> bool:
+    return len(_RELATIONS.findall(body)) > 1
+
+
+def row_of(statement: Token, body: str) -> Row:
+    """A row without its label."""
+    parts = _RELATIONS.split(body)
+    sides = [[*_items(side, statement)] for side in parts[::2]]
+    relations = [_word("relation", relation, statement) for relation in parts[1::2]]
+    return Row(statement, statement, None, sides, relations)
+
+
+def bound_line_of(statement: Token) -> BoundLine:
+    """A bound as the reader makes one of its tokens."""
+    name = _word("word", names_of_bound(statement.text)[0], statement)
+    parts = _RELATIONS.split(statement.text)
+    if len(parts) == 1:
+        return BoundLine(statement, statement, name, [Item([name], 0, 1, [], name)], [])
+    relations = [_word("relation", relation, statement) for relation in parts[1::2]]
+    return BoundLine(statement, statement, name, [_bound_side(side, name, statement) for side in parts[::2]], relations)
+
+
+def _bound_side(text: str, name: Token, statement: Token) -> Item:
+    text = text.strip(" \t")
+    if text == name.text:
+        return Item([name], 0, 1, [], name)
+    number = _word("number", text.lstrip("+- \t"), statement)
+    signs = int(text[0] in "+-")
+    return Item([number], signs, -1 if text[0] == "-" else 1, [number], None, number.text[0] in "iI")
+
+
+def _items(text: str, statement: Token) -> Iterator[Item]:
+    for sign, number, star, name in _ITEM.findall(text):
+        yield Item(
+            [],
+            int(sign != ""),
+            -1 if sign == "-" else 1,
+            [_word("number", number, statement)] if number else [],
+            _word("word", name, statement) if name else None,
+            False,
+            star != "",
+        )
+
+
+def _word(kind: str, text: str, statement: Token) -> Token:
+    return new_token(Token, (kind, text, statement.start, statement.end, statement.line))

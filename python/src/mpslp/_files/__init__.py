@@ -1,0 +1,1 @@
+"""What is outside: files and their compression, standard output, processes."""

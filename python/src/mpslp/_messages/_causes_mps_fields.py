@@ -1,0 +1,171 @@
+"""Rules for MPS: numbers that are written in another way, comments of other languages, and sections
+of other readers.
+"""
+
+from __future__ import annotations
+
+import re
+
+from mpslp._messages._case import FOUND, Case, Found
+from mpslp._messages._causes_both import Rule, hexadecimal_value, is_nan, letters_as_digits
+from mpslp._messages._lp_sums import product_text, quotient_text, value_of
+from mpslp._messages._place import NUMBER
+
+_COMMENT = re.compile(rb"\s*(#+|//+|!+|%+|--+|;+|\\+|/\*|'|\")[ \t]*([^\n]*?)[ \t]*(?:\*/)?$")
+_INDENTED = re.compile(rb"[ \t]+(\*+)[ \t]*([^\n]*?)$")
+_MARKS = re.compile(r"(?:#|//|!|%|--|;|\\|/\*|\*|\$).*")
+_THOUSANDS = re.compile(r"[+-]?\d{1,3}(?:[_'`]\d{3})+(?:\.\d*)?", re.ASCII)
+_FRACTION = re.compile(r"([+-]?\d+(?:\.\d*)?)/(\d+(?:\.\d*)?)", re.ASCII)
+_PRODUCT = re.compile(r"[+-]?\d+(?:\.\d*)?(?:\*[+-]?\d+(?:\.\d*)?)+", re.ASCII)
+_PERCENT = re.compile(r"([+-]?\d+(?:\.\d*)?)%", re.ASCII)
+_CURRENCY = re.compile(r"\$([+-]?\d+(?:\.\d*)?)", re.ASCII)
+_UNIT = re.compile(r"([+-]?\d+(?:\.\d*)?)([A-Za-z]+)", re.ASCII)
+_POINTS = re.compile(r"[+-]?\d*(?:\.\d*){2,}", re.ASCII)
+_EXPONENT = re.compile(r"[+-]?\d+(?:\.\d*)?[eE][+-]?(?:\d+\.\d*)?", re.ASCII)
+_SIGNS = re.compile(r"([+-]+)(\d+(?:\.\d*)?(?:[eE][+-]?\d+)?)", re.ASCII)
+_SIGN_AFTER = re.compile(r"(\d+(?:\.\d*)?)-", re.ASCII)
+_OTHER = {
+    "general_constraints": ("GENCONS",),
+    "piecewise_linear": ("PWLOBJ", "PWL", "PWLNAM", "PWLCON"),
+    "scenarios": ("SCENARIOS", "PERIODS", "STOCH"),
+}
+
+
+# ---- comments
+
+
+def other_comment(case: Case) -> Found | None:
+    """A line that starts with the mark of a comment of another language, or with an asterisk after spaces; or such a
+    mark after fields.
+    """
+    match = _COMMENT.match(case.line.content) or _INDENTED.match(case.line.content)
+    if match is not None and re.search(rb"[A-Za-z]", match[2]):
+        return Found(mend=f"* {match[2].decode('latin-1')}", marks=(case.mark_of_span(*match.span(1)),), moves=True)
+    at = next(
+        (
+            at
+            for at, field in enumerate(case.fields)
+            if at > 1 and _MARKS.fullmatch(field.text) and not is_nan(field.text.lstrip("#"))
+        ),
+        None,
+    )
+    if (
+        at is None
+        or not any(re.search("[A-Za-z]", field.text) for field in case.fields[at:])
+        or case.section in ("", "NAME")
+    ):
+        return None
+    note = " ".join(field.text for field in case.fields[at:]).strip("#/!%-;\\* ")
+    return Found(mend=f"* {note}", marks=(case.mark_of(case.fields[at]),), moves=True)
+
+
+# ---- numbers
+
+
+def space_in_number(case: Case) -> Found | None:
+    """Groups of three digits in fields side by side, or with a mark between them."""
+    if _THOUSANDS.fullmatch(case.words):
+        return Found(mend=re.sub(r"[_'`]", "", case.words))
+    for first, second in zip(case.fields, case.fields[1:]):
+        if (
+            re.fullmatch(r"[+-]?\d{1,3}", first.text)
+            and re.fullmatch(r"\d{3}(?:\.\d*)?", second.text)
+            and second.start == first.end + 1
+            and case.fields.index(first)
+        ):
+            mark = case.mark_of(first)._replace(end=second.end)
+            return Found(mend=first.text + second.text, marks=(mark,), moves=True)
+    return None
+
+
+def fraction(case: Case) -> Found | None:
+    match = _FRACTION.fullmatch(case.words)
+    return None if match is None or value_of(match[2]) == 0 else Found(mend=quotient_text(match[1], match[2]))
+
+
+def product_of_numbers(case: Case) -> Found | None:
+    return Found(mend=product_text(case.words.split("*"))) if _PRODUCT.fullmatch(case.words) else None
+
+
+def percent(case: Case) -> Found | None:
+    match = _PERCENT.fullmatch(case.words)
+    return None if match is None else Found(mend=quotient_text(match[1], "100"))
+
+
+def currency(case: Case) -> Found | None:
+    match = _CURRENCY.fullmatch(case.words)
+    return None if match is None else Found(mend=match[1])
+
+
+def hexadecimal(case: Case) -> Found | None:
+    value = hexadecimal_value(case.words)
+    return None if value is None else Found(mend=value)
+
+
+def letter_as_digit(case: Case) -> Found | None:
+    meant = letters_as_digits(case.words)
+    return None if meant is None else Found(mend=meant)
+
+
+def two_points(case: Case) -> Found | None:
+    return Found(f"{case.words} has {case.words.count('.')}") if _POINTS.fullmatch(case.words) else None
+
+
+def odd_exponent(case: Case) -> Found | None:
+    return FOUND if _EXPONENT.fullmatch(case.words) and not case.is_last_line else None
+
+
+def unit_after_number(case: Case) -> Found | None:
+    match = _UNIT.fullmatch(case.words)
+    return None if match is None or match[2].lower() in ("e", "d", "inf") else Found(mend=match[1])
+
+
+def signs_of_number(case: Case) -> Found | None:
+    """Two signs, a sign after the number, or a space after the sign."""
+    if match := _SIGNS.fullmatch(case.words):
+        return Found(mend=("-" if match[1].count("-") % 2 else "") + match[2])
+    if match := _SIGN_AFTER.fullmatch(case.words):
+        return Found(mend=f"-{match[1]}")
+    for first, second in zip(case.fields, case.fields[1:]):
+        if first.text in ("-", "+") and NUMBER.fullmatch(second.text):
+            mark = case.mark_of(first)._replace(end=second.end)
+            return Found(mend=f"{first.text}{second.text}".lstrip("+"), marks=(mark,), moves=True)
+    return None
+
+
+# ---- sections
+
+
+def general_constraints(case: Case) -> Found | None:
+    return _section(case, "general_constraints")
+
+
+def piecewise_linear(case: Case) -> Found | None:
+    return _section(case, "piecewise_linear")
+
+
+def scenarios(case: Case) -> Found | None:
+    return _section(case, "scenarios")
+
+
+def _section(case: Case, name: str) -> Found | None:
+    return FOUND if case.is_header and case.fields and case.fields[0].text.upper() in _OTHER[name] else None
+
+
+RULES: tuple[Rule, ...] = (
+    other_comment,
+    space_in_number,
+    fraction,
+    product_of_numbers,
+    percent,
+    currency,
+    hexadecimal,
+    letter_as_digit,
+    two_points,
+    odd_exponent,
+    unit_after_number,
+    signs_of_number,
+    general_constraints,
+    piecewise_linear,
+    scenarios,
+)

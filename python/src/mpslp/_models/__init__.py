@@ -1,0 +1,1 @@
+"""Models: their parts, arrays, numbers and differences."""
