@@ -1,8 +1,9 @@
 """Names that have one and the same hash if the seed of the hash is known.
 
-A name of 48 bytes is hashed 16 bytes at a time, each time by a multiplication whose halves are joined by exclusive or. The first 16
-bytes are chosen so that the state after them consists of eight printable bytes. The next eight bytes are that state, so that a factor of
-the second multiplication is 0, and so is the state after it, whatever the eight bytes from the 25th on are: they number the names.
+A name of 48 bytes is hashed 16 bytes at a time, each time by a multiplication whose halves are joined by exclusive or.
+The first 16 bytes are chosen so that the state after them consists of eight printable bytes. The next eight bytes are
+that state, so that a factor of the second multiplication is 0, and so is the state after it, whatever the eight bytes
+from the 25th on are: they number the names.
 """
 
 import itertools

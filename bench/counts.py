@@ -68,8 +68,10 @@ def agree(reader, path):
         return False
     rows, columns, entries = theirs
     expected = (rows - 1, columns, entries - objective_entries(path))
-    print(f"{path.name}: {ours[0]} rows, {ours[1]} columns, {ours[2]} elements: "
-          + ("the same" if ours == expected else f"glpsol has {expected}"))
+    print(
+        f"{path.name}: {ours[0]} rows, {ours[1]} columns, {ours[2]} elements: "
+        + ("the same" if ours == expected else f"glpsol has {expected}")
+    )
     return ours == expected
 
 

@@ -33,7 +33,7 @@ SAMPLE = 400
 # Only the start of the search for the right count; the file is measured then.
 GUESSED_BYTES_PER_COLUMN = 250
 
-UNITS = {"k": 10 ** 3, "M": 10 ** 6, "G": 10 ** 9}
+UNITS = {"k": 10**3, "M": 10**6, "G": 10**9}
 
 
 def size_in_bytes(text):
@@ -55,7 +55,7 @@ def pair_lines(front, pairs, pairs_per_line):
     lines = []
     for start in range(0, len(pairs), pairs_per_line):
         fields = [f"    {front:<10}"]
-        fields += [f"  {name:<10}  {value:>12}" for name, value in pairs[start:start + pairs_per_line]]
+        fields += [f"  {name:<10}  {value:>12}" for name, value in pairs[start : start + pairs_per_line]]
         lines.append("".join(fields) + "\n")
     return "".join(lines)
 
@@ -184,14 +184,25 @@ def signed_whole(source):
 
 
 BOUND_KINDS = {
-    upper: 40, lower: 8, lower_and_upper: 12, fixed: 6, free: 8, no_lower: 3,
-    no_lower_and_upper: 3, no_upper: 3, lower_and_no_upper: 2, infinite_both: 2,
-    binary: 8, whole_lower: 1, whole_upper: 2, whole_lower_and_upper: 2,
+    upper: 40,
+    lower: 8,
+    lower_and_upper: 12,
+    fixed: 6,
+    free: 8,
+    no_lower: 3,
+    no_lower_and_upper: 3,
+    no_upper: 3,
+    lower_and_no_upper: 2,
+    infinite_both: 2,
+    binary: 8,
+    whole_lower: 1,
+    whole_upper: 2,
+    whole_lower_and_upper: 2,
 }
 
 
 def drawn_bounds(source, is_integer):
-    kind, = source.choices(list(BOUND_KINDS), weights=BOUND_KINDS.values())
+    (kind,) = source.choices(list(BOUND_KINDS), weights=BOUND_KINDS.values())
     return kind(source, signed_whole if is_integer else literal)
 
 
@@ -240,10 +251,7 @@ class Model:
         return Column(self.seeded("column", number), name, self.row_count, self.thin, is_integer)
 
     def named(self, pairs):
-        return [
-            (OBJECTIVE if number == OBJECTIVE_NUMBER else self.row_names[number], value)
-            for number, value in pairs
-        ]
+        return [(OBJECTIVE if number == OBJECTIVE_NUMBER else self.row_names[number], value) for number, value in pairs]
 
     def column_text(self, column):
         return pair_lines(column.name, self.named(column.pairs), column.pairs_per_line)
@@ -325,7 +333,8 @@ class Layout:
             return numbers
         return self.in_runs(
             self.ordered([number for number in numbers if model.is_integer(number)]),
-            self.ordered([number for number in numbers if not model.is_integer(number)]))
+            self.ordered([number for number in numbers if not model.is_integer(number)]),
+        )
 
     def in_runs(self, integers, others):
         """Both lists in turns: a marker at nearly every column would be unusual."""
@@ -445,26 +454,32 @@ def write_lp(out, options):
 
 
 def arguments():
-    parser = argparse.ArgumentParser(
-        description=__doc__, formatter_class=argparse.RawDescriptionHelpFormatter)
-    parser.add_argument("--size", type=size_in_bytes, default="10M",
-                        help="bytes; k, M and G stand for 10^3, 10^6 and 10^9")
+    parser = argparse.ArgumentParser(description=__doc__, formatter_class=argparse.RawDescriptionHelpFormatter)
+    parser.add_argument(
+        "--size", type=size_in_bytes, default="10M", help="bytes; k, M and G stand for 10^3, 10^6 and 10^9"
+    )
     parser.add_argument("--seed", type=int, default=1)
-    parser.add_argument("--thin", action="store_true",
-                        help="only NAME, ROWS, COLUMNS, RHS and ENDATA, and no markers")
-    parser.add_argument("--minimise", action="store_true",
-                        help="no OBJSENSE section, which glpsol does not read")
-    parser.add_argument("--shuffle", action="store_true",
-                        help="rows, columns, right sides, ranges and bounds in random order")
-    parser.add_argument("--lp", action="store_true",
-                        help="LP text of the thin model of this seed and size")
-    parser.add_argument("--sorted", action="store_true",
-                        help="the rows of each column in the order of ROWS")
-    parser.add_argument("--hostile", choices=sorted(hostile.KINDS), metavar="KIND",
-                        help="a file made to be slow instead, of the size and the seed, with --lp as LP: "
-                        + ", ".join(sorted(hostile.KINDS)))
-    parser.add_argument("--colliding", action="store_const", dest="hostile", const="colliding",
-                        help="the same as --hostile colliding: names with one hash under a known seed")
+    parser.add_argument("--thin", action="store_true", help="only NAME, ROWS, COLUMNS, RHS and ENDATA, and no markers")
+    parser.add_argument("--minimise", action="store_true", help="no OBJSENSE section, which glpsol does not read")
+    parser.add_argument(
+        "--shuffle", action="store_true", help="rows, columns, right sides, ranges and bounds in random order"
+    )
+    parser.add_argument("--lp", action="store_true", help="LP text of the thin model of this seed and size")
+    parser.add_argument("--sorted", action="store_true", help="the rows of each column in the order of ROWS")
+    parser.add_argument(
+        "--hostile",
+        choices=sorted(hostile.KINDS),
+        metavar="KIND",
+        help="a file made to be slow instead, of the size and the seed, with --lp as LP: "
+        + ", ".join(sorted(hostile.KINDS)),
+    )
+    parser.add_argument(
+        "--colliding",
+        action="store_const",
+        dest="hostile",
+        const="colliding",
+        help="the same as --hostile colliding: names with one hash under a known seed",
+    )
     return parser.parse_args()
 
 

@@ -4,15 +4,16 @@
     growth.py [--sizes 1M,10M] [--kinds KIND,..] [--commands COMMAND,..] [--tools] [--instructions]
     growth.py --names 40000 [--most 1.2] [--instructions]
 
-For each kind of file of hostile.py and each command: the processor time at two sizes, and the second divided by the first, both
-without the time of a small file. Ten times the size may take ten times the instructions, and a little more for sorting, and twice that
-time, since a large model misses the caches of the processor; quadratic time would be a hundred times. A ratio above --most is marked,
-and the exit status is 1. The commands are those of the program, also fed by a pipe that gives a few bytes at a time, and the
-libraries for C and Python where they are built; with --tools, those of mpslp-tools instead.
+For each kind of file of hostile.py and each command: the processor time at two sizes, and the second divided by the
+first, both without the time of a small file. Ten times the size may take ten times the instructions, and a little more
+for sorting, and twice that time, since a large model misses the caches of the processor; quadratic time would be a
+hundred times. A ratio above --most is marked, and the exit status is 1. The commands are those of the program, also fed
+by a pipe that gives a few bytes at a time, and the libraries for C and Python where they are built; with --tools, those
+of mpslp-tools instead.
 
-With --names only names that collide under the fixed seed are tried, so many of them, and the ratio is that to other names of the
-same length. The merge gate runs this with few names and a ratio of 3. --instructions counts instructions under valgrind instead of
-measuring time.
+With --names only names that collide under the fixed seed are tried, so many of them, and the ratio is that to other
+names of the same length. The merge gate runs this with few names and a ratio of 3. --instructions counts instructions
+under valgrind instead of measuring time.
 """
 
 import argparse
@@ -107,6 +108,9 @@ def tools(scratch: Path) -> list[Command]:
     words = {
         "canon": ("canon", "FILE"),
         "canon --for": ("canon", "--for", "glpsol", "FILE"),
+        "canon --diff": ("canon", "--diff", "FILE"),
+        "fmt": ("fmt", "FILE"),
+        "fmt --diff": ("fmt", "--diff", "FILE"),
         "check": ("check", "FILE"),
         "portable": ("check", "--portable", "--all", "FILE"),
         "same": ("same", "FILE", "FILE"),
@@ -115,6 +119,7 @@ def tools(scratch: Path) -> list[Command]:
         "show": ("show", "FILE"),
         "digest": ("digest", "FILE"),
         "adapt": ("adapt", "FILE"),
+        "adapt --diff": ("adapt", "--diff", "FILE"),
         "survey": ("survey", "FILE"),
         "report": ("report", "-o", "PAGE", "FILE"),
     }
@@ -135,7 +140,9 @@ def feed(file: Path, end: int) -> None:
 def run(words: list[str], feeding: Feeding, file: Path) -> str:
     """What a command writes to standard error."""
     if feeding is Feeding.BY_PATH:
-        done = subprocess.run(words, stdin=subprocess.DEVNULL, stdout=subprocess.DEVNULL, stderr=subprocess.PIPE, check=False)
+        done = subprocess.run(
+            words, stdin=subprocess.DEVNULL, stdout=subprocess.DEVNULL, stderr=subprocess.PIPE, check=False
+        )
         return done.stderr.decode(errors="replace")
     taken, given = os.pipe2(os.O_DIRECT | os.O_CLOEXEC)
     with tempfile.TemporaryFile() as errors:
@@ -161,7 +168,8 @@ def instructions(command: Command, file: Path) -> float:
 
 @dataclass(frozen=True)
 class Measure:
-    """What is measured of a run, in how many rounds, what is too little to divide by, and how many times as much ten times the size may take."""
+    """What is measured of a run, in how many rounds, what is too little to divide by, and how many times as much ten
+    times the size may take."""
 
     unit: str
     of_run: Callable[[Command, Path], float]
@@ -197,7 +205,11 @@ class Line:
 
     def __str__(self) -> str:
         mark = "" if self.is_right() else f" more than {self.most:g}"
-        return "| " + " | ".join((*self.words, f"{self.first:.3f}", f"{self.second:.3f}", f"{self.ratio:.2f}{mark}")) + " |"
+        return (
+            "| "
+            + " | ".join((*self.words, f"{self.first:.3f}", f"{self.second:.3f}", f"{self.ratio:.2f}{mark}"))
+            + " |"
+        )
 
 
 def print_head(*words: str) -> None:
@@ -214,15 +226,21 @@ def report(lines: Iterable[Line]) -> bool:
     return is_right
 
 
-def growths(chosen: list[Command], kinds: list[str], sizes: list[int], measure: Measure, most: float, folder: Path) -> Iterator[Line]:
+def growths(
+    chosen: list[Command], kinds: list[str], sizes: list[int], measure: Measure, most: float, folder: Path
+) -> Iterator[Line]:
     """For each kind, format and command, what the two sizes take."""
     for kind in kinds:
         for form, lines in KINDS[kind].items():
-            files = {size: folder / f"{size}.{form}" for command in chosen for size in map(command.size, (SMALLEST, *sizes))}
+            files = {
+                size: folder / f"{size}.{form}" for command in chosen for size in map(command.size, (SMALLEST, *sizes))
+            }
             for size, file in files.items():
                 written(file, of_size(lines, size, SEED))
             for command in chosen:
-                start, small, large = measure.of_files(command, [files[command.size(size)] for size in (SMALLEST, *sizes)])
+                start, small, large = measure.of_files(
+                    command, [files[command.size(size)] for size in (SMALLEST, *sizes)]
+                )
                 ratio = (large - start) / max(small - start, measure.least)
                 yield Line((kind, form, command.name), small, large, ratio, most)
 
@@ -230,23 +248,38 @@ def growths(chosen: list[Command], kinds: list[str], sizes: list[int], measure: 
 def collisions(chosen: list[Command], count: int, measure: Measure, most: float, folder: Path) -> Iterator[Line]:
     """For each format and command, what other names and names that collide under the fixed seed take."""
     for form, named in NAMED.items():
-        files = [written(folder / f"{names.__name__}.{form}", named(names)(count, SEED)) for names in (alike, colliding)]
+        files = [
+            written(folder / f"{names.__name__}.{form}", named(names)(count, SEED)) for names in (alike, colliding)
+        ]
         for command in chosen:
             if command.feeding is Feeding.BY_PATH:
                 other, same = measure.of_files(command, files)
-                yield Line((f"{files[0].stat().st_size / 1e6:.1f}", form, command.name), other, same, same / other, most)
+                yield Line(
+                    (f"{files[0].stat().st_size / 1e6:.1f}", form, command.name), other, same, same / other, most
+                )
 
 
 def main() -> int:
     parser = argparse.ArgumentParser(description=__doc__, formatter_class=argparse.RawDescriptionHelpFormatter)
     parser.add_argument("--sizes", default="1M,10M", help="two sizes; default 1M,10M")
-    parser.add_argument("--most", type=float, help=f"the greatest ratio allowed; default {SECONDS.most_growth}, {INSTRUCTIONS.most_growth} of instructions, and {MOST_OF_NAMES:g} with --names")
+    parser.add_argument(
+        "--most",
+        type=float,
+        help=(
+            f"the greatest ratio allowed; default {SECONDS.most_growth}, {INSTRUCTIONS.most_growth} of "
+            f"instructions, and {MOST_OF_NAMES:g} with --names"
+        ),
+    )
     parser.add_argument("--kinds", default=",".join(KINDS), help="default: all of " + ", ".join(KINDS))
     parser.add_argument("--commands", help="only these, such as canon,show")
     parser.add_argument("--tools", action="store_true", help="the commands of mpslp-tools instead")
     parser.add_argument("--names", type=int, metavar="N", help="only N colliding names, against others")
-    parser.add_argument("--instructions", action="store_true", help="count instructions by valgrind instead of measuring time")
-    parser.add_argument("--rounds", type=int, help=f"runs of each command and file; default {SECONDS.rounds}, and 1 with --instructions")
+    parser.add_argument(
+        "--instructions", action="store_true", help="count instructions by valgrind instead of measuring time"
+    )
+    parser.add_argument(
+        "--rounds", type=int, help=f"runs of each command and file; default {SECONDS.rounds}, and 1 with --instructions"
+    )
     parser.add_argument("--program", default=str(PROGRAM), help="the path of mpslp")
     options = parser.parse_args()
     measure = INSTRUCTIONS if options.instructions else SECONDS
@@ -263,7 +296,14 @@ def main() -> int:
         else:
             sizes = options.sizes.split(",")
             print_head("kind", "format", "command", *(f"{size}, {measure.unit}" for size in sizes), "ratio")
-            lines = growths(chosen, options.kinds.split(","), list(map(size_in_bytes, sizes)), measure, options.most or measure.most_growth, folder)
+            lines = growths(
+                chosen,
+                options.kinds.split(","),
+                list(map(size_in_bytes, sizes)),
+                measure,
+                options.most or measure.most_growth,
+                folder,
+            )
         return 0 if report(lines) else 1
 
 

@@ -1,7 +1,8 @@
 """Files that were made to be slow: by kind, and by format.
 
-Each structure that an author of a file can fill has a kind that fills it in the way that is worst for a simple implementation. A kind
-is a function of a count, to which the size of the file is proportional. `generate.py --hostile` writes one such file.
+Each structure that an author of a file can fill has a kind that fills it in the way that is worst for a simple
+implementation. A kind is a function of a count, to which the size of the file is proportional. `generate.py --hostile`
+writes one such file.
 """
 
 import random
@@ -172,7 +173,8 @@ def bounds_of_lp(count: int, seed: int) -> Iterator[str]:
 
 
 def repeated_in_mps(count: int, seed: int) -> Iterator[str]:
-    """Each column between markers of its own, and one row without limits that has a right-hand side for each of them."""
+    """Each column between markers of its own, and one row without limits that has a right-hand side for each of
+    them."""
     yield "NAME HOSTILE FREE\nROWS\n N COST\n N FREE\nCOLUMNS\n"
     for column in column_names(count):
         yield f" M 'MARKER' 'INTORG'\n {column} COST 1\n M 'MARKER' 'INTEND'\n"
@@ -183,7 +185,11 @@ def repeated_in_mps(count: int, seed: int) -> Iterator[str]:
 
 def repeated_in_lp(count: int, seed: int) -> Iterator[str]:
     """One column is listed again and again, and one coefficient has very many signs."""
-    return lp([" r: 2 x\n", *(" - - + + - -\n" for _ in range(count)), " + y >= 1\n"], ["Generals\n"], (" x x\n" for _ in range(count)))
+    return lp(
+        [" r: 2 x\n", *(" - - + + - -\n" for _ in range(count)), " + y >= 1\n"],
+        ["Generals\n"],
+        (" x x\n" for _ in range(count)),
+    )
 
 
 # ---- comments and numbers
@@ -213,6 +219,20 @@ def long_numbers_of_mps(count: int, seed: int) -> Iterator[str]:
 
 def long_numbers_of_lp(count: int, seed: int) -> Iterator[str]:
     return lp(f" {row}: {long_number(number + 1)} x >= 1\n" for number, row in enumerate(row_names(count)))
+
+
+def chained_comments(mark: str, text: str) -> Lines:
+    """Comments between empty lines, of which only the first one and those at the ends of what is left occur once: the
+    lines of both texts that a diff compares, if one has fewer empty lines."""
+
+    def lines(count: int, seed: int) -> Iterator[str]:
+        head, *rest = text.splitlines(keepends=True)
+        names = chain(
+            ["x1", "u"], chain.from_iterable((f"x{number}", f"x{number - 1}") for number in range(2, count // 2 + 2))
+        )
+        return chain([head], (f"{mark} {name}\n\n\n" for name in names), rest)
+
+    return lines
 
 
 # ---- files that are rejected
@@ -260,7 +280,10 @@ def one_term_of_lp(count: int, seed: int) -> Iterator[str]:
 
 
 ACCEPTED: dict[str, dict[str, Lines]] = {
-    **{f"one-column-{name}": {"mps": one_column_of_mps(order), "lp": one_column_of_lp(order)} for name, order in ORDERS.items()},
+    **{
+        f"one-column-{name}": {"mps": one_column_of_mps(order), "lp": one_column_of_lp(order)}
+        for name, order in ORDERS.items()
+    },
     "tiny-columns": {"mps": tiny_columns_of_mps, "lp": one_row_of_lp},
     "many-names": {"mps": named_as_mps(long_names), "lp": named_as_lp(long_names)},
     "colliding": {"mps": named_as_mps(colliding), "lp": named_as_lp(colliding)},
@@ -272,6 +295,10 @@ ACCEPTED: dict[str, dict[str, Lines]] = {
     "comments": {
         "mps": comments("*", "NAME HOSTILE\nROWS\n N COST\nCOLUMNS\n X COST 1\nRHS\nENDATA\n"),
         "lp": comments("\\", "Minimize\n x\nEnd\n"),
+    },
+    "chained-comments": {
+        "mps": chained_comments("*", "NAME HOSTILE\nROWS\n N COST\nCOLUMNS\n X COST 1\nRHS\nENDATA\n"),
+        "lp": chained_comments("\\", "Minimize\n x\nEnd\n"),
     },
 }
 """Kinds that are accepted."""

@@ -1,4 +1,5 @@
-"""How many instructions a command executes: nearly the same in each run, whatever else the machine does. It needs valgrind."""
+"""How many instructions a command executes: nearly the same in each run, whatever else the machine does. It needs
+valgrind."""
 
 import re
 import subprocess
@@ -19,5 +20,7 @@ def counted(errors: str) -> int:
 
 def instructions(words: list[str]) -> int:
     """The instructions of a command without input, whose output is not kept."""
-    done = subprocess.run([*COUNTING, *words], stdin=subprocess.DEVNULL, stdout=subprocess.DEVNULL, stderr=subprocess.PIPE, check=False)
+    done = subprocess.run(
+        [*COUNTING, *words], stdin=subprocess.DEVNULL, stdout=subprocess.DEVNULL, stderr=subprocess.PIPE, check=False
+    )
     return counted(done.stderr.decode(errors="replace"))

@@ -3,11 +3,12 @@
 
     library.py [--files KIND,..] [--sizes 10M,..] [--rounds N] [--python PYTHON]
 
-For each file the calls run in turns, each round in processes of their own: mpslp_load and mpslp_store in C (library.c), and
-load, arrays, from_arrays and dumps in Python. The table has the median seconds of each call, the peak of resident memory by the
-size of the file, and which part of the time of load other threads of Python could not run.
+For each file the calls run in turns, each round in processes of their own: mpslp_load and mpslp_store in C (library.c),
+and load, arrays, from_arrays and dumps in Python. The table has the median seconds of each call, the peak of resident
+memory by the size of the file, and which part of the time of load other threads of Python could not run.
 
-build/libmpslp.a has to be built, and PYTHON has the package, as the one of `make python-check` in build/python/bin/python.
+build/libmpslp.a has to be built, and PYTHON has the package, as the one of `make python-check` in
+build/python/bin/python.
 """
 
 import argparse
@@ -25,8 +26,8 @@ ROOT = HERE.parent
 PROGRAM = ROOT / "crates" / "mpslp" / "out" / "mpslp"
 LIBRARY = ROOT / "build" / "libmpslp.a"
 
-# Run by the Python that has the package, with a path: prints seconds of the calls, the peak, and the part of load in which a
-# second thread did not run, by the gaps between its turns.
+# Run by the Python that has the package, with a path: prints seconds of the calls, the peak, and the part of load in
+# which a second thread did not run, by the gaps between its turns.
 CALLS = """
 import resource, sys, threading, time
 import mpslp
@@ -83,12 +84,19 @@ def printed(words: list[str]) -> list[float]:
 
 def main() -> None:
     parser = argparse.ArgumentParser(description=__doc__, formatter_class=argparse.RawDescriptionHelpFormatter)
-    parser.add_argument("--files", type=listed, default=["thin", "lp", "many-columns"], help="some of " + ", ".join(KINDS))
+    parser.add_argument(
+        "--files", type=listed, default=["thin", "lp", "many-columns"], help="some of " + ", ".join(KINDS)
+    )
     parser.add_argument("--sizes", type=listed, default=["10M"])
     parser.add_argument("--rounds", type=int, default=5)
-    parser.add_argument("--python", default=str(ROOT / "build" / "python" / "bin" / "python"), help="a Python with the package")
+    parser.add_argument(
+        "--python", default=str(ROOT / "build" / "python" / "bin" / "python"), help="a Python with the package"
+    )
     options = parser.parse_args()
-    print("| file | MB | mpslp_load | mpslp_store | memory | load | arrays | from_arrays | dumps | memory | part of load without others |")
+    print(
+        "| file | MB | mpslp_load | mpslp_store | memory | load | arrays | from_arrays | dumps | memory | "
+        "part of load without others |"
+    )
     print("|---|---|---|---|---|---|---|---|---|---|---|")
     with tempfile.TemporaryDirectory() as scratch:
         library = built_library(Path(scratch))
@@ -104,7 +112,12 @@ def main() -> None:
                 of_file = source.stat().st_size
                 *times, peak, part = calls
                 words = [f"{load:.2f}", f"{store:.2f}", f"{memory / of_file:.1f}", *(f"{it:.2f}" for it in times)]
-                print("| " + " | ".join([source.name, f"{of_file / 1e6:.1f}", *words, f"{peak / of_file:.1f}", f"{part:.3f}"]) + " |", flush=True)
+                print(
+                    "| "
+                    + " | ".join([source.name, f"{of_file / 1e6:.1f}", *words, f"{peak / of_file:.1f}", f"{part:.3f}"])
+                    + " |",
+                    flush=True,
+                )
 
 
 if __name__ == "__main__":

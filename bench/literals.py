@@ -21,7 +21,7 @@ def short_decimal(source):
     count = source.randint(1, 6)
     text = str(digits(source, count))
     places = source.randint(0, count)
-    integer, fraction = text[:count - places], text[count - places:]
+    integer, fraction = text[: count - places], text[count - places :]
     if integer and not fraction:
         return integer + source.choice((".", ".0"))
     return (integer or source.choice(("", "0"))) + "." + fraction
@@ -46,7 +46,7 @@ def exponent(source):
 
 def digits(source, count):
     """A whole number of exactly so many digits."""
-    return source.randrange(10 ** (count - 1), 10 ** count)
+    return source.randrange(10 ** (count - 1), 10**count)
 
 
 def magnitude(source):

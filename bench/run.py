@@ -66,11 +66,11 @@ class Program:
 
     def start(self, source):
         if not self.by_streams:
-            return subprocess.Popen(self.command(source), stdin=subprocess.DEVNULL,
-                                    stdout=subprocess.DEVNULL, stderr=subprocess.DEVNULL)
+            return subprocess.Popen(
+                self.command(source), stdin=subprocess.DEVNULL, stdout=subprocess.DEVNULL, stderr=subprocess.DEVNULL
+            )
         with open(source, "rb") as reader, open(output_path(), "wb") as writer:
-            return subprocess.Popen(self.command(source), stdin=reader, stdout=writer,
-                                    stderr=subprocess.DEVNULL)
+            return subprocess.Popen(self.command(source), stdin=reader, stdout=writer, stderr=subprocess.DEVNULL)
 
 
 # The options of glpsol for files of each format.
@@ -82,14 +82,16 @@ def programs(path_of_ours, source, target):
     output = str(output_path())
     chosen = [
         Program(OURS, found(path_of_ours), ("canon", source, target, "-"), by_streams=True),
-        Program("glpsol", found("glpsol"), (
-            GLPSOL_READS[source], "INPUT", "--check", GLPSOL_WRITES[target], output)),
+        Program("glpsol", found("glpsol"), (GLPSOL_READS[source], "INPUT", "--check", GLPSOL_WRITES[target], output)),
     ]
     if target == "mps":
         # It writes no LP. Without "presolve off" clp writes the presolved model.
         # Its format 4 keeps all digits of a double; its usual one keeps fewer.
-        chosen.append(Program("clp", found("clp"), (
-            "INPUT", "-presolve", "off", "-outputFormat", "4", "-export", output, "-quit")))
+        chosen.append(
+            Program(
+                "clp", found("clp"), ("INPUT", "-presolve", "off", "-outputFormat", "4", "-export", output, "-quit")
+            )
+        )
     return chosen
 
 
@@ -193,9 +195,13 @@ def table_line(source, program, result, ours):
     if result.failure:
         fields += [result.failure, "", "", "", ""]
     else:
-        fields += [f"{result.seconds:.2f}", f"{size / 1e6 / result.seconds:.1f}",
-                   ratio_text(result, ours), memory_text(result.memory_bytes),
-                   f"{result.memory_bytes / size:.1f}"]
+        fields += [
+            f"{result.seconds:.2f}",
+            f"{size / 1e6 / result.seconds:.1f}",
+            ratio_text(result, ours),
+            memory_text(result.memory_bytes),
+            f"{result.memory_bytes / size:.1f}",
+        ]
     return "| " + " | ".join(fields) + " |"
 
 
@@ -259,7 +265,8 @@ def wanted_files(options):
         shapes = {kind: KINDS[kind] for kind in options.kinds}
     return [
         (name, size, words + ("--size", size, "--seed", str(options.seed)))
-        for name, words in shapes.items() for size in sorted(options.sizes, key=size_in_bytes)
+        for name, words in shapes.items()
+        for size in sorted(options.sizes, key=size_in_bytes)
     ]
 
 
@@ -268,16 +275,22 @@ def listed(text):
 
 
 def arguments():
-    parser = argparse.ArgumentParser(
-        description=__doc__, formatter_class=argparse.RawDescriptionHelpFormatter)
+    parser = argparse.ArgumentParser(description=__doc__, formatter_class=argparse.RawDescriptionHelpFormatter)
     parser.add_argument("--sizes", type=listed, default=["10M"], help="as 10M,100M; default 10M")
-    parser.add_argument("--kinds", type=listed, default=["thin", "full", "thin-shuffled"],
-                        help="some of " + ", ".join(KINDS) + "; default thin,full,thin-shuffled")
-    parser.add_argument("--hostile", action="store_true",
-                        help="the hostile files in place of the kinds")
-    parser.add_argument("--source", choices=FORMATS, default="mps",
-                        help="the format that is read; of lp there is one kind, thin, whose size is that "
-                        "of the same model as MPS, and the hostile files")
+    parser.add_argument(
+        "--kinds",
+        type=listed,
+        default=["thin", "full", "thin-shuffled"],
+        help="some of " + ", ".join(KINDS) + "; default thin,full,thin-shuffled",
+    )
+    parser.add_argument("--hostile", action="store_true", help="the hostile files in place of the kinds")
+    parser.add_argument(
+        "--source",
+        choices=FORMATS,
+        default="mps",
+        help="the format that is read; of lp there is one kind, thin, whose size is that "
+        "of the same model as MPS, and the hostile files",
+    )
     parser.add_argument("--target", choices=FORMATS, default="mps", help="the format that is written")
     parser.add_argument("--seed", type=int, default=1)
     parser.add_argument("--runs", type=int, default=5)

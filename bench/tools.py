@@ -3,10 +3,11 @@
 
     tools.py [--files KIND,..] [--sizes 10M,..] [--runs N] [--python PYTHON] [--only WORD,..]
 
-Each command runs in a process of its own on one core. The table has the least processor time of the runs, user and system
-together, and the largest resident memory of any run. The last two rows are what a command takes to start.
+Each command runs in a process of its own on one core. The table has the least processor time of the runs, user and
+system together, and the largest resident memory of any run. The last two rows are what a command takes to start.
 
-PYTHON has the package, as the one of `make python-check` in build/python/bin/python. `program` is the proved program, beside it.
+PYTHON has the package, as the one of `make python-check` in build/python/bin/python. `program` is the proved program,
+beside it.
 """
 
 import argparse
@@ -83,7 +84,9 @@ def commands(source: Path, scratch: Path, python: str) -> Iterator[tuple[str, Ca
     yield "diff", lambda runs: least([*tools, "diff", str(source), str(made(changed, source, python))], runs, 1)
     yield "report", command("report", "-o", str(scratch / "page.html"), str(source))
     yield "adapt --dry-run", command("adapt", "--dry-run", str(source))
-    yield "adapt --dry-run, an LP file of 5 MB that it changes", lambda runs: least([*tools, "adapt", "--dry-run", str(misspelt(scratch))], runs, 1)
+    yield "adapt --dry-run, an LP file of 5 MB that it changes", lambda runs: least(
+        [*tools, "adapt", "--dry-run", str(misspelt(scratch))], runs, 1
+    )
     yield "--version", command("--version")
     yield "canon, a small file", command("canon", str(SMALL))
 
@@ -108,19 +111,31 @@ def main() -> None:
     parser.add_argument("--files", type=listed, default=["default"], help="some of " + ", ".join(("default", *KINDS)))
     parser.add_argument("--sizes", type=listed, default=["98M"])
     parser.add_argument("--runs", type=int, default=3)
-    parser.add_argument("--python", default=str(ROOT / "build" / "python" / "bin" / "python"), help="a Python with the package")
+    parser.add_argument(
+        "--python", default=str(ROOT / "build" / "python" / "bin" / "python"), help="a Python with the package"
+    )
     parser.add_argument("--only", type=listed, default=[""], help="the commands that begin with one of these words")
     options = parser.parse_args()
     print("| file | MB | command | seconds | memory, MB |")
     print("|---|---|---|---|---|")
     for size in options.sizes:
         for kind in options.files:
-            source = generated(f"default-{size}.mps", ["generate.py", "--size", size]) if kind == "default" else file_of(kind, size, str(PROGRAM))
+            source = (
+                generated(f"default-{size}.mps", ["generate.py", "--size", size])
+                if kind == "default"
+                else file_of(kind, size, str(PROGRAM))
+            )
             with tempfile.TemporaryDirectory() as scratch:
                 for name, measure in commands(source, Path(scratch), options.python):
                     if name.startswith(tuple(options.only)):
                         found = measure(options.runs)
-                        row = [source.name, f"{source.stat().st_size / 1e6:.1f}", name, f"{found.seconds:.2f}", f"{found.memory / 1e6:.0f}"]
+                        row = [
+                            source.name,
+                            f"{source.stat().st_size / 1e6:.1f}",
+                            name,
+                            f"{found.seconds:.2f}",
+                            f"{found.memory / 1e6:.0f}",
+                        ]
                         print(f"| {' | '.join(row)} |", flush=True)
 
 

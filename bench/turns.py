@@ -3,17 +3,18 @@
 
     turns.py PROGRAM OTHER [--files KIND,..] [--sizes 10M,..] [--rounds N] [--instructions]
 
-Each file is read and written again by every program, one after another, in rounds whose order rotates, so that other load on
-the machine affects all alike. The table has, for each file and program, the median over the rounds of the processor time of
-that program divided by that of PROGRAM in the same round (above 1: PROGRAM is faster), the same for wall time, PROGRAM's
-seconds, and the largest memory of any run, divided by the size of the file. Times of runs in different rounds are never
-compared.
+Each file is read and written again by every program, one after another, in rounds whose order rotates, so that other
+load on the machine affects all alike. The table has, for each file and program, the median over the rounds of the
+processor time of that program divided by that of PROGRAM in the same round (above 1: PROGRAM is faster), the same for
+wall time, PROGRAM's seconds, and the largest memory of any run, divided by the size of the file. Times of runs in
+different rounds are never compared.
 
-A peer that rejects a file, or writes less than an eighth of it, has no time. Files are kept in bench/data/, with the converter
-that is compiled of coinutils.cpp, since CoinUtils has no program of its own; it needs g++ and coinor-libcoinutils-dev.
+A peer that rejects a file, or writes less than an eighth of it, has no time. Files are kept in bench/data/, with the
+converter that is compiled of coinutils.cpp, since CoinUtils has no program of its own; it needs g++ and
+coinor-libcoinutils-dev.
 
-With --instructions the table has how many million instructions PROGRAM and OTHER execute for each file, by valgrind, and the second
-divided by the first. That takes one run of each, and does not depend on other load.
+With --instructions the table has how many million instructions PROGRAM and OTHER execute for each file, by valgrind,
+and the second divided by the first. That takes one run of each, and does not depend on other load.
 """
 
 import argparse
@@ -68,7 +69,9 @@ class Program:
     def start(self, source: Path) -> "subprocess.Popen[bytes]":
         words = [str(source) if it == "INPUT" else str(OUTPUT) if it == "OUTPUT" else it for it in self.words]
         by_streams = "INPUT" not in self.words
-        with open(source if by_streams else os.devnull, "rb") as given, open(OUTPUT if by_streams else os.devnull, "wb") as taken:
+        with open(source if by_streams else os.devnull, "rb") as given, open(
+            OUTPUT if by_streams else os.devnull, "wb"
+        ) as taken:
             return subprocess.Popen(words, stdin=given, stdout=taken, stderr=subprocess.DEVNULL)
 
 
@@ -81,13 +84,18 @@ class Run:
 
 def programs(path: str, other: str, source: str, target: str) -> list[Program]:
     """PROGRAM first, then the other version, then the peers that are installed."""
-    ours = [Program(name, (os.path.abspath(at), "canon", source, target, "-")) for name, at in (("mpslp", path), ("other", other))]
+    ours = [
+        Program(name, (os.path.abspath(at), "canon", source, target, "-"))
+        for name, at in (("mpslp", path), ("other", other))
+    ]
     reads = {"mps": "--freemps", "lp": "--lp"}[source]
     writes = {"mps": "--wfreemps", "lp": "--wlp"}[target]
     peers = [Program("glpsol", ("glpsol", reads, "INPUT", "--check", writes, "OUTPUT"))]
     if target == "mps":
         # Without "presolve off" clp writes the presolved model; its format 4 keeps all digits of a double.
-        peers.append(Program("clp", ("clp", "INPUT", "-presolve", "off", "-outputFormat", "4", "-export", "OUTPUT", "-quit")))
+        peers.append(
+            Program("clp", ("clp", "INPUT", "-presolve", "off", "-outputFormat", "4", "-export", "OUTPUT", "-quit"))
+        )
     lp_solve_reads = {"mps": ("-fmps", "INPUT"), "lp": None}[source]
     if lp_solve_reads and target == "mps":
         peers.append(Program("lp_solve", ("lp_solve", "-parse", *lp_solve_reads, "-wfmps", "OUTPUT")))
@@ -179,12 +187,22 @@ def rows(source: Path, runs: dict[str, list[Run | None]]) -> Iterator[list[str]]
         wall = statistics.median(its.wall_seconds / mine.wall_seconds for mine, its in pairs)
         seconds = statistics.median(its.processor_seconds for _, its in pairs)
         memory = max(its.memory for _, its in pairs) / size
-        yield [source.name, f"{size / 1e6:.1f}", name, f"{processor:.2f}", f"{wall:.2f}", f"{seconds:.2f}", f"{memory:.1f}"]
+        yield [
+            source.name,
+            f"{size / 1e6:.1f}",
+            name,
+            f"{processor:.2f}",
+            f"{wall:.2f}",
+            f"{seconds:.2f}",
+            f"{memory:.1f}",
+        ]
 
 
 def row_of_instructions(path: str, other: str, source: Path, target: str) -> list[str]:
     form = source.suffix.removeprefix(".")
-    ours, its = (instructions([os.path.abspath(program), "canon", form, target, str(source)]) / 1e6 for program in (path, other))
+    ours, its = (
+        instructions([os.path.abspath(program), "canon", form, target, str(source)]) / 1e6 for program in (path, other)
+    )
     return [source.name, f"{source.stat().st_size / 1e6:.1f}", f"{ours:.1f}", f"{its:.1f}", f"{its / ours:.3f}"]
 
 
@@ -221,7 +239,15 @@ def main() -> None:
     if options.instructions:
         print_head("file", "MB", "million instructions of mpslp", "of the other version", "ratio")
     else:
-        print_head("file", "MB", "program", "processor time, by mpslp's", "wall time, by mpslp's", "seconds", "peak memory, by the file's size")
+        print_head(
+            "file",
+            "MB",
+            "program",
+            "processor time, by mpslp's",
+            "wall time, by mpslp's",
+            "seconds",
+            "peak memory, by the file's size",
+        )
     for size in sorted(options.sizes, key=size_in_bytes):
         for kind in options.files:
             source = file_of(kind, size, os.path.abspath(options.program))

@@ -1,6 +1,7 @@
 #!/bin/sh
 # release/check.sh: installs the archive and the Debian package of build/dist/ in an empty Debian, one after the other, uses
-# them as use.sh does, removes them, and checks that nothing is left.
+# them as use.sh does, removes them, and checks that nothing is left. Before that it builds the library and the wheel in two
+# directories, as same_bytes.sh says, and compares them.
 #
 # It needs root, lintian, and debootstrap for the first run, which downloads Debian's base system and keeps it in
 # build/roots/; later runs need no network. SUITE and MIRROR name another Debian.
@@ -12,7 +13,7 @@ suite=${SUITE:-bookworm}
 mirror=${MIRROR:-http://deb.debian.org/debian}
 version=$(cat VERSION)
 name=mpslp-$version-linux-x86_64
-wheel=mpslp-$version-cp310-abi3-linux_x86_64.whl
+wheel=$(python3 python/wheel_tag.py --name)
 archive=build/dist/$name.tar.gz
 package=build/dist/mpslp_${version}_amd64.deb
 base=build/roots/$suite.tar
@@ -158,6 +159,7 @@ check_bare() {
 
 make_base
 lints
+sh release/same_bytes.sh
 check_archive
 check_package
 check_bare

@@ -28,19 +28,19 @@ name=mpslp-$version-linux-x86_64
 archive=$name.tar.gz
 package=mpslp_${version}_amd64.deb
 maintainer="mpslp maintainers <maintainers@mpslp.invalid>"
-wheel=mpslp-$version-cp310-abi3-linux_x86_64.whl
+wheel=$(python3 python/wheel_tag.py --name)
 program=crates/mpslp/out/mpslp
 library=build/libmpslp.so.0
 rm -rf "$dist"
 mkdir -p "$dist/work"
 work=$(realpath "$dist/work")
 
-# The wheel is made of the commit's files, whose modes go into it, and without debug information, which contains their paths.
+# The wheel is made of the commit's files, whose modes go into it.
 build_wheel() {
     mkdir -p "$work/source/build"
     git -c tar.umask=0022 archive HEAD VERSION include python docs/errors.tsv docs/warnings.tsv docs/portable.tsv docs/adapt.tsv | tar -xf - -C "$work/source"
     cp build/libmpslp.a "$work/source/build/"
-    CFLAGS=-g0 sh "$work/source/python/build.sh" > /dev/null
+    sh "$work/source/python/build.sh" > /dev/null
     test -f "$work/source/build/$wheel" || die "the wheel has another name than $wheel"
 }
 
@@ -127,7 +127,7 @@ Architecture: amd64
 Maintainer: $maintainer
 Installed-Size: $1
 Depends: libc6 (>= $glibc), python3 (>= 3.10)
-Suggests: gcc, pkgconf, python3-venv
+Suggests: gcc, pkgconf, python3-igraph, python3-venv, python3-zstandard
 Section: math
 Priority: optional
 Description: one canonical text for each linear or mixed-integer model

@@ -4,7 +4,7 @@
 
 # Compares the canonical texts of vectors/ and examples/ with their frozen digests.
 try-digests:
-	python3 tests/digests.py
+	python3 tests/program/digests.py
 
 # Builds the archive and the Debian package in build/dist/, with a record of what they were built from.
 dist:

@@ -75,7 +75,10 @@ def main():
             print("another answer in a small stack:", *command[1:], file=sys.stderr)
         elif not is_enough(command, expected, needed):
             needed = least(command, expected, needed, PROMISED)
-    print(f"{count} commands in a stack of {PROMISED} KiB: {wrong} with another answer; {needed} KiB are enough for all others")
+    print(
+        f"{count} commands in a stack of {PROMISED} KiB: {wrong} with another answer; {needed} KiB are enough "
+        "for all others"
+    )
     return 1 if wrong else 0
 
 

@@ -144,4 +144,20 @@ for tools in mpslp-tools planning/bin/mpslp-tools; do
     $tools same formatted.lp examples/small.lp > said
     $tools report -o page.html examples/small.mps
     test -s page.html || die "$tools report writes no page"
+    $tools report --out-dir pages examples/small.mps examples/semi.mps
+    grep -q 'href="./semi.mps.html"' pages/index.html || die "$tools report writes no index"
+    sed 's/<= 4/<= 5/' examples/small.canonical.lp > ours.lp
+    sed 's/>= 1/>= 2/' examples/small.canonical.lp > theirs.lp
+    $tools merge -o merged.lp examples/small.canonical.lp ours.lp theirs.lp
+    sed 's/<= 4/<= 5/; s/>= 1/>= 2/' examples/small.canonical.lp | cmp - merged.lp
+    sed 's/<= 4/<= 6/' examples/small.canonical.lp > other.lp
+    exits_with 1 $tools merge --json examples/small.canonical.lp ours.lp other.lp
+    says '"verdict": "conflicts"'
+    sed 's/MYG/other/; s/LIM1/another/' examples/small.canonical.lp > names.lp
+    exits_with 0 $tools same --any-names --map names.json names.lp examples/small.mps
+    says 'same but for names'
+    $tools canon --names-back --map names.json examples/small.mps > back.mps
+    $tools same back.mps names.lp > said
+    test "$($tools digest --any-names - -f lp < names.lp | cut -c 1-64)" = "$($tools digest --any-names examples/small.mps | cut -c 1-64)" ||
+        die "$tools digest --any-names depends on names"
 done

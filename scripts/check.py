@@ -1,8 +1,8 @@
 #!/usr/bin/env python3
 """Checks one crate over the proved libraries of `make`: scripts/check.py CRATE [FLAG ..]
 
-The flags are those of the kit's `rattle check`, such as --only=module::function or --allow-holes. The crates below are proved first,
-as far as they are not. What a check has proved is kept for the next one, which then takes seconds.
+The flags are those of the kit's `rattle check`, such as --only=module::function or --allow-holes. The crates below are
+proved first, as far as they are not. What a check has proved is kept for the next one, which then takes seconds.
 """
 
 import subprocess
@@ -15,7 +15,8 @@ from prove import prove_all
 
 
 def crate_to_check(usage: str) -> Crate:
-    """The crate that the first argument names, once those below it are proved. Ends the program if it names none, or if they are not."""
+    """The crate that the first argument names, once those below it are proved. Ends the program if it names none, or if
+    they are not."""
     crates = crates_of_repository()
     if len(sys.argv) < 2 or sys.argv[1] not in crates:
         print(usage, file=sys.stderr)
@@ -29,7 +30,14 @@ def crate_to_check(usage: str) -> Crate:
 
 def check(crate: Crate, kept: Path, flags: list[str], output: int | None = None) -> int:
     """The exit status of a check that keeps what it proves in this directory."""
-    words = [f"{kit_folder()}/bin/rattle", "check", *words_of(crate, crates_of_repository(), LIBRARIES), "--incremental", str(kept), *flags]
+    words = [
+        f"{kit_folder()}/bin/rattle",
+        "check",
+        *words_of(crate, crates_of_repository(), LIBRARIES),
+        "--incremental",
+        str(kept),
+        *flags,
+    ]
     return subprocess.run(words, cwd=crate.folder, stdout=output, check=False).returncode
 
 

@@ -1,13 +1,14 @@
 #!/usr/bin/env python3
 """Computes the definitions on a model file, in the checker: scripts/compute_definition.py FILE [--claim FILE]
 
-The result of a file is its canonical MPS text or its first error. It is claimed: with --claim by a file of yours, which has this
-text or the line of an error, such as `line 4: BadNumber`; otherwise by tests/independent_reader.py. A crate that says nothing but
-this claim is written to build/own_file: the bytes of the file and the claim, in the definitions that
-docs/TRUST.md lists. The checker proves it by computing the definitions on the bytes, or rejects it. No code of mpslp runs.
+The result of a file is its canonical MPS text or its first error. It is claimed: with --claim by a file of yours, which
+has this text or the line of an error, such as `line 4: BadNumber`; otherwise by tests/shared/independent_reader.py. A
+crate that says nothing but this claim is written to build/own_file: the bytes of the file and the claim, in the
+definitions that docs/TRUST.md lists. The checker proves it by computing the definitions on the bytes, or rejects it. No
+code of mpslp runs.
 
-The first call on a machine proves the crates with the definitions, if `make` has not: some 20 minutes. Large files take long; a
-hundred lines are no problem.
+The first call on a machine proves the crates with the definitions, if `make` has not: some 20 minutes. Large files take
+long; a hundred lines are no problem.
 """
 
 import argparse
@@ -21,7 +22,7 @@ from crates import LIBRARIES, Crate, crates_of_repository, words_of
 from kit import ROOT, kit_folder, require_kit
 from prove import prove_all
 
-READER = ROOT / "tests" / "independent_reader.py"
+READER = ROOT / "tests" / "shared" / "independent_reader.py"
 CRATE = "own_file"
 # The status of `rattle check` if it is the claim that is not proved.
 NOT_PROVED = 1
@@ -29,7 +30,8 @@ NOT_PROVED = 1
 NO_VERDICT = 3
 # The crates whose definitions and lemmas the claim cites.
 USES = (
-    "mpslp_decimal mpslp_types mpslp_model_core mpslp_builder mpslp_lines mpslp_mps mpslp_lp_tokens mpslp_lp_grammar mpslp_lp mpslp_canonical_mps"
+    "mpslp_decimal mpslp_types mpslp_model_core mpslp_builder mpslp_lines mpslp_mps mpslp_lp_tokens "
+    "mpslp_lp_grammar mpslp_lp mpslp_canonical_mps"
 )
 # The lines in which the checker says what it rejects: where one value is expected, it found the other.
 OF_AN_ERROR = re.compile(r": error: |^  ")
@@ -102,14 +104,16 @@ use Rattle.own_file.specs.File.{{bytes, claimed_text, Claim}}
 abbrev draft_in : List ℕ → Draft
 draft_in text = draft_of (declarations_of text)
 
-prints : (all : Draft) (output : List ℕ) → is_in_order (listing_in all) ≡ true → text_of (listed_lines (listing_in all)) ≡ output
+prints : (all : Draft) (output : List ℕ) → is_in_order (listing_in all) ≡ true
+    → text_of (listed_lines (listing_in all)) ≡ output
     → canonical_mps (model_of all) ≡ output
 prints all output sorted h = ap (λ (m : Listing). text_of (listed_lines m)) (listing_of-model all sorted) ∙ h
 
 pub claimed : Claim
 unfolding digits trailing_zeros
 claimed =
-    (model_of (draft_in bytes), record {{ text = refl; means = means-from_none (declarations_of bytes) refl refl refl refl }},
+    (model_of (draft_in bytes),
+     record {{ text = refl; means = means-from_none (declarations_of bytes) refl refl refl refl }},
      prints (draft_in bytes) claimed_text refl refl)
 """
 
@@ -166,10 +170,19 @@ def sources(form: str, text: bytes, claim: bytes) -> dict[str, str]:
     if fault := FAULT.fullmatch(claim.decode("latin-1")):
         name = f'Some (codes "{fault[3]}")' if fault[3] else "None"
         module, is_first = {"mps": ("mpslp_mps", "IsFirstMpsFault"), "lp": ("mpslp_lp", "IsFirstLpFault")}[form]
-        words |= {"kind": fault[2], "line": fault[1] or "0", "name": name, "module": f"{module}.specs.FirstFault", "is_first": is_first}
+        words |= {
+            "kind": fault[2],
+            "line": fault[1] or "0",
+            "name": name,
+            "module": f"{module}.specs.FirstFault",
+            "is_first": is_first,
+        }
         file, proof = FAULT_FILE, FAULT_PROOF
     else:
-        module, declares = {"mps": ("mpslp_mps.specs.MpsText", "DeclaresMps"), "lp": ("mpslp_lp.specs.LpText", "DeclaresLp")}[form]
+        module, declares = {
+            "mps": ("mpslp_mps.specs.MpsText", "DeclaresMps"),
+            "lp": ("mpslp_lp.specs.LpText", "DeclaresLp"),
+        }[form]
         claimed, claimed_rest = listed(claim)
         words |= {"module": module, "declares": declares, "claimed": claimed, "claimed_rest": claimed_rest}
         file, proof = TEXT_FILE, TEXT_PROOF.format(module=module, declares=declares)
@@ -199,7 +212,11 @@ def check(folder: Path) -> subprocess.CompletedProcess[bytes]:
     words = words_of(Crate(CRATE, f"{CRATE}: {USES}", uses, uses), crates, LIBRARIES)
     return subprocess.run(
         [f"{kit_folder()}/bin/rattle", "check", *words, "--jobs", "1"],
-        cwd=folder, stdin=subprocess.DEVNULL, stdout=subprocess.PIPE, stderr=subprocess.STDOUT, check=False,
+        cwd=folder,
+        stdin=subprocess.DEVNULL,
+        stdout=subprocess.PIPE,
+        stderr=subprocess.STDOUT,
+        check=False,
     )
 
 
@@ -216,7 +233,10 @@ def main() -> int:
         return NO_VERDICT
     claim = options.claim.read_bytes() if options.claim else claim_of_reader(form, options.file)
     folder = crate_with(sources(form, options.file.read_bytes(), claim))
-    print(f"the claim is {(folder / 'specs' / 'File.antt').relative_to(ROOT)}; the checker computes the definitions", flush=True)
+    print(
+        f"the claim is {(folder / 'specs' / 'File.antt').relative_to(ROOT)}; the checker computes the definitions",
+        flush=True,
+    )
     checked = check(folder)
     printed = checked.stdout.decode(errors="replace").splitlines()
     if checked.returncode == NOT_PROVED:

@@ -23,10 +23,12 @@ class Crate:
     libraries: tuple[str, ...]
     # Those of the libraries that are crates of the repository.
     uses: tuple[str, ...]
+    # The repository, or a copy of what is proved of it.
+    root: Path = ROOT
 
     @property
     def folder(self) -> Path:
-        return ROOT / "crates" / self.name
+        return self.root / "crates" / self.name
 
     @property
     def is_program(self) -> bool:
@@ -52,14 +54,17 @@ class Crate:
         return sum.hexdigest()
 
 
-def crates_of_repository() -> dict[str, Crate]:
-    """The crates of crates.txt, by name."""
+def crates_of_repository(root: Path = ROOT) -> dict[str, Crate]:
+    """The crates of the crates.txt of the repository, or of a copy, by name."""
     lines = {}
-    for line in (ROOT / "crates.txt").read_text().splitlines():
+    for line in (root / "crates.txt").read_text().splitlines():
         name, colon, uses = line.partition("#")[0].partition(":")
         if colon:
             lines[name.split()[0]] = (line, tuple(uses.split()))
-    return {name: Crate(name, line, uses, tuple(use for use in uses if use in lines)) for name, (line, uses) in lines.items()}
+    return {
+        name: Crate(name, line, uses, tuple(use for use in uses if use in lines), root)
+        for name, (line, uses) in lines.items()
+    }
 
 
 def seconds_of_crates(table: str) -> dict[str, float]:
@@ -128,10 +133,11 @@ def is_proved_and_built(crates: list[Crate]) -> bool:
 
 
 def words_of(crate: Crate, crates: dict[str, Crate], libraries: Path) -> list[str]:
-    """The words that name a crate to the kit's `rattle`, in the directory of the crate: its libraries, and the kit's logic.
+    """The words that name a crate to the kit's `rattle`, in the directory of the crate: its libraries, and the kit's
+    logic.
 
-    A static library is read as a library here: so less is read, and the functions and their proofs are the same. Who builds it adds
-    `--crate-type staticlib`."""
+    A static library is read as a library here: so less is read, and the functions and their proofs are the same. Who
+    builds it adds `--crate-type staticlib`."""
     kit, folders = kit_folder(), {it.name: library_folder(libraries, it.name) for it in below(crates, *crate.uses)}
     words = ["--crate-name", crate.name, "src/main.rt" if crate.is_program else "src/lib.rt"]
     for name in ("std", *crate.libraries):

@@ -1,11 +1,11 @@
 #!/usr/bin/env python3
 """The merge gate, quietly: scripts/gate.py
 
-`rt ci` proves every crate and its tests, and runs the tests and programs, on a copy of the crates in build/ci/. The copy has no
-mutants, since `rt ci` would check a whole crate for each: scripts/mutants.py checks that the prover rejects them, those of a
-crate as soon as `rt ci` has built what it needs, on processors that `rt ci` leaves idle. The scripts of TESTS test what was built.
-One line is printed for each crate, its mutants and each script; all of their output goes to build/log/. A mutant that cannot be
-applied, and a file that is not laid out, are found before `rt ci` begins.
+`rt ci` proves every crate and its tests, and runs the tests and programs, on a copy of the crates in build/ci/. The
+copy has no mutants, since `rt ci` would check a whole crate for each: scripts/mutants.py checks that the prover rejects
+them, those of a crate as soon as `rt ci` has built what it needs, on processors that `rt ci` leaves idle. The scripts
+of TESTS test what was built. One line is printed for each crate, its mutants and each script; all of their output goes
+to build/log/. A mutant that cannot be applied, and a file that is not laid out, are found before `rt ci` begins.
 """
 
 import os
@@ -58,29 +58,39 @@ PACKAGE = ROOT / "build" / "python" / "bin"
 
 # The longest first. It takes minutes on one processor, so it begins before `rt ci` has ended.
 TESTS = (
-    Test(CALLERS, ("sh", "tests/callers.sh"), needs=frozenset({PROGRAM, "mpslp_c"})),
-    Test("program on vectors/", ("python3", "tests/vectors.py")),
+    Test(CALLERS, ("sh", "tests/program/callers.sh"), needs=frozenset({PROGRAM, "mpslp_c"})),
+    Test("program on vectors/", ("python3", "tests/program/vectors.py")),
     Test("library on vectors/", ("../crates/try_library/out/try_library", "vectors"), ROOT / "vectors"),
-    Test("refused memory", ("python3", "tests/refused.py")),
-    Test("independent reader", ("python3", "tests/independent_check.py", "--runs", "20000")),
-    Test("make and make run", ("python3", "tests/commands_check.py")),
-    Test("mutants in one check", ("python3", "tests/mutants_check.py")),
-    Test("a large file", ("python3", "tests/large_file.py")),
-    Test("documents", ("python3", "tests/docs_check.py"), after=CALLERS),
-    Test("random models in other dialects", ("python3", "tests/adapt_random.py", "--models", "300")),
-    Test("glued and damaged LP files", ("python3", "tests/adapt_glued.py", "--files", "600")),
-    Test("what installed programs write", ("python3", "tests/adapt_writers.py", "--models", "20")),
-    Test("rules for other dialects", ("python3", "tests/adapt_rules.py", "--wrong")),
-    Test("formatting", ("python3", "tests/format_check.py", "--wrong"), after=CALLERS),
-    Test("solvers", ("python3", "tests/solvers.py")),
+    Test("refused memory", ("python3", "tests/program/refused.py")),
+    Test("independent reader", ("python3", "tests/program/independent_check.py", "--runs", "20000")),
+    Test("random models in many spellings", ("python3", "tests/program/random_files.py", "--models", "100")),
+    Test("make and make run", ("python3", "tests/program/commands_check.py")),
+    Test("mutants in one check", ("python3", "tests/program/mutants_check.py")),
+    Test("a large file", ("python3", "tests/program/large_file.py")),
+    Test("documents", ("python3", "tests/documents/docs_check.py"), after=CALLERS),
+    Test("random models in other dialects", ("python3", "python/tests/adapt_random.py", "--models", "300")),
+    Test("glued and damaged LP files", ("python3", "python/tests/adapt_glued.py", "--files", "600")),
+    Test("files with two meanings", ("python3", "python/tests/adapt_doubts.py", "--files", "8000", "--wrong")),
+    Test("what installed programs write", ("python3", "python/tests/adapt_writers.py", "--models", "20")),
+    Test("what programs write of published models", ("python3", "python/tests/adapt_published.py", "--every", "20")),
+    Test("what other programs read", ("python3", "tests/program/compare_readers.py")),
+    Test("what other programs make of small files", ("python3", "python/tests/portable_programs.py")),
+    Test("rules for other dialects", ("python3", "python/tests/adapt_rules.py", "--wrong")),
+    Test("formatting", ("python3", "python/tests/format_check.py", "--wrong"), after=CALLERS),
+    Test("merges of models", ("python3", "python/tests/merge_check.py", "--models", "150", "--wrong"), after=CALLERS),
+    Test("solvers", ("python3", "tests/program/solvers.py")),
     Test("names that collide", ("python3", "bench/growth.py", "--names", "8000"), after=CALLERS),
-    Test("what other programs read otherwise", ("python3", "tests/portable_rules.py", "--wrong")),
-    Test("texts for solvers", ("python3", "tests/solver_texts.py", "--gate")),
-    Test("warnings", ("python3", "tests/warning_rules.py", "--wrong")),
-    Test("messages about rejected files", ("python3", "tests/messages_check.py", "--wrong"), after=CALLERS),
-    Test("digests of canonical texts", ("python3", "tests/digests.py")),
-    Test("program on files", ("python3", "tests/program.py")),
-    Test("library on standard input", ("python3", "tests/library.py")),
+    Test("what other programs read otherwise", ("python3", "python/tests/portable_rules.py", "--wrong")),
+    Test("texts for solvers", ("python3", "python/tests/solver_texts.py", "--gate")),
+    Test("warnings", ("python3", "python/tests/warning_rules.py", "--wrong")),
+    Test("messages about rejected files", ("python3", "python/tests/messages_check.py", "--wrong"), after=CALLERS),
+    Test("causes of files as people write them", ("python3", "python/tests/rejected_files.py"), after=CALLERS),
+    Test("digests of canonical texts", ("python3", "tests/program/digests.py")),
+    Test("program on files", ("python3", "tests/program/program.py")),
+    Test("library on standard input", ("python3", "tests/program/library.py")),
+    Test("scripts of tests/ that nothing starts", ("python3", "tests/documents/scripts_check.py")),
+    Test("page of the rules of dialects", ("python3", "python/tests/dialect_rows.py")),
+    Test("layout of Python files", ("python3", "scripts/lint.py")),
     Test("version", ("sh", "release/version.sh", "crates/mpslp/out/mpslp")),
 )
 
@@ -89,21 +99,26 @@ TESTS_PROVED = re.compile(r"rt: (\w+): its tests are proved$")
 KEPT = re.compile(r"rt: (\w+) is kept:")
 FAILURE = re.compile(r"^fn \S+: (?:not proved|no proof)|NOT PROVED|FAILED|\berror\b|^rt: .*(?:failed|refuse)")
 CLOSING = re.compile(r"(\d+) passed, (\d+) failed$")
-# A script that skips a test because a tool is missing reports it with this prefix. Whatever Debian has is installed by .ci/run, so the
-# test has failed then. The others are named at the end.
+# A script that skips a test because a tool is missing reports it with this prefix. Whatever Debian has is installed by
+# .ci/run, so the test has failed then. The others are named at the end.
 SKIPPED = "skipped: "
 NOT_IN_DEBIAN = ("highspy",)
 
+
+# How many lines of a script that failed are shown.
+LAST_LINES = 15
 
 # What a script or the mutants of a crate came to.
 Result = tuple[int, float, Path] | Outcome
 
 
 class Report:
-    """What is printed, with the minutes since the beginning."""
+    """What is printed, with the minutes since the beginning. What failed is printed when it is known and again at the
+    end, since only the end of a long output may be kept."""
 
     def __init__(self) -> None:
         self.begun = time.monotonic()
+        self.failures: list[str] = []
 
     @property
     def minutes(self) -> float:
@@ -111,6 +126,13 @@ class Report:
 
     def say(self, text: str) -> None:
         print(f"{self.minutes:5.1f} min  {text}", flush=True)
+
+    def fail(self, text: str, lines: Iterable[str] = ()) -> None:
+        """Reports a failure, and lines about it."""
+        self.say(text)
+        about = [f"    {line[:300]}" for line in lines]
+        print(*about, sep="\n", end="\n" if about else "", flush=True)
+        self.failures += [text, *about]
 
 
 def processors() -> int:
@@ -131,8 +153,8 @@ def proofs_of_ci() -> int:
 
 
 class Turns:
-    """Lets a check of mutants begin only when a processor is idle. More checks than processors take a fifth more processor time
-    each, since one takes the caches from another."""
+    """Lets a check of mutants begin only when a processor is idle. More checks than processors take a fifth more
+    processor time each, since one takes the caches from another."""
 
     def __init__(self) -> None:
         self.lock, self.checks = Lock(), 0
@@ -165,8 +187,8 @@ def copy_crates() -> None:
 
 
 def take_programs(crate: str) -> None:
-    """Puts the programs and tests that `rt ci` built of this crate where the scripts look for them. What runs there goes on with the
-    file that it has."""
+    """Puts the programs and tests that `rt ci` built of this crate where the scripts look for them. What runs there
+    goes on with the file that it has."""
     for file in COPY.glob(f"crates/{crate}/out/*"):
         if file.is_file():
             to = ROOT / file.relative_to(COPY)
@@ -175,25 +197,32 @@ def take_programs(crate: str) -> None:
 
 
 def sum_of_program() -> str:
-    """A checksum of everything that the proof of the program reads."""
-    return sums_of(below(crates_of_repository(), PROGRAM))[PROGRAM]
+    """A checksum of everything that `rt ci` reads for the proof of the program: of the copy, whatever was edited since
+    it was made."""
+    return sums_of(below(crates_of_repository(COPY), PROGRAM))[PROGRAM]
 
 
 def mark_program(sum: str) -> None:
-    """Records that the program of `rt ci` is the proved one of the sources with this checksum, so that `make` and `make run` use it."""
+    """Records that the program of `rt ci` is the proved one of the sources with this checksum, so that `make` and `make
+    run` use it."""
     mark(crates_of_repository()[PROGRAM], sum)
 
 
 def prove_all(report: Report, proved: set[str]) -> tuple[bool, str]:
-    """Runs `rt ci`, and returns whether it passed, and its closing line. Adds the name of each crate that it has proved."""
-    log, closing = LOGS / "rt-ci.log", ""
-    # That of the sources which are copied, whatever is edited while they are proved.
-    sum = sum_of_program()
-    # With RT_JOBS each proof has one process. With several a proof takes up to a third more processor time, and the mutants use what
-    # the proofs leave idle.
+    """Runs `rt ci`, and returns whether it passed, and its closing line. Adds the name of each crate that it has
+    proved."""
+    log, closing, sum = LOGS / "rt-ci.log", "", sum_of_program()
+    # With RT_JOBS each proof has one process. With several a proof takes up to a third more processor time, and the
+    # mutants use what the proofs leave idle.
     environment = {**os.environ, "RT_JOBS": str(default_lanes())}
     with log.open("w") as output, subprocess.Popen(
-        ["rt", "ci"], cwd=COPY, stdout=subprocess.PIPE, stderr=subprocess.STDOUT, text=True, errors="replace", env=environment
+        ["rt", "ci"],
+        cwd=COPY,
+        stdout=subprocess.PIPE,
+        stderr=subprocess.STDOUT,
+        text=True,
+        errors="replace",
+        env=environment,
     ) as ci:
         for line in ci.stdout:
             output.write(line)
@@ -217,16 +246,14 @@ def prove_all(report: Report, proved: set[str]) -> tuple[bool, str]:
             take_programs(crate)
         mark_program(sum)
     else:
-        show_failures(log)
+        report.fail("rt ci: FAILED", failures(log))
     return passed, closing or "0 passed, 1 failed"
 
 
-def show_failures(log: Path) -> None:
-    """Prints the lines of the log that say what failed, and where the rest is."""
+def failures(log: Path) -> list[str]:
+    """The lines of the log that say what failed, and where the rest is."""
     lines = [line for line in log.read_text(errors="replace").splitlines() if FAILURE.search(line)]
-    for line in lines[-40:]:
-        print(f"    {line[:300]}")
-    print(f"    all of the output: {log.relative_to(ROOT)}", flush=True)
+    return [*lines[-40:], f"all of the output: {log.relative_to(ROOT)}"]
 
 
 def run_test(test: Test) -> tuple[int, float, Path]:
@@ -262,11 +289,10 @@ def report_test(report: Report, test: Test, status: int, seconds: float, log: Pa
     skipped = [line.removeprefix(SKIPPED) for line in lines if line.startswith(SKIPPED)]
     excused = tuple(line for line in skipped if any(f"{name} is missing" in line for name in NOT_IN_DEBIAN))
     for line in (it for it in skipped if it not in excused):
-        report.say(f"{test.name}: FAILED, since a test was skipped: {line}")
+        report.fail(f"{test.name}: FAILED, since a test was skipped: {line}")
     if status:
-        report.say(f"{test.name}: FAILED in {seconds:.0f} s; the last lines of {log.relative_to(ROOT)}:")
-        for line in lines[-15:]:
-            print(f"    {line[:300]}", flush=True)
+        said = f"{test.name}: FAILED in {seconds:.0f} s; the last lines of {log.relative_to(ROOT)}:"
+        report.fail(said, lines[-LAST_LINES:])
     else:
         report.say(f"{test.name}: passed in {seconds:.0f} s{': ' + lines[-1][:100] if lines else ''}")
     has_failed = bool(status) or len(skipped) > len(excused)
@@ -274,9 +300,10 @@ def report_test(report: Report, test: Test, status: int, seconds: float, log: Pa
 
 
 def report_mutants(report: Report, outcome: Outcome) -> Tally:
-    report.say(outcome.line)
-    for problem in outcome.problems:
-        print(f"    {problem}", flush=True)
+    if outcome.problems:
+        report.fail(outcome.line, outcome.problems)
+    else:
+        report.say(outcome.line)
     return Tally(outcome.rejected, len(outcome.problems))
 
 
@@ -299,8 +326,8 @@ class Job:
         return self.of.after if isinstance(self.of, Test) else None
 
     def is_ready(self, ci: Ci, proved: list[Crate]) -> bool:
-        """Whether `rt ci` has built what the job needs: all of it, or what these crates are that it has proved. Mutants need the
-        libraries of the crates below theirs. A library is complete once a crate over it is proved."""
+        """Whether `rt ci` has built what the job needs: all of it, or what these crates are that it has proved. Mutants
+        need the libraries of the crates below theirs. A library is complete once a crate over it is proved."""
         if isinstance(self.of, Crate):
             has_built = self.of in proved or {*self.of.uses} <= {use for crate in proved for use in crate.uses}
         else:
@@ -318,8 +345,8 @@ class Job:
 
 
 def all_jobs(crates: dict[str, Crate]) -> list[Job]:
-    """All jobs, in the order in which they begin: the script that takes longest, and the mutants and scripts in the order of their
-    time."""
+    """All jobs, in the order in which they begin: the script that takes longest, and the mutants and scripts in the
+    order of their time."""
     scripts = [Job(test) for test in TESTS]
     mutants = [Job(it) for it in crates_with_mutants(crates)]
     return [scripts[0], *mutants, *scripts[1:]]
@@ -363,7 +390,7 @@ class Gate:
     def left_out(self) -> Tally:
         """What was never begun counts as failed, whatever else passed."""
         if self.waiting:
-            self.report.say(f"not run: {', '.join(job.of.name for job in self.waiting)}")
+            self.report.fail(f"not run: {', '.join(job.of.name for job in self.waiting)}")
         return Tally(failed=len(self.waiting))
 
     def room(self) -> int:
@@ -400,7 +427,12 @@ def main() -> int:
     tally = Gate(report).run()
     for what in tally.skipped:
         report.say(f"skipped: {what}")
-    report.say(f"the gate {'FAILED' if tally.failed else 'passed'} in {report.minutes:.0f} minutes: crates, mutants and scripts together:")
+    if report.failures:
+        print("what failed, again:", *report.failures, sep="\n", flush=True)
+    report.say(
+        f"the gate {'FAILED' if tally.failed else 'passed'} in {report.minutes:.0f} minutes: crates, mutants "
+        "and scripts together:"
+    )
     print(f"{tally.passed} passed, {tally.failed} failed", flush=True)
     return 1 if tally.failed else 0
 

@@ -49,7 +49,8 @@ def complaint() -> str | None:
         return (
             f"This repository was proved with the Rattle kit whose logic has the sum {wanted_sum()},\n"
             f"and the installed one is another: {version or 'rt version prints nothing'}\n"
-            "Install the kit with that sum. To prove with the installed one all the same, which may fail at some proof,\n"
+            "Install the kit with that sum. To prove with the installed one all the same, which may fail at some "
+            "proof,\n"
             "put its sum into the file kit-sum."
         )
     return None

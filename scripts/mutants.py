@@ -1,22 +1,28 @@
 #!/usr/bin/env python3
 """Tests that the prover rejects the mutants: scripts/mutants.py [CRATE ..]
 
-A mutant is a wrong version of a crate, written as an edit of its sources, in must-fail/ of the crate or in tests/wrong-bodies/.
-`rt must-fail` checks a whole crate once for each mutant. Here a check asks only for the functions that are to be rejected. The others
-have `loop {}` as their body, which calls nothing, and a hole as its proof: a function is proved from the contracts of the functions
-that it calls, whatever their bodies and proofs. So one check also tests many mutants that change nothing but the bodies of different
-functions. Such a mutant counts
-as rejected only if the prover rejects the function that it changes for itself, and not only because it calls a function that is
-not proved, and if it rejects no function for itself that no mutant changes. Mutants that remain are checked together again,
+A mutant is a wrong version of a crate, written as an edit of its sources, in must-fail/ of the crate or in
+tests/wrong-bodies/. `rt must-fail` checks a whole crate once for each mutant. Here a check asks only for the functions
+that are to be rejected. The others have `loop {}` as their body, which calls nothing, and a hole as its proof: a
+function is proved from the contracts of the functions that it calls, whatever their bodies and proofs. So one check
+also tests many mutants that change nothing but the bodies of different functions. Such a mutant counts as rejected only
+if the prover rejects the function that it changes for itself, and not only because it calls a function that is not
+proved, and if it rejects no function for itself that no mutant changes. Mutants that remain are checked together again,
 without those that were rejected, and at last one at a time.
 
-A function that is rejected only because its proof names a goal or a value which the edit took away, and of which no goal stays open, is
-rejected whatever the contract says. Such an edit does not count: it is a BAD EDIT, as is one that the prover cannot read or compile.
+A function that is rejected only because its proof names a goal or a value which the edit took away is rejected whatever
+the contract says. Such an edit does not count: it is a BAD EDIT, as is one that the prover cannot read or compile.
 Change a value in it, and keep the names.
 
-Other mutants, of definitions, invariants and constants, are checked one at a time. The line `function:` of such an edit names a
-function that the prover then rejects. Without that line, or if the function is not rejected, the whole crate is checked. At last
-each check that rejected a mutant is made again without mutants, and may reject none of the functions that it was asked for.
+With --strict it is a BAD EDIT also where a goal stays open, since a goal that is new with the edit has no proof; and of
+what a check of a whole crate rejects only the function that was edited counts, and functions that name it in their
+contracts, or, after an edit of a definition, functions that name that definition or one that is made of it. The gate
+is not strict: the mutants of some crates are not all known to pass with it.
+
+Other mutants, of definitions, invariants and constants, are checked one at a time. The line `function:` of such an edit
+names a function that the prover then rejects. Without that line, or if the function is not rejected, the whole crate is
+checked. At last each check that rejected a mutant is made again without mutants, and may reject none of the functions
+that it was asked for.
 
 The libraries below the crates have to be proved and built, as `make` leaves them. One line is printed for each crate.
 """
@@ -33,6 +39,7 @@ from collections.abc import Callable, Iterable
 from concurrent.futures import ThreadPoolExecutor, as_completed
 from contextlib import AbstractContextManager, nullcontext
 from dataclasses import dataclass, field
+from enum import Enum, auto
 from pathlib import Path
 
 from crates import LIBRARIES, PARTS, Crate, crates_of_repository, seconds_of_crates, words_of
@@ -41,7 +48,7 @@ from prove import LOGS
 
 # An `impl`: its parameters, its trait if it has one, and its type.
 IMPL = re.compile(r"impl\b(<.*?>)? (?:(.*) for )?(.*?)(?: where\b.*)?(?: \{)?$")
-TRAIT = re.compile(r"(?:pub(?:\([^)]*\))? )?trait ")
+TRAIT = re.compile(r"(?:pub(?:\([^)]*\))? )?trait (\w+)")
 TYPE = re.compile(r"(?:pub(?:\([^)]*\))? )?(?:struct|enum) (\w+)", re.M)
 FUNCTION = re.compile(r"( *)(?:pub(?:\([^)]*\))? )?((?:const |unsafe )*)fn (\w+)")
 NOT_PROVED = re.compile(r"fn (\S+): (?:not proved|no proof)(?:[:;] (.*))?$")
@@ -49,15 +56,26 @@ NOT_PROVED = re.compile(r"fn (\S+): (?:not proved|no proof)(?:[:;] (.*))?$")
 OF_ITS_CALLS = re.compile(r"it (?:calls|passes the block) `.*, which (?:is|are) not proved")
 OF_PROOFS = re.compile(r"it stands on (`.*`), which antt refuses")
 PROOF = re.compile(r"`Rattle\.\w+\.proofs\.(\S+)\.(?:Answers|Invariants|Proof)\.\S+`")
+# The module of a refused proof that a function cites.
+CITED = re.compile(r"`Rattle\.\w+\.proofs\.(\S+)\.[^.`]+`")
 # What the prover says of a text that it cannot read. A mutant is a statement that reads well and is false.
 UNREADABLE = re.compile(r"is not in scope|has no field|is no name|operand is missing|expected the end|cannot continue")
 
 # What it says of a proof that names what an edit took away, and of a text that does not compile.
 GONE = re.compile(r"has no field|is not in scope|has no `|was not admitted")
 NOT_COMPILED = re.compile(r"\berror\[[\w-]+\]")
-OF_A_PROOF = re.compile(r"(?:\./)?proofs/(\S+)/(?:Answers|Invariants|Proof)\.antt:\d+:\d+: error: (.*)")
+OF_A_PROOF = re.compile(r"(?:\./)?proofs/(\S+)\.antt:\d+:\d+: error: (.*)")
+# The names of the files that have a function's own proof.
+OWN_FILES = ("Answers", "Invariants", "Proof")
 # Where in the code the prover has not found a proof that it looks for itself.
 OPEN_GOAL = re.compile(r"note: (?:\./)?(src/\S+?):(\d+):\d+: it is not proved that ")
+# A word of code or of a definition; the beginning of a definition, or of an item of code.
+WORD = re.compile(r"[^\W\d][\w\-]*")
+ITEM = re.compile(
+    r"(?:(?:abbrev|unfoldable|opaque|data|record|pub(?:\([^)]*\))?|ghost|const|static|struct|enum|trait|type|fn|impl)"
+    r" +)*"
+    r"(?!use\b|mod\b)([^\W\d][\w\-]*)"
+)
 # A function whose proof is right, with or without holes in the proofs of the functions that it calls.
 RIGHT = re.compile(r"fn (\S+): (?:no holes|proved|depends on a hole in )")
 # What it says if it was asked for a function that is not there, or for one of several.
@@ -100,8 +118,8 @@ class Body:
         return "::".join([*([self.owner] if self.owner else self.modules), self.function])
 
     def path(self, types: dict[str, list[str]]) -> list[str]:
-        """Where the prover has the function: a method of a type is in the module of that type, one of a trait in that of its file.
-        The modules of the types of the crate are given."""
+        """Where the prover has the function: a method of a type is in the module of that type, one of a trait in that
+        of its file. The modules of the types of the crate are given."""
         modules = types.get(self.owner or "", self.modules) if not self.is_of_trait else self.modules
         return [*modules, *([self.owner] if self.owner else []), self.function]
 
@@ -109,14 +127,17 @@ class Body:
         return self.first <= line <= self.last
 
     def begins_with(self, line: int, old: str, new: str) -> bool:
-        """Whether an edit of this line only adds text at the beginning of the body, or a body of its own right after the contract."""
+        """Whether an edit of this line only adds text at the beginning of the body, or a body of its own right after
+        the contract."""
         added = new.removeprefix(old) if new.startswith(old) else ""
         is_at_opening = line == self.first - 1 and old.endswith("{") and added != ""
         return is_at_opening or line == self.first - 2 and added.lstrip().startswith("{")
 
     def is_of(self, name: str) -> bool:
-        """Whether the prover's name is that of the function, CRATE::MODULE::FUNCTION or CRATE::MODULE::TYPE::FUNCTION, or of a
-        closure in it, CRATE::MODULE::fn::FUNCTION::... The module of a method is that of its file or that of its type."""
+        """Whether the prover's name is that of the function, CRATE::MODULE::FUNCTION or CRATE::MODULE::TYPE::FUNCTION,
+        or of a closure in it, CRATE::MODULE::fn::FUNCTION::... The module of a method is that of its file or that of
+        its type.
+        """
         parts = name.split("::")[1:]
         inner = parts[len(self.modules) :]
         is_here = parts[: len(self.modules)] == self.modules
@@ -124,10 +145,14 @@ class Body:
 
 
 def written(type_or_trait: str, parameters: set[str]) -> str:
-    """How the prover writes a type or trait in the name of a function: `RefSliceU8` for `&[u8]`, `QueryName` for `Query<Name>`.
-    Parameters of the `impl` are left out."""
+    """How the prover writes a type or trait in the name of a function: `RefSliceU8` for `&[u8]`, `QueryName` for
+    `Query<Name>`. Parameters of the `impl` are left out."""
     text = re.sub(r"'\w+|\bmut\b|\w+::", "", type_or_trait)
-    words = [{"&": "Ref", "[": "Slice"}.get(it, it[0].upper() + it[1:]) for it in re.findall(r"&|\[|\w+", text) if it not in parameters]
+    words = [
+        {"&": "Ref", "[": "Slice"}.get(it, it[0].upper() + it[1:])
+        for it in re.findall(r"&|\[|\w+", text)
+        if it not in parameters
+    ]
     return "".join(words)
 
 
@@ -146,10 +171,10 @@ def opening_of(lines: list[str], header: int, indent: str) -> int | None:
 
 def bodies_of(file: str, text: str) -> list[Body]:
     """The bodies of the functions in a file that has the layout of `rt fmt`."""
-    lines, found, block = text.split("\n"), [], None
+    lines, found, block, trait = text.split("\n"), [], None, None
     for number, line in enumerate(lines):
-        if TRAIT.match(line):
-            block = None
+        if named := TRAIT.match(line):
+            block, trait = None, named[1]
         block = IMPL.match(line) or block
         header = FUNCTION.match(line)
         opening = opening_of(lines, number, header[1]) if header else None
@@ -157,7 +182,8 @@ def bodies_of(file: str, text: str) -> list[Body]:
             indent, of = header[1], block if header[1] else None
             last = next((it for it in range(opening, len(lines)) if lines[it] == f"{indent}}}"), opening)
             is_needed = "const" in header[2] or (of is None and indent != "")
-            owner, is_of_trait = owner_of(of) if of else None, of is not None and of[2] is not None
+            # A method that types take from their trait is named after the trait.
+            owner, is_of_trait = owner_of(of) if of else trait if indent else None, of is not None and of[2] is not None
             found.append(Body(file, header[3], number, opening + 1, last, owner, is_of_trait, is_needed))
     return found
 
@@ -188,6 +214,17 @@ class Mutant:
                 return
             texts[file] = texts[file].replace(old, new)
 
+    def changed_names(self) -> set[str]:
+        """The names of what an edit of definitions, types or constants changes: those that the lines of its texts have,
+        and that of the definition or the item of code which they are in."""
+        names: set[str] = set()
+        for file, old, new in self.changes:
+            text = (self.crate.folder / file).read_text()
+            before = text[: text.find(old)].split("\n")
+            heads = (it for line in reversed(before) if (it := ITEM.match(line)))
+            names |= {it[1] for it in [next(heads, None)] if it} | (set(WORD.findall(old)) ^ set(WORD.findall(new)))
+        return names
+
     def body(self) -> Body | None:
         """The body of the function that the mutant changes, if it changes nothing else."""
         found = set()
@@ -199,14 +236,20 @@ class Mutant:
         return found.pop() if len(found) == 1 else None
 
 
+def definitions_of(text: str) -> list[tuple[str, set[str]]]:
+    """The definitions and lemmas of a file: the name of each, and the words that it is made of."""
+    parts = re.split(r"(?m)^(?=\S)", text)
+    return [(it[1], set(WORD.findall(part))) for part in parts if (it := ITEM.match(part))]
+
+
 def edits_of(crate: Crate) -> list[Path]:
     folders = (crate.folder / "must-fail", ROOT / "tests" / "wrong-bodies" / crate.name)
     return [path for folder in folders for path in sorted(folder.glob("*.edit"))]
 
 
 def read_mutant(crate: Crate, path: Path) -> Mutant:
-    """Reads an edit: lines `file: PATH`, `old: TEXT` and `new: TEXT`, and `function: NAME` where another function than that of
-    the text is rejected."""
+    """Reads an edit: lines `file: PATH`, `old: TEXT` and `new: TEXT`, and `function: NAME` where another function than
+    that of the text is rejected."""
     mutant, file, old = Mutant(crate, path), "", ""
     for line in path.read_text().split("\n"):
         if line.startswith("file: "):
@@ -217,7 +260,9 @@ def read_mutant(crate: Crate, path: Path) -> Mutant:
             old = line.removeprefix("old: ")
         elif line.startswith("new:"):
             mutant.changes.append((file, old, line.removeprefix("new:").removeprefix(" ")))
-    if not mutant.changes or not all(file.startswith(tuple(f"{part}/" for part in PARTS)) and old for file, old, _ in mutant.changes):
+    if not mutant.changes or not all(
+        file.startswith(tuple(f"{part}/" for part in PARTS)) and old for file, old, _ in mutant.changes
+    ):
         mutant.problem = "it has no file, old and new text"
     else:
         mutant.apply({})
@@ -230,7 +275,8 @@ def batch_of(mutants: list[tuple[Mutant, Body]]) -> list[tuple[Mutant, Body]]:
 
 
 def unreadable(lines: list[str]) -> str | None:
-    """The line, if any, in which the prover says that it cannot read or compile a text of the code or of its definitions."""
+    """The line, if any, in which the prover says that it cannot read or compile a text of the code or of its
+    definitions."""
     for line in lines:
         place = re.match(r"(?:\./)?((?:src|specs)/\S+?):\d+:\d+: error: (?:(`[^`]*`): )?(.*)", line)
         if place and (not place[2] or UNREADABLE.search(re.sub(r"`[^`]*`", "", place[3]))) or NOT_COMPILED.search(line):
@@ -239,15 +285,22 @@ def unreadable(lines: list[str]) -> str | None:
 
 
 def errors_of_proof(name: str, lines: list[str]) -> list[str]:
-    """What the prover says of the proof of the function of this name."""
-    found = [it for line in lines if (it := OF_A_PROOF.match(line))]
-    return [it[2] for it in found if it[1].split("/") == name.split("::")[1:]]
+    """What the prover says of the proof of the function of this name, and of the lemmas that it cites and that are
+    refused."""
+    path = "/".join(name.split("::")[1:])
+    files = {f"{path}/{each}" for each in OWN_FILES}
+    for found in (it for line in lines if (it := NOT_PROVED.match(line)) and it[1] == name):
+        files |= {it.replace(".", "/") for it in CITED.findall(found[2] or "")}
+    return [it[2] for line in lines if (it := OF_A_PROOF.match(line)) and it[1] in files]
 
 
-def names_what_is_gone(name: str, lines: list[str], bodies: list[Body]) -> bool:
-    """Whether a function is rejected only because its proof names a goal or a value that is gone: then no goal of it stays open."""
-    errors = errors_of_proof(name, lines)
-    return bool(errors) and all(map(GONE.search, errors)) and not any(body.is_of(name) for body in open_bodies(lines, bodies))
+class Judgement(Enum):
+    """What counts as a rejection where proofs name what is gone."""
+
+    # A goal that stays open, and in a check of a whole crate any other complaint.
+    USUAL = auto()
+    # Nothing.
+    STRICT = auto()
 
 
 def names_only_what_is_gone(lines: list[str]) -> bool:
@@ -257,8 +310,17 @@ def names_only_what_is_gone(lines: list[str]) -> bool:
     return bool(said) and all(re.match(r"(?:note: )?(?:\./)?proofs/", line) and GONE.search(line) for line in said)
 
 
+def names_what_is_gone(name: str, lines: list[str], bodies: list[Body], judgement: Judgement) -> bool:
+    """Whether a function is rejected only because its proof names a goal or a value that is gone. Goals may stay open
+    then: they have other names, so that nothing in the proof is for them."""
+    errors = errors_of_proof(name, lines)
+    is_open = judgement == Judgement.USUAL and any(body.is_of(name) for body in open_bodies(lines, bodies))
+    return bool(errors) and all(map(GONE.search, errors)) and not is_open
+
+
 def is_of_others(name: str, reason: str) -> bool:
-    """Whether a function is not proved only because of functions that it calls, or because its proof cites proofs of others."""
+    """Whether a function is not proved only because of functions that it calls, or because its proof cites proofs of
+    others."""
 
     def cites_others(part: str) -> bool:
         cited = re.findall(r"`[^`]+`", it[1]) if (it := OF_PROOFS.fullmatch(part)) else []
@@ -275,8 +337,8 @@ def open_bodies(lines: list[str], bodies: list[Body]) -> list[Body]:
 
 
 def rejected_for_themselves(lines: list[str], bodies: list[Body]) -> list[str]:
-    """The functions that the prover rejects for themselves. One with an open goal of its own is rejected for that, although the
-    prover says only that it calls a function with a hole in its proof."""
+    """The functions that the prover rejects for themselves. One with an open goal of its own is rejected for that,
+    although the prover says only that it calls a function with a hole in its proof."""
     found = [it for line in lines if (it := NOT_PROVED.match(line))]
     is_open = open_bodies(lines, bodies)
     return [it[1] for it in found if not is_of_others(it[1], it[2] or "") or any(body.is_of(it[1]) for body in is_open)]
@@ -290,11 +352,12 @@ class Check:
     lines: list[str]
     # Those of the crate.
     bodies: list[Body]
+    judgement: Judgement
 
     @property
     def has_ended(self) -> bool:
-        """Whether it came to the end that a check of some functions has."""
-        return self.lines[-1].startswith("only=")
+        """Whether it came to the end that a check of some functions has, or one of a crate that is not proved."""
+        return self.lines[-1].startswith(("only=", "logic=not-proved"))
 
     @property
     def unreadable(self) -> str | None:
@@ -308,7 +371,11 @@ class Check:
     @property
     def rejected(self) -> list[str]:
         """The functions that it rejects for themselves."""
-        return [it for it in self.rejected_or_misnamed if not names_what_is_gone(it, self.lines, self.bodies)]
+        return [
+            it
+            for it in self.rejected_or_misnamed
+            if not names_what_is_gone(it, self.lines, self.bodies, self.judgement)
+        ]
 
     @property
     def rejected_or_misnamed(self) -> list[str]:
@@ -344,8 +411,8 @@ def put_hole(crate: Crate, room: Path, path: list[str]) -> None:
 
 
 def leave_out(crate: Crate, room: Path, functions: list[str]) -> None:
-    """Leaves out the bodies and proofs of all functions but these in this copy of the crate. Functions that call one another stay,
-    with all functions beside them, and so do bodies that something else than a call needs."""
+    """Leaves out the bodies and proofs of all functions but these in this copy of the crate. Functions that call one
+    another stay, with all functions beside them, and so do bodies that something else than a call needs."""
     proofs = room / "proofs"
     for folder in {file.parent for file in proofs.rglob("*.antt") if file.name in PROOF_FILES}:
         path = list(folder.relative_to(proofs).parts)
@@ -358,7 +425,9 @@ def leave_out(crate: Crate, room: Path, functions: list[str]) -> None:
         lines, end = text.split("\n"), 0
         for body in bodies_of(file, text):
             path = body.path(types)
-            stays = body.is_needed or tuple(path[:-1]) in cycles or any(is_named("::".join(path), it) for it in functions)
+            stays = (
+                body.is_needed or tuple(path[:-1]) in cycles or any(is_named("::".join(path), it) for it in functions)
+            )
             if stays or body.header < end:
                 continue
             end = body.last
@@ -372,10 +441,18 @@ def leave_out(crate: Crate, room: Path, functions: list[str]) -> None:
 class Prover:
     """Checks edited copies of a crate, each over what the checks before it proved."""
 
+    judgement = Judgement.USUAL
+
     def __init__(self, crate: Crate, crates: dict[str, Crate], libraries: Path, kept: Path, log: Path, turn: Turn):
         self.crate, self.log, self.turn, self.checks = crate, log, turn, 0
-        self.bodies = [it for file in crate.files() for it in bodies_of(str(file.relative_to(crate.folder)), file.read_text()) if file.suffix == ".rt"]
-        # The functions that each check which rejected a mutant was asked for, and whether one was asked for the whole crate.
+        self.bodies = [
+            it
+            for file in crate.files()
+            for it in bodies_of(str(file.relative_to(crate.folder)), file.read_text())
+            if file.suffix == ".rt"
+        ]
+        # The functions that each check which rejected a mutant was asked for, and whether one was asked for the whole
+        # crate.
         self.asked: set[tuple[str, ...]] = set()
         self.has_asked_for_all = False
         # Checks of mutants give way to proofs and scripts, which the gate runs beside them.
@@ -413,7 +490,7 @@ class Prover:
                 )
         with self.log.open("a") as log:
             log.write(f"== {what}, {time.monotonic() - begun:.0f} s, status {ran.returncode}\n{ran.stdout}")
-        return Check(ran.returncode, ran.stdout.rstrip("\n").split("\n"), self.bodies)
+        return Check(ran.returncode, ran.stdout.rstrip("\n").split("\n"), self.bodies, self.judgement)
 
     def rejects(self, mutant: Mutant, body: Body | None) -> str | None:
         """None if the prover rejects the mutant, or else why that is not known."""
@@ -433,18 +510,58 @@ class Prover:
         check = self.check([mutant], [], mutant.name)
         if line := check.unreadable:
             return f"BAD EDIT: the prover cannot read it: {line[:160]}"
-        if names_only_what_is_gone(check.lines):
+        if check.status != 1 or not check.has_ended:
+            is_proved = check.status == 0
+            return "NOT REJECTED: the crate is proved with it" if is_proved else f"no verdict: {check.lines[-1][:160]}"
+        is_misnamed = names_only_what_is_gone(check.lines) if self.judgement == Judgement.USUAL else not check.rejected
+        if is_misnamed:
             return "BAD EDIT: proofs name what it took away: change a value and keep the names"
-        if check.status == 1 and check.lines[-1].startswith("logic=not-proved"):
-            return None
-        return "NOT REJECTED: the crate is proved with it" if check.status == 0 else f"no verdict: {check.lines[-1][:160]}"
+        if self.judgement == Judgement.STRICT and not any(self.is_about(name, mutant, body) for name in check.rejected):
+            return f"BAD EDIT: {check.rejected[0]} is rejected, which does not name what it changes"
+        return None
+
+    def is_about(self, name: str, mutant: Mutant, body: Body | None) -> bool:
+        """Whether the function of this name is the one that a mutant changes, or names what it changes: in its contract
+        if that is the body of a function, or else anywhere, also in its proof and by definitions that are made of
+        it."""
+        if body:
+            is_named_in = re.compile(rf"\b{body.function}\b")
+            return body.is_of(name) or any(
+                is_named_in.search(self.contract(it)) for it in self.bodies if it.is_of(name)
+            )
+        words = self.made_of(mutant.changed_names())
+        proofs = self.crate.folder.joinpath("proofs", *name.split("::")[1:])
+        texts = [file.read_text() for file in proofs.glob("*.antt")] + [
+            self.whole(it) for it in self.bodies if it.is_of(name)
+        ]
+        return any(words & set(WORD.findall(text)) for text in texts)
+
+    def contract(self, body: Body) -> str:
+        """The header and the clauses of a function."""
+        return "\n".join((self.crate.folder / body.file).read_text().split("\n")[body.header : body.first])
+
+    def whole(self, body: Body) -> str:
+        """The text of a function."""
+        return "\n".join((self.crate.folder / body.file).read_text().split("\n")[body.header : body.last])
+
+    def made_of(self, names: set[str]) -> set[str]:
+        """These names, and those of the definitions and lemmas that name them, of those that name these, and so on."""
+        found, files = set(names), [it for it in self.crate.files() if it.suffix == ".antt"]
+        definitions = [it for file in files for it in definitions_of(file.read_text())]
+        while more := {name for name, words in definitions if name not in found and words & found}:
+            found |= more
+        return found
 
     def rejected_of(self, batch: list[tuple[Mutant, Body]]) -> list[tuple[Mutant, Body]]:
         """Those mutants of a batch of which one check shows that they are rejected."""
         functions = [body.name for _, body in batch]
         check = self.check([mutant for mutant, _ in batch], functions, f"{len(batch)} mutants of {self.crate.name}")
         names = check.rejected_or_misnamed
-        if check.unreadable or not all(any(body.is_of(name) for _, body in batch) for name in names):
+        if (
+            not check.has_ended
+            or check.unreadable
+            or not all(any(body.is_of(name) for _, body in batch) for name in names)
+        ):
             return []
         self.asked.add(tuple(functions))
         return [(mutant, body) for mutant, body in batch if any(map(body.is_of, check.rejected))]
@@ -459,8 +576,8 @@ class Prover:
         return [f"{mutant.name}: {why}" for mutant, body in single if (why := self.rejects(mutant, body))]
 
     def is_sound(self) -> bool:
-        """Whether each check that rejected a mutant accepts its functions without mutants, over what the checks of the mutants left, and
-        that of the whole crate if there was one."""
+        """Whether each check that rejected a mutant accepts its functions without mutants, over what the checks of the
+        mutants left, and that of the whole crate if there was one."""
         unchanged = f"{self.crate.name} unchanged"
         is_right = all(self.check([], [*asked], unchanged).accepts([*asked]) for asked in sorted(self.asked))
         return is_right and (not self.has_asked_for_all or self.check([], [], unchanged).status == 0)
@@ -480,7 +597,10 @@ class Outcome:
 
     @property
     def line(self) -> str:
-        return f"{self.crate.name}: {self.rejected} of {self.mutants} mutants rejected, {self.checks} checks in {self.seconds:.0f} s"
+        return (
+            f"{self.crate.name}: {self.rejected} of {self.mutants} mutants rejected, {self.checks} checks in "
+            f"{self.seconds:.0f} s"
+        )
 
 
 def problems_of(mutants: Iterable[Mutant]) -> list[str]:
@@ -493,7 +613,13 @@ def unusable_edits(crates: dict[str, Crate]) -> list[str]:
     return problems_of(read_mutant(crate, path) for crate in crates.values() for path in edits_of(crate))
 
 
-def test_crate(crate: Crate, crates: dict[str, Crate], libraries: Path, turn: Turn = nullcontext) -> Outcome:
+def test_crate(
+    crate: Crate,
+    crates: dict[str, Crate],
+    libraries: Path,
+    turn: Turn = nullcontext,
+    judgement: Judgement = Judgement.USUAL,
+) -> Outcome:
     """Tests all mutants of a crate, over the proved libraries in this directory. Each check waits for its turn."""
     begun = time.monotonic()
     mutants = [read_mutant(crate, path) for path in edits_of(crate)]
@@ -502,6 +628,7 @@ def test_crate(crate: Crate, crates: dict[str, Crate], libraries: Path, turn: Tu
     log.unlink(missing_ok=True)
     with tempfile.TemporaryDirectory(prefix="mutants-") as kept:
         prover = Prover(crate, crates, libraries, Path(kept), log, turn)
+        prover.judgement = judgement
         problems += prover.test([it for it in mutants if not it.problem])
         if not prover.is_sound():
             problems = [f"{it.name}: the crate itself is not proved over what its mutants left" for it in mutants]
@@ -517,8 +644,11 @@ def crates_with_mutants(crates: dict[str, Crate]) -> list[Crate]:
 def main() -> int:
     parser = argparse.ArgumentParser(description=__doc__.split("\n")[0])
     parser.add_argument("crates", nargs="*", metavar="CRATE", help="the crates whose mutants are tested (all)")
+    parser.add_argument("--strict", action="store_true", help="nothing counts where proofs name what is gone")
     parser.add_argument("--libraries", type=Path, default=LIBRARIES, help="where the proved libraries are")
-    parser.add_argument("--jobs", type=int, default=len(os.sched_getaffinity(0)), help="how many crates are tested side by side")
+    parser.add_argument(
+        "--jobs", type=int, default=len(os.sched_getaffinity(0)), help="how many crates are tested side by side"
+    )
     arguments = parser.parse_args()
     require_kit()
     crates = crates_of_repository()
@@ -526,7 +656,9 @@ def main() -> int:
     LOGS.mkdir(parents=True, exist_ok=True)
     libraries, outcomes = arguments.libraries.resolve(), []
     with ThreadPoolExecutor(max(1, arguments.jobs)) as pool:
-        for ended in as_completed([pool.submit(test_crate, crate, crates, libraries) for crate in chosen]):
+        judgement = Judgement.STRICT if arguments.strict else Judgement.USUAL
+        tested = [pool.submit(test_crate, crate, crates, libraries, nullcontext, judgement) for crate in chosen]
+        for ended in as_completed(tested):
             outcome = ended.result()
             outcomes.append(outcome)
             print("\n    ".join([outcome.line, *outcome.problems]), flush=True)

@@ -1,13 +1,13 @@
 #!/usr/bin/env python3
 """Proves a crate and all crates below it, in parallel and quietly: scripts/prove.py CRATE
 
-Crates that do not depend on one another are proved side by side. Those for which the longest chains of crates wait come first, and
-the others give way to them. One line is printed for each crate; the prover's own output goes to build/log/. A second call
-proves what has changed since, and a call after an interrupted one goes on where that was.
+Crates that do not depend on one another are proved side by side. Those for which the longest chains of crates wait come
+first, and the others give way to them. One line is printed for each crate; the prover's own output goes to build/log/.
+A second call proves what has changed since, and a call after an interrupted one goes on where that was.
 
-Each crate is proved by one call of the kit's `rattle` over the proved libraries in build/proofs/. Such a library has the statements
-of a crate without their proofs, as those of `rt ci` do. A program is linked to crates/NAME/out/NAME, a static library is put to
-crates/NAME/out/libNAME.a.
+Each crate is proved by one call of the kit's `rattle` over the proved libraries in build/proofs/. Such a library has
+the statements of a crate without their proofs, as those of `rt ci` do. A program is linked to crates/NAME/out/NAME, a
+static library is put to crates/NAME/out/libNAME.a.
 """
 
 import argparse
@@ -24,7 +24,20 @@ from concurrent.futures import FIRST_COMPLETED, Future, ThreadPoolExecutor, wait
 from contextlib import contextmanager
 from pathlib import Path
 
-from crates import LIBRARIES, Crate, below, built, crates_of_repository, is_current, is_proved_and_built, mark, seconds_of_crates, sums_of, unmark, words_of
+from crates import (
+    LIBRARIES,
+    Crate,
+    below,
+    built,
+    crates_of_repository,
+    is_current,
+    is_proved_and_built,
+    mark,
+    seconds_of_crates,
+    sums_of,
+    unmark,
+    words_of,
+)
 from kit import ROOT, kit_folder, require_kit
 
 LOGS = ROOT / "build" / "log"
@@ -35,7 +48,8 @@ MOST_JOBS = 4
 # A crate is urgent if the chain of crates that wait for it is nearly as long as the longest one.
 NEARLY = 0.7
 TARGET = "x86_64-unknown-linux-gnu"
-# What the prover starts ends with it. In a session of its own, `nice` would mean nothing to processes of other sessions.
+# What the prover starts ends with it. In a session of its own, `nice` would mean nothing to processes of other
+# sessions.
 OWN_GROUP = {"process_group": 0} if sys.version_info >= (3, 11) else {"start_new_session": True}
 
 
@@ -88,13 +102,16 @@ class Runner:
         self.lock = threading.Lock()
 
     def run(self, words: list[str], folder: Path, log: Path) -> int:
-        """The command's status. After a stop nothing is started, and the status is that of a command which the stop ended."""
+        """The command's status. After a stop nothing is started, and the status is that of a command which the stop
+        ended."""
         with log.open("ab") as output:
             # It is started under the lock, so that a stop finds it.
             with self.lock:
                 if self.is_stopped:
                     return -signal.SIGTERM
-                process = subprocess.Popen(words, cwd=folder, stdin=subprocess.DEVNULL, stdout=output, stderr=output, **OWN_GROUP)
+                process = subprocess.Popen(
+                    words, cwd=folder, stdin=subprocess.DEVNULL, stdout=output, stderr=output, **OWN_GROUP
+                )
                 self.running.add(process)
             try:
                 return process.wait()
@@ -122,11 +139,12 @@ class Prover:
     def __init__(self, crates: dict[str, Crate], libraries: Path = LIBRARIES):
         self.crates, self.libraries, self.runner = crates, libraries, Runner()
 
-    def build(self, crate: Crate, jobs: int, is_urgent: bool = True) -> bool:
-        """Whether the crate is proved and built. Only then is what was built of it before replaced."""
+    def build(self, crate: Crate, jobs: int, is_urgent: bool = True, planned: str | None = None) -> bool:
+        """Whether the crate is proved and built, from sources with the planned checksum. Only then is what was built of
+        it before replaced."""
         log = LOGS / f"{crate.name}.log"
         log.unlink(missing_ok=True)
-        before = crate.sum()
+        before = planned or crate.sum()
         (LIBRARIES / crate.name).mkdir(parents=True, exist_ok=True)
         built(crate).parent.mkdir(exist_ok=True)
         is_built = self.is_proved(crate, jobs, is_urgent, log) and (not crate.is_program or self.is_linked(crate, log))
@@ -155,7 +173,15 @@ class Prover:
     def is_linked(self, crate: Crate, log: Path) -> bool:
         """Whether the program is linked."""
         kit = kit_folder()
-        words = [f"{kit}/bin/rattle-link", "--target", TARGET, "--toolchain", f"{kit}/toolchain", "-o", str(built(crate))]
+        words = [
+            f"{kit}/bin/rattle-link",
+            "--target",
+            TARGET,
+            "--toolchain",
+            f"{kit}/toolchain",
+            "-o",
+            str(built(crate)),
+        ]
         words += [str(object_of(crate)), f"{kit}/c/libos_c.a", f"{kit}/c/liblibc_c.a"]
         return self.runner.run(words, crate.folder, log) == 0
 
@@ -171,7 +197,7 @@ class Proof:
         tops = tuple(it for it in tops if not is_proved_and_built(below(every, it)))
         crates = below(every, *tops)
         self.tops, self.crates = tops, {crate.name: crate for crate in crates}
-        self.sums = sums_of(crates)
+        self.sums, self.own_sums = sums_of(crates), {crate.name: crate.sum() for crate in crates}
         self.estimate = Estimate(crates)
         self.processors = len(os.sched_getaffinity(0))
         self.lanes = lanes
@@ -192,7 +218,8 @@ class Proof:
 
     def all(self) -> bool:
         """Proves what is left to prove, and returns whether all of it is proved."""
-        # What was proved over a library that is now replaced is proved again, also by a later call if this one is interrupted.
+        # What was proved over a library that is now replaced is proved again, also by a later call if this one is
+        # interrupted.
         for name in self.to_do:
             unmark(self.crates[name])
         running: dict[Future[bool], tuple[str, float, int]] = {}
@@ -234,10 +261,11 @@ class Proof:
         for place, name in enumerate(ready[:free]):
             is_urgent = self.estimate.chain_from(name) >= NEARLY * longest
             idle = self.processors - sum(jobs for _, _, jobs in running.values())
-            # An urgent crate may use all processors, since the others give way. Each of these gets one, and the first all idle ones.
+            # An urgent crate may use all processors, since the others give way. Each of these gets one, and the first
+            # all idle ones.
             jobs = self.processors if is_urgent else max(1, idle - (min(len(ready), free) - place - 1))
             jobs = min(MOST_JOBS, jobs)
-            build = pool.submit(self.prover.build, self.crates[name], jobs, is_urgent)
+            build = pool.submit(self.prover.build, self.crates[name], jobs, is_urgent, self.own_sums[name])
             running[build] = name, time.monotonic(), jobs
 
 
@@ -259,7 +287,8 @@ def default_lanes() -> int:
 
 @contextmanager
 def only_run() -> Iterator[None]:
-    """Waits until no other call proves in this checkout. SIGTERM then ends what the prover runs, as an interrupt does."""
+    """Waits until no other call proves in this checkout. SIGTERM then ends what the prover runs, as an interrupt
+    does."""
     LOGS.mkdir(parents=True, exist_ok=True)
     with (ROOT / "build" / "lock").open("w") as lock:
         try:
@@ -272,7 +301,8 @@ def only_run() -> Iterator[None]:
 
 
 def prove_all(tops: tuple[str, ...], lanes: int | None = None) -> bool:
-    """Proves crates and those below them, as far as they are not proved, and returns whether all are. Prints what it does."""
+    """Proves crates and those below them, as far as they are not proved, and returns whether all are. Prints what it
+    does."""
     with only_run():
         proof = Proof(crates_of_repository(), tops, lanes or default_lanes())
         if not proof.to_do:
@@ -280,7 +310,8 @@ def prove_all(tops: tuple[str, ...], lanes: int | None = None) -> bool:
         begun = time.monotonic()
         left = proof.estimate.span(set(proof.to_do), proof.lanes)
         print(
-            f"proving {len(proof.to_do)} of {len(proof.crates)} crates, {proof.lanes} side by side: about {minutes(left)};"
+            f"proving {len(proof.to_do)} of {len(proof.crates)} crates, {proof.lanes} side by side: about "
+            f"{minutes(left)};"
             f" the prover's output is in build/log/",
             flush=True,
         )
@@ -292,7 +323,8 @@ def prove_all(tops: tuple[str, ...], lanes: int | None = None) -> bool:
 
 
 def prove_over(top: str, libraries: Path) -> bool:
-    """Proves and builds one crate over proved libraries that are in another directory, and returns whether it is proved."""
+    """Proves and builds one crate over proved libraries that are in another directory, and returns whether it is
+    proved."""
     crates = crates_of_repository()
     with only_run():
         is_built = Prover(crates, libraries).build(crates[top], 1)
@@ -305,7 +337,9 @@ def main() -> int:
     parser = argparse.ArgumentParser(description=__doc__.split("\n")[0])
     parser.add_argument("crate", nargs="?", default="mpslp", help="the crate to prove and build (mpslp)")
     parser.add_argument("--lanes", type=int, default=None, help="how many crates are proved side by side")
-    parser.add_argument("--over", type=Path, default=None, help="prove only this crate, over the proved libraries in this directory")
+    parser.add_argument(
+        "--over", type=Path, default=None, help="prove only this crate, over the proved libraries in this directory"
+    )
     arguments = parser.parse_args()
     require_kit()
     if arguments.crate not in crates_of_repository():

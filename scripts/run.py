@@ -1,8 +1,8 @@
 #!/usr/bin/env python3
 """Prints the canonical text of a model file: scripts/run.py FILE [FORMAT]
 
-If the proved program is built and up to date, it is run. If not, the same sources are compiled without any proof and run by
-`rt try`, and a line on standard error says so. The exit status is the program's.
+If the proved program is built and up to date, it is run. If not, the same sources are compiled without any proof and
+run by `rt try`, and a line on standard error says so. The exit status is the program's.
 """
 
 import os
@@ -66,7 +66,8 @@ def run_unproved(words: list[str], file: Path) -> int:
         return int(has_ended[1])
     if ran.returncode == NO_RESULT:
         stop(
-            f"{file}: an unproved run ends after {MOST_SECONDS} seconds or {MOST_OUTPUT} of output: build the program with `make` first",
+            f"{file}: an unproved run ends after {MOST_SECONDS} seconds or {MOST_OUTPUT} of output: build the "
+            "program with `make` first",
             ran.returncode,
         )
     sys.stderr.buffer.write(ran.stderr)

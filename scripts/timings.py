@@ -1,9 +1,9 @@
 #!/usr/bin/env python3
 """Writes the times of the crates: scripts/timings.py OUTPUT ..
 
-OUTPUT is a file with what `make`, `make mutants` or `make test` printed. The seconds of each proof and of the mutants of each crate go
-to proof-seconds.tsv and mutant-seconds.tsv, which only order and estimate the work; crates that are not in the output keep theirs.
-With --lines it prints how many lines each crate has in src/, specs/ and proofs/.
+OUTPUT is a file with what `make`, `make mutants` or `make test` printed. The seconds of each proof and of the mutants
+of each crate go to proof-seconds.tsv and mutant-seconds.tsv, which only order and estimate the work; crates that are
+not in the output keep theirs. With --lines it prints how many lines each crate has in src/, specs/ and proofs/.
 """
 
 import argparse
@@ -19,7 +19,8 @@ MUTANTS = re.compile(r"(\w+): \d+ of \d+ mutants rejected, \d+ checks in (\d+) s
 
 
 def update(table: str, found: list[tuple[str, str]]) -> None:
-    """Writes the seconds that were found into a table of scripts/. A crate of the output keeps its place, a new one comes last."""
+    """Writes the seconds that were found into a table of scripts/. A crate of the output keeps its place, a new one
+    comes last."""
     crates = crates_of_repository()
     seconds = seconds_of_crates(table) | {name: float(text) for name, text in found if name in crates}
     rows = [f"{name}\t{value:.0f}" for name, value in seconds.items() if name in crates]
@@ -32,7 +33,9 @@ def print_lines() -> None:
     all_lines = dict.fromkeys(PARTS, 0)
     print("\t".join(("crate", *PARTS)))
     for crate in crates_of_repository().values():
-        lines = {part: sum(text_lines(file) for file in (crate.folder / part).rglob("*") if file.is_file()) for part in PARTS}
+        lines = {
+            part: sum(text_lines(file) for file in (crate.folder / part).rglob("*") if file.is_file()) for part in PARTS
+        }
         all_lines = {part: all_lines[part] + lines[part] for part in PARTS}
         print("\t".join((crate.name, *map(str, lines.values()))))
     print("\t".join(("all", *map(str, all_lines.values()))))

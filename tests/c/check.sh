@@ -28,6 +28,9 @@ cmp $tried/declared $tried/defined || die "the static library defines other name
 gcc -std=c99 $warn -Iinclude -o $tried/own-heap tests/c/own_heap.c build/libmpslp.a
 $tried/own-heap || die "a program with names of the kit's heap"
 
+# Each argument of each call arrives at the proved call, and each mistake in what hands them on is found.
+python3 tests/c/arguments.py --wrong || die "an argument of a call"
+
 # Header and crate agree, in C and in C++, with either library.
 gcc -std=c99 $warn -Iinclude -o $tried/layout tests/c/layout.c build/libmpslp.a
 g++ -x c++ $warn -Iinclude -o $tried/layout-shared tests/c/layout.c -x none -Lbuild -lmpslp
@@ -122,7 +125,7 @@ for program in $tried/program $tried/program-sanitized; do
 done
 
 # The conformance suite, on plain and on checked builds: each text, each fault, each comparison, and each model that is shown.
-python3 tests/vectors.py --program $tried/program
+python3 tests/program/vectors.py --program $tried/program
 for format in mps lp; do
     $tried/failing $format examples/small.$format || die "an allocation that fails, in $format"
     $checked $tried/failing $format examples/small.$format > /dev/null || die "an allocation that fails, in $format, by valgrind"

@@ -1,5 +1,6 @@
 #!/usr/bin/env python3
-"""colliding.py COUNT FOLDER: writes files of names that collide under the fixed seed, and of other names, in both formats.
+"""colliding.py COUNT FOLDER: writes files of names that collide under the fixed seed, and of other names, in both
+formats.
 
 They are colliding.mps, colliding.lp, alike.mps and alike.lp.
 """

@@ -16,8 +16,29 @@ EXACT = Context(prec=2000, Emin=-10000, Emax=10000)
 
 
 def doubles():
-    yield from (0.0, 1.0, -1.0, 0.1, -0.5, 1e22, 1e23, 5e-324, 2.0**-1022, sys.float_info.max, 1 / 3, 123456789.0, 1e100, 2.0**119, 2.0**-36)
-    yield from (math.ldexp(digits, twos) for twos in range(-1074, 971) for digits in (1, 2**53 - 1) if digits == 1 or twos % 8 == 0)
+    yield from (
+        0.0,
+        1.0,
+        -1.0,
+        0.1,
+        -0.5,
+        1e22,
+        1e23,
+        5e-324,
+        2.0**-1022,
+        sys.float_info.max,
+        1 / 3,
+        123456789.0,
+        1e100,
+        2.0**119,
+        2.0**-36,
+    )
+    yield from (
+        math.ldexp(digits, twos)
+        for twos in range(-1074, 971)
+        for digits in (1, 2**53 - 1)
+        if digits == 1 or twos % 8 == 0
+    )
     # Two decimals with the fewest digits are as near.
     yield from (2.0**50 + 0.25, 2.0**50 + 0.75, 2.0**49 + 0.125, 2.0**49 + 0.375)
     for _ in range(3000):
@@ -25,7 +46,7 @@ def doubles():
         if math.isfinite(value):
             yield value
         yield math.ldexp(random.randrange(2**53), random.randrange(-60, 70)) * random.choice((-1, 1))
-        yield random.randrange(-10**6, 10**6) / 10 ** random.randrange(8)
+        yield random.randrange(-(10**6), 10**6) / 10 ** random.randrange(8)
 
 
 def text(number):

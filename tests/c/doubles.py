@@ -30,12 +30,18 @@ def decimal_of(value):
 
 def numbers():
     yield from ((1, e) for e in range(-400, 400, 7))
-    yield from ((digits, e) for digits in (5, 49, 4940656458412465, 24703282292062327, 17976931348623157, 17976931348623159) for e in (-340, -339, -324, 292, 293, 308))
+    yield from (
+        (digits, e)
+        for digits in (5, 49, 4940656458412465, 24703282292062327, 17976931348623157, 17976931348623159)
+        for e in (-340, -339, -324, 292, 293, 308)
+    )
     for _ in range(2000):
         yield random.randrange(1, 10 ** random.randrange(1, LONGEST + 1)), random.randrange(-360, 330)
         double = math.ldexp(random.randrange(2**52, 2**53), random.randrange(-80, 60))
         halfway = (Fraction(double) + Fraction(math.nextafter(double, math.inf))) / 2
-        few_bits = Fraction(random.randrange(1, 2 ** random.randrange(1, 54))) * Fraction(2) ** random.randrange(-40, 100)
+        few_bits = Fraction(random.randrange(1, 2 ** random.randrange(1, 54))) * Fraction(2) ** random.randrange(
+            -40, 100
+        )
         for number in (decimal_of(Fraction(double)), decimal_of(halfway), decimal_of(few_bits)):
             if number:
                 yield number
@@ -51,14 +57,20 @@ def text_of(literals):
 def main():
     random.seed(1)
     literals = [f"{random.choice(['', '-'])}{digits}e{exponent}" for digits, exponent in numbers() if digits]
-    done = subprocess.run([sys.argv[1], "double", "mps", "-"], input=text_of(literals), capture_output=True, text=True, check=True)
+    done = subprocess.run(
+        [sys.argv[1], "double", "mps", "-"], input=text_of(literals), capture_output=True, text=True, check=True
+    )
     costs = [line.split() for line in done.stdout.splitlines()[1:]][2::3]
     if len(costs) != len(literals):
         sys.exit(f"{len(costs)} doubles of {len(literals)} numbers")
     for literal, (_, found, cost) in zip(literals, costs):
         double = float.fromhex(found) if "inf" not in found else float(found)
         is_exact = not math.isinf(double) and Fraction(double) == Fraction(literal)
-        if double != float(literal) or math.copysign(1, double) != math.copysign(1, float(literal)) or (cost == "exact") != is_exact:
+        if (
+            double != float(literal)
+            or math.copysign(1, double) != math.copysign(1, float(literal))
+            or (cost == "exact") != is_exact
+        ):
             sys.exit(f"{literal}: {found} {cost}")
     exact = sum(cost == "exact" for _, _, cost in costs)
     print(f"{len(literals)} doubles are the nearest ones, {exact} of them exact")
