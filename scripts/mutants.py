@@ -11,13 +11,10 @@ proved, and if it rejects no function for itself that no mutant changes. Mutants
 without those that were rejected, and at last one at a time.
 
 A function that is rejected only because its proof names a goal or a value which the edit took away is rejected whatever
-the contract says. Such an edit does not count: it is a BAD EDIT, as is one that the prover cannot read or compile.
-Change a value in it, and keep the names.
-
-With --strict it is a BAD EDIT also where a goal stays open, since a goal that is new with the edit has no proof; and of
-what a check of a whole crate rejects only the function that was edited counts, and functions that name it in their
-contracts, or, after an edit of a definition, functions that name that definition or one that is made of it. The gate
-is not strict: the mutants of some crates are not all known to pass with it.
+the contract says, also where a goal stays open, since a goal that is new with the edit has no proof. Such an edit does
+not count: it is a BAD EDIT, as is one that the prover cannot read or compile. Change a value in it, and keep the names.
+Of what a check of a whole crate rejects only the function that was edited counts, and functions that name it in their
+contracts, or, after an edit of a definition, functions that name that definition or one that is made of it.
 
 Other mutants, of definitions, invariants and constants, are checked one at a time. The line `function:` of such an edit
 names a function that the prover then rejects. Without that line, or if the function is not rejected, the whole crate is
@@ -39,7 +36,6 @@ from collections.abc import Callable, Iterable
 from concurrent.futures import ThreadPoolExecutor, as_completed
 from contextlib import AbstractContextManager, nullcontext
 from dataclasses import dataclass, field
-from enum import Enum, auto
 from pathlib import Path
 
 from crates import LIBRARIES, PARTS, Crate, crates_of_repository, seconds_of_crates, words_of
@@ -294,28 +290,11 @@ def errors_of_proof(name: str, lines: list[str]) -> list[str]:
     return [it[2] for line in lines if (it := OF_A_PROOF.match(line)) and it[1] in files]
 
 
-class Judgement(Enum):
-    """What counts as a rejection where proofs name what is gone."""
-
-    # A goal that stays open, and in a check of a whole crate any other complaint.
-    USUAL = auto()
-    # Nothing.
-    STRICT = auto()
-
-
-def names_only_what_is_gone(lines: list[str]) -> bool:
-    """Whether a check of a whole crate rejects nothing but proofs that name what is gone."""
-    said = [line for line in lines if re.match(r"(?:note: )?\S+:\d+:\d+:", line)]
-    said = [line for line in said if ": error" in line or line.startswith("note: ")]
-    return bool(said) and all(re.match(r"(?:note: )?(?:\./)?proofs/", line) and GONE.search(line) for line in said)
-
-
-def names_what_is_gone(name: str, lines: list[str], bodies: list[Body], judgement: Judgement) -> bool:
+def names_what_is_gone(name: str, lines: list[str]) -> bool:
     """Whether a function is rejected only because its proof names a goal or a value that is gone. Goals may stay open
     then: they have other names, so that nothing in the proof is for them."""
     errors = errors_of_proof(name, lines)
-    is_open = judgement == Judgement.USUAL and any(body.is_of(name) for body in open_bodies(lines, bodies))
-    return bool(errors) and all(map(GONE.search, errors)) and not is_open
+    return bool(errors) and all(map(GONE.search, errors))
 
 
 def is_of_others(name: str, reason: str) -> bool:
@@ -352,7 +331,6 @@ class Check:
     lines: list[str]
     # Those of the crate.
     bodies: list[Body]
-    judgement: Judgement
 
     @property
     def has_ended(self) -> bool:
@@ -371,11 +349,7 @@ class Check:
     @property
     def rejected(self) -> list[str]:
         """The functions that it rejects for themselves."""
-        return [
-            it
-            for it in self.rejected_or_misnamed
-            if not names_what_is_gone(it, self.lines, self.bodies, self.judgement)
-        ]
+        return [it for it in self.rejected_or_misnamed if not names_what_is_gone(it, self.lines)]
 
     @property
     def rejected_or_misnamed(self) -> list[str]:
@@ -441,8 +415,6 @@ def leave_out(crate: Crate, room: Path, functions: list[str]) -> None:
 class Prover:
     """Checks edited copies of a crate, each over what the checks before it proved."""
 
-    judgement = Judgement.USUAL
-
     def __init__(self, crate: Crate, crates: dict[str, Crate], libraries: Path, kept: Path, log: Path, turn: Turn):
         self.crate, self.log, self.turn, self.checks = crate, log, turn, 0
         self.bodies = [
@@ -490,7 +462,7 @@ class Prover:
                 )
         with self.log.open("a") as log:
             log.write(f"== {what}, {time.monotonic() - begun:.0f} s, status {ran.returncode}\n{ran.stdout}")
-        return Check(ran.returncode, ran.stdout.rstrip("\n").split("\n"), self.bodies, self.judgement)
+        return Check(ran.returncode, ran.stdout.rstrip("\n").split("\n"), self.bodies)
 
     def rejects(self, mutant: Mutant, body: Body | None) -> str | None:
         """None if the prover rejects the mutant, or else why that is not known."""
@@ -513,10 +485,9 @@ class Prover:
         if check.status != 1 or not check.has_ended:
             is_proved = check.status == 0
             return "NOT REJECTED: the crate is proved with it" if is_proved else f"no verdict: {check.lines[-1][:160]}"
-        is_misnamed = names_only_what_is_gone(check.lines) if self.judgement == Judgement.USUAL else not check.rejected
-        if is_misnamed:
+        if not check.rejected:
             return "BAD EDIT: proofs name what it took away: change a value and keep the names"
-        if self.judgement == Judgement.STRICT and not any(self.is_about(name, mutant, body) for name in check.rejected):
+        if not any(self.is_about(name, mutant, body) for name in check.rejected):
             return f"BAD EDIT: {check.rejected[0]} is rejected, which does not name what it changes"
         return None
 
@@ -613,13 +584,7 @@ def unusable_edits(crates: dict[str, Crate]) -> list[str]:
     return problems_of(read_mutant(crate, path) for crate in crates.values() for path in edits_of(crate))
 
 
-def test_crate(
-    crate: Crate,
-    crates: dict[str, Crate],
-    libraries: Path,
-    turn: Turn = nullcontext,
-    judgement: Judgement = Judgement.USUAL,
-) -> Outcome:
+def test_crate(crate: Crate, crates: dict[str, Crate], libraries: Path, turn: Turn = nullcontext) -> Outcome:
     """Tests all mutants of a crate, over the proved libraries in this directory. Each check waits for its turn."""
     begun = time.monotonic()
     mutants = [read_mutant(crate, path) for path in edits_of(crate)]
@@ -628,7 +593,6 @@ def test_crate(
     log.unlink(missing_ok=True)
     with tempfile.TemporaryDirectory(prefix="mutants-") as kept:
         prover = Prover(crate, crates, libraries, Path(kept), log, turn)
-        prover.judgement = judgement
         problems += prover.test([it for it in mutants if not it.problem])
         if not prover.is_sound():
             problems = [f"{it.name}: the crate itself is not proved over what its mutants left" for it in mutants]
@@ -644,7 +608,6 @@ def crates_with_mutants(crates: dict[str, Crate]) -> list[Crate]:
 def main() -> int:
     parser = argparse.ArgumentParser(description=__doc__.split("\n")[0])
     parser.add_argument("crates", nargs="*", metavar="CRATE", help="the crates whose mutants are tested (all)")
-    parser.add_argument("--strict", action="store_true", help="nothing counts where proofs name what is gone")
     parser.add_argument("--libraries", type=Path, default=LIBRARIES, help="where the proved libraries are")
     parser.add_argument(
         "--jobs", type=int, default=len(os.sched_getaffinity(0)), help="how many crates are tested side by side"
@@ -656,8 +619,7 @@ def main() -> int:
     LOGS.mkdir(parents=True, exist_ok=True)
     libraries, outcomes = arguments.libraries.resolve(), []
     with ThreadPoolExecutor(max(1, arguments.jobs)) as pool:
-        judgement = Judgement.STRICT if arguments.strict else Judgement.USUAL
-        tested = [pool.submit(test_crate, crate, crates, libraries, nullcontext, judgement) for crate in chosen]
+        tested = [pool.submit(test_crate, crate, crates, libraries) for crate in chosen]
         for ended in as_completed(tested):
             outcome = ended.result()
             outcomes.append(outcome)

@@ -19,7 +19,7 @@ ROOT = Path(__file__).resolve().parents[2]
 sys.path.insert(0, str(ROOT / "scripts"))
 
 from crates import Crate
-from mutants import Judgement, bodies_of, leave_out, names_what_is_gone, rejected_for_themselves, unreadable
+from mutants import bodies_of, leave_out, names_what_is_gone, rejected_for_themselves, unreadable
 
 KIT_SUM = (ROOT / "kit-sum").read_text().strip()
 
@@ -254,7 +254,7 @@ class Mutants(unittest.TestCase):
         self.add("one", "    1", "    1 + spoils low::limit")
         self.add("two", "    2", "    2 + spoils low::high::law")
         self.add("another", "    1", "    1 + spoils low::high::law")
-        status, said, _ = self.run_mutants("--strict")
+        status, said, _ = self.run_mutants()
         self.assertEqual(status, 1)
         self.assertIn("low/one: BAD EDIT: low::limit is rejected, which does not name what it changes", said)
         self.assertIn("low/two: BAD EDIT: low::high::law is rejected, which does not name what it changes", said)
@@ -310,8 +310,8 @@ class Rejections(unittest.TestCase):
         "`returns-then`"
     )
 
-    def is_gone(self, name: str, *lines: str, judgement: Judgement = Judgement.STRICT) -> bool:
-        return names_what_is_gone(name, list(lines), self.BODIES, judgement)
+    def is_gone(self, name: str, *lines: str) -> bool:
+        return names_what_is_gone(name, list(lines))
 
     def test_a_proof_that_names_what_is_gone_says_nothing_of_the_contract(self) -> None:
         other = "proofs/one/Answers.antt:9:5: error: `returns`: the types differ"
@@ -324,7 +324,6 @@ class Rejections(unittest.TestCase):
         still_open = "note: src/lib.rt:6:5: it is not proved that the sum fits its type"
         self.assertTrue(self.is_gone("low::one", self.GONE, still_open))
         self.assertFalse(self.is_gone("low::one", still_open))
-        self.assertFalse(self.is_gone("low::one", self.GONE, still_open, judgement=Judgement.USUAL))
 
     def test_a_refused_lemma_that_names_what_is_gone_says_nothing_of_the_contract(self) -> None:
         line = "fn low::one: not proved; it stands on `Rattle.low.proofs.Sums.sum`, which antt refuses"
@@ -585,7 +584,7 @@ class RealProver(unittest.TestCase):
         (folder / "crates.txt").write_text("low:\n")
         shutil.copy(ROOT / "kit-sum", folder / "kit-sum")
         shutil.copytree(ROOT / "scripts", folder / "scripts")
-        words = [sys.executable, "scripts/mutants.py", "--strict"]
+        words = [sys.executable, "scripts/mutants.py"]
         ran = subprocess.run(words, cwd=folder, capture_output=True, text=True, timeout=3600, check=False)
         return ran.stdout + ran.stderr
 
