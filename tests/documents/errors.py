@@ -1,7 +1,8 @@
 #!/usr/bin/env python3
 """Write what is made of docs/errors.tsv: `python3 tests/documents/errors.py --write`
 
-That is the table of errors in docs/ERRORS-ROWS.md and the section DIAGNOSTICS of docs/mpslp.1; docs_check.py compares them.
+That is the table of errors in docs/ERRORS-ROWS.md, and the section DIAGNOSTICS of docs/mpslp.1; docs_check.py compares
+them.
 """
 
 import re
