@@ -11,7 +11,7 @@ from __future__ import annotations
 import re
 from collections.abc import Mapping, Sequence
 from decimal import Context, Decimal, Inexact
-from functools import lru_cache
+from functools import lru_cache, reduce
 from typing import NamedTuple
 
 from mpslp._adapt._changes import Change, Reported
@@ -57,7 +57,7 @@ _LARGE = Decimal(10**20, _EXACT)
 _CONSTANT = re.compile(rf"[ \t]+([+-])[ \t]*({_AMOUNT})", re.ASCII)
 """With a space before its sign, which is then not that of an exponent."""
 
-_RIGHT = re.compile(_SIDE, re.ASCII)
+_RELATION, _RIGHT = re.compile(_END), re.compile(_SIDE, re.ASCII)
 _MAY_BE_LARGE = re.compile(r"[0-9]{16}|[eE][+-]")
 _NO_LETTERS = "0123456789.+-* \t"
 _SHORT_AMOUNT = 4
@@ -189,13 +189,14 @@ def _has_last_constant_on_right(row: re.Match[str], written: str) -> bool:
     less this constant: most changed rows are so, and what stays need not be read again. If not, the row may still say
     the same.
     """
-    start, relation = row.start("relation"), row["relation"].strip(_SPACES)
-    front, _, right = written.rpartition(relation)
-    front = front.rstrip(_SPACES)
+    relation = _RELATION.search(written)
+    if relation is None or _sense(relation[0]) != _sense(row["relation"]):
+        return False
+    front, right = written[: relation.start()], written[relation.end() :].rstrip(_SPACES)
     left = front[row.start("left") :]
     if not row.string.startswith(front) or not left.lstrip(_NO_LETTERS) or _MAY_BE_LARGE.search(left) is not None:
         return False
-    constant, right = _CONSTANT.fullmatch(row.string, len(front), start), right.strip(_SPACES)
+    constant = _CONSTANT.fullmatch(row.string, len(front), row.start("relation"))
     if constant is None or _RIGHT.fullmatch(right) is None:
         return False
     limit = _limit(row["right"], ("".join(constant.groups()),))
@@ -207,7 +208,7 @@ def _is_same_row(before: re.Match[str], after: re.Match[str] | None) -> bool:
         return False
     label, left, relation, right = before.groups()
     label_written, left_written, relation_written, right_written = after.groups()
-    if label != label_written or relation.strip(_SPACES)[0] != relation_written.strip(_SPACES)[0]:
+    if label != label_written or _sense(relation) != _sense(relation_written):
         return False
     terms, constants = _parted(left)
     terms_written, constants_written = _parted(left_written)
@@ -217,6 +218,10 @@ def _is_same_row(before: re.Match[str], after: re.Match[str] | None) -> bool:
         return False
     limit = _limit(right, constants)
     return limit is not None and limit == _limit(right_written, constants_written)
+
+
+def _sense(relation: str) -> str:
+    return "<" if "<" in relation else ">" if ">" in relation else "="
 
 
 _Term = tuple[str, str, str]
@@ -251,11 +256,10 @@ def _added(terms: Sequence[_Term]) -> dict[str, Decimal]:
 @lru_cache(maxsize=4096)
 def _limit(right: str, constants: tuple[str, ...]) -> Decimal | None:
     """The number on the right of a row, less the constants on its left; None if one of them may be infinite."""
-    limit = _value(right.replace(" ", "").replace("\t", ""))
-    for constant in map(_value, constants):
-        if not -_LARGE < constant < _LARGE:
-            return None
-        limit = _EXACT.subtract(limit, constant)
+    numbers = [_value(right.replace(" ", "").replace("\t", "")), *map(_value, constants)]
+    if not all(-_LARGE < number < _LARGE for number in numbers):
+        return None
+    limit = reduce(_EXACT.subtract, numbers)
     return limit if -_LARGE < limit < _LARGE else None
 
 
