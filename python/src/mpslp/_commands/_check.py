@@ -67,7 +67,7 @@ def _canonical(text: Text, given: Input, options: argparse.Namespace) -> Outcome
         "" if is_canonical or options.quiet else given.path,
         record=record_of(given.path, "accepted", canonical=is_canonical),
     )
-    return warned(text, options).before(lambda: outcome)
+    return warned(text, options, text.content if is_canonical else None).before(lambda: outcome)
 
 
 def _portable(text: Text, given: Input, options: argparse.Namespace) -> Outcome:
