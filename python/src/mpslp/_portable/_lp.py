@@ -6,11 +6,11 @@ from collections.abc import Iterator, Sequence
 from dataclasses import dataclass, field
 from typing import NamedTuple
 
-from mpslp._portable._numbers import is_doubtful
+from mpslp._portable._numbers import is_doubtful, may_be_extreme
 from mpslp._portable._words import Word, first_text
 from mpslp._text._lp_tokens import TOKEN
 from mpslp._text._lp_words import BOUNDS, END, FREE, INFINITIES, LISTS, ROWS, ROWS_IN_TWO_WORDS, SECTIONS
-from mpslp._text._numbers import is_infinite
+from mpslp._text._numbers import is_infinite, parts
 
 _SHORT = ("int", "gen", "bin")
 
@@ -54,6 +54,11 @@ class Bound(NamedTuple):
     lower: str | None
     upper: str | None
 
+    @property
+    def numbers(self) -> Iterator[Word]:
+        """The sides that are finite; both of a fixed column are one."""
+        return (Word(self.line, each) for each in dict.fromkeys(self[1:]) if each is not None and "inf" not in each)
+
 
 class ShortKeyword(NamedTuple):
     """The keyword ``int``, ``gen`` or ``bin``, and whether it comes after the keyword of Bounds."""
@@ -86,6 +91,8 @@ class LpFile:
         """The keywords of the sections that list names that CoinUtils does not have."""
         self.has_integer = False
         """Whether the keyword of the integer columns is the word ``integer``."""
+        self.coefficients: list[Word] = []
+        """The coefficients of rows that are not 0 and may be very small or very large."""
         self.numbers: list[Word] = []
         """The numbers that a double may not hold; of the infinite ones none."""
         self.rest: Word | None = None
@@ -190,7 +197,9 @@ class LpFile:
     def _terms(self) -> None:
         while self._now.sort != "relation":
             self._signs()
-            self._number()
+            line, number = self._now.line, self._number()
+            if may_be_extreme(number) and parts(number)[0]:
+                self.coefficients.append(Word(line, number))
             self._name()
 
     def _side(self) -> Side:
