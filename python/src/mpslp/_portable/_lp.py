@@ -7,11 +7,11 @@ from dataclasses import dataclass, field
 from itertools import pairwise
 from typing import NamedTuple
 
-from mpslp._portable._numbers import is_doubtful
+from mpslp._portable._numbers import is_doubtful, may_be_extreme
 from mpslp._portable._words import Word, first_text
 from mpslp._text._lp_statements import VALUE, LpLines, LpStatements, Statement, Token, Tokens
 from mpslp._text._lp_words import BOUNDS, LISTS, OBJECTIVE, ROWS, SENSES
-from mpslp._text._numbers import is_infinite
+from mpslp._text._numbers import is_infinite, parts
 
 _SHORT = ("int", "gen", "bin")
 _MAY_BE_JOINED = {
@@ -50,6 +50,11 @@ class Bound(NamedTuple):
     lower: str | None
     upper: str | None
 
+    @property
+    def numbers(self) -> Iterator[Word]:
+        """The sides that are finite; both of a fixed column are one."""
+        return (Word(self.line, each) for each in dict.fromkeys(self[1:]) if each is not None and "inf" not in each)
+
 
 class ShortKeyword(NamedTuple):
     """The keyword ``int``, ``gen`` or ``bin``, and whether it comes after the keyword of Bounds."""
@@ -82,6 +87,8 @@ class LpFile:
         """The keywords of the sections that list names that CoinUtils does not have."""
         self.has_integer = False
         """Whether the keyword of the integer columns is the word ``integer``."""
+        self.coefficients: list[Word] = []
+        """The coefficients of rows that are not 0 and may be very small or very large."""
         self.numbers: list[Word] = []
         """The numbers that a double may not hold; of the infinite ones none."""
         self.rest: Word | None = None
@@ -140,6 +147,8 @@ class LpFile:
         row.sides += [self._side(side) for side in (statement.first[:-1], statement.last[1:]) if side]
         self._side_before = row.sides[-1].line
         self.rows.append(row)
+        numbers = (token for term in statement.terms for token in term if token.sort == "number")
+        self.coefficients += (Word(each.line, each.text) for each in numbers if _is_extreme(each.text))
 
     def _bound(self, statement: Statement) -> None:
         line, first, last = statement.start.line, statement.first, statement.last
@@ -185,6 +194,11 @@ class LpFile:
 def _is_odd(before: Token, token: Token) -> bool:
     """Whether other programs want a space between two tokens."""
     return (before.sort, token.sort) not in _MAY_BE_JOINED and before.text.lower() != "semi"
+
+
+def _is_extreme(number: str) -> bool:
+    """Whether a coefficient is not 0 and may be very small or very large."""
+    return may_be_extreme(number) and bool(parts(number)[0])
 
 
 def _sign(signs: Tokens) -> str:
