@@ -162,18 +162,19 @@ class LpFile:
 
     def _terms(self, terms: Iterable[Tokens]) -> None:
         """Takes the signs, numbers and names of terms; the constant of the objective has no name."""
+        names = self.names
         for term in terms:
-            if len(term) > 2 and term[1].sort == "sign":
-                self.signs.append(term[0].line)
-            *others, last = term
-            for token in others:
-                if token.sort == "number":
-                    self._number(token)
+            last = term[-1]
+            if len(term) > 1:
+                if len(term) > 2 and term[1].sort == "sign":
+                    self.signs.append(term[0].line)
+                if is_doubtful(term[-2].text):
+                    self._number(term[-2])
             if last.sort == "word":
-                self.names.setdefault(last.text, last.line)
+                names.setdefault(last.text, last.line)
             else:
                 self._number(last)
-                self.constant = Word(last.line, _sign(others) + last.text)
+                self.constant = Word(last.line, _sign(term[:-1]) + last.text)
 
     def _side(self, side: Tokens) -> Side:
         *signs, value = side

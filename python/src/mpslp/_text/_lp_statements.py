@@ -5,11 +5,12 @@ The file has been accepted, so nothing of it is tested here. What needs no lines
 
 from __future__ import annotations
 
+import re
 from collections.abc import Iterable, Iterator, Sequence
 from itertools import chain
 from typing import NamedTuple
 
-from mpslp._text._lp_tokens import TOKEN
+from mpslp._text._lp_tokens import OTHERS, WORD
 from mpslp._text._lp_words import BOUNDS, END, FREE, OBJECTIVE, OPENINGS, ROWS, ROWS_IN_TWO_WORDS, VALUES
 
 KEYWORD, VALUE = "keyword", "value"
@@ -45,7 +46,11 @@ class Token(NamedTuple):
 
 Tokens = Sequence[Token]
 _make = tuple.__new__
-"""This makes a token in half the time."""
+"""It makes a token in half the time."""
+
+
+_PIECE = re.compile(rf"{WORD}|{OTHERS}|(?P<line>\n)", re.ASCII)
+"""A token or the end of a line in the group of its sort, or a comment in none."""
 
 
 class LpLines:
@@ -55,50 +60,46 @@ class LpLines:
         self.rest = ""
         """What comes after the word ``end``. It is known after all lines, as is the number of its line."""
         self.end = 0
-        self._lines = text.split("\n")
+        self._text = text
 
     def __iter__(self) -> Iterator[list[Token]]:
+        tokens: list[Token] = []
         before: list[Comment] = []
-        done = 1
-        for number, line in enumerate(self._lines, 1):
-            words, mark, comment = line.partition("\\")
-            tokens, end = _tokens(number, words)
-            if not tokens and not mark:
+        number = done = 1
+        end = -1
+        for match in _PIECE.finditer(self._text):
+            sort, text, around = match.lastgroup, match[0], None
+            if sort == "line":
+                if tokens:
+                    yield tokens
+                    tokens = []
+                number, end = number + 1, -1
                 continue
-            is_after_empty_line, done = number - done > 1, number
-            if mark:
-                comment = "" if end else (mark + comment).rstrip("\r")
-                if not tokens:
-                    before.append(Comment(number, comment, is_after_empty_line))
+            if not tokens:
+                is_after_empty_line, done = number - done > 1, number
+                if sort is None:
+                    before.append(Comment(number, text.rstrip("\r"), is_after_empty_line))
                     continue
-                tokens[-1] = tokens[-1]._replace(around=Around(after=comment))
-            if before or is_after_empty_line:
-                around = (tokens[0].around or Around())._replace(
-                    before=tuple(before), is_after_empty_line=is_after_empty_line
-                )
-                tokens[0] = tokens[0]._replace(around=around)
-                before = []
-            yield tokens
-            if end:
-                self.rest, self.end = "\n".join([line[end:], *self._lines[number:]]), number
+                if before or is_after_empty_line:
+                    around = Around(tuple(before), is_after_empty_line)
+                    before = []
+            elif sort is None:
+                tokens[-1] = _with_comment(tokens[-1], text.rstrip("\r"))
+                continue
+            if sort == "word":
+                sort = _SORTS.get(text.lower(), sort)
+            end_before, start = end, match.start()
+            end = start + len(text)
+            tokens.append(_make(Token, (sort, text, number, start == end_before, around)))
+            if sort == KEYWORD and text.lower() == END:
+                yield tokens
+                self.rest, self.end = self._text[end:], number
                 return
         raise AssertionError("the text is accepted")
 
 
-def _tokens(number: int, words: str) -> tuple[list[Token], int]:
-    """The tokens of a line up to the word end, and where this word ends; 0 if it is not there."""
-    tokens: list[Token] = []
-    end = -1
-    for match in TOKEN.finditer(words):
-        sort, text = match.lastgroup or "", match[0]
-        if sort == "word":
-            sort = _SORTS.get(text.lower(), sort)
-        start, place = end, match.start()
-        end = place + len(text)
-        tokens.append(_make(Token, (sort, text, number, start == place, None)))
-        if sort == KEYWORD and text.lower() == END:
-            return tokens, end
-    return tokens, 0
+def _with_comment(token: Token, comment: str) -> Token:
+    return token._replace(around=(token.around or Around())._replace(after=comment))
 
 
 class Statement(NamedTuple):
@@ -117,7 +118,7 @@ class Statement(NamedTuple):
 
     @property
     def start(self) -> Token:
-        return next(chain(self.keyword, self.label, self.first, *self.terms, self.last))
+        return (self.keyword or self.label or self.first or self.terms[0])[0]
 
 
 _NONE = Token("", "", 0)
@@ -140,29 +141,27 @@ class LpStatements:
             else:
                 yield self._part(section)
 
-    def _take(self, count: int) -> list[Token]:
-        taken = []
-        for _ in range(count):
-            taken.append(self._now)
-            self._now, self._next, self._third = self._next, self._third, next(self._tokens, _NONE)
-        return taken
+    def _take(self) -> Token:
+        token = self._now
+        self._now, self._next, self._third = self._next, self._third, next(self._tokens, _NONE)
+        return token
 
     def _keyword(self) -> list[Token]:
         """The words that open a section; the second ones are names elsewhere."""
         word = self._now.text.lower()
         if word == "semi" and self._next.sort == "sign":
-            return self._take(3)
-        return self._take(2 if word in ROWS_IN_TWO_WORDS else 1)
+            return [self._take(), self._take(), self._take()]
+        return [self._take(), self._take()] if word in ROWS_IN_TWO_WORDS else [self._take()]
 
     def _part(self, section: str) -> Statement:
-        label = self._take(2) if self._next.sort == "colon" else ()
-        first = [*self._side(), *self._take(1)] if self._is_at_side() else ()
-        terms = self._terms() if section in (OBJECTIVE, ROWS) else [self._take(1)]
+        label = [self._take(), self._take()] if self._next.sort == "colon" else ()
+        first = [*self._side(), self._take()] if self._is_at_side() else ()
+        terms = self._terms() if section in (OBJECTIVE, ROWS) else [[self._take()]]
         last: Tokens = ()
         if self._now.sort == "relation":
-            last = [*self._take(1), *self._side()]
+            last = [self._take(), *self._side()]
         elif section == BOUNDS and not first and self._now.text.lower() == FREE:
-            last = self._take(1)
+            last = [self._take()]
         return Statement(section, label=label, first=first, terms=terms, last=last)
 
     def _is_at_side(self) -> bool:
@@ -171,7 +170,7 @@ class LpStatements:
         return after.sort == "relation" and value.sort in ("number", VALUE)
 
     def _side(self) -> list[Token]:
-        return self._take(2 if self._now.sort == "sign" else 1)
+        return [self._take(), self._take()] if self._now.sort == "sign" else [self._take()]
 
     def _terms(self) -> list[list[Token]]:
         """The terms of a row, or those of the objective and its constant."""
