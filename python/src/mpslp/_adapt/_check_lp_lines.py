@@ -48,7 +48,6 @@ _BOUND = _line(
 )
 _NAMES = _line(rf"[ \t]*{_WORD}(?:[ \t]+{_WORD})*")
 _SENSE_AND_OBJECTIVE = _line(rf"[ \t]*(?i:min|max)(?i:imi[sz]e|imum)?[ \t]+(?P<objective>(?:{_LABEL})?{_SIGNED})")
-_NO_STATEMENT = _line(r"[ \t\r]*(?:\\.*)?")
 _NAME_OR_AMOUNT = re.compile(rf"{_AMOUNT}|({_WORD})", re.ASCII)
 _TERM = re.compile(rf"([+-]?)[ \t]*(?=[\w.])({_AMOUNT})?(?:[ \t]*\*?[ \t]*({_WORD}))?", re.ASCII)
 
@@ -87,18 +86,21 @@ def says_the_same(
     changed = {change.line: (change.before, change.after) for change in reported}
     reading = _Lines()
     for number, (line, line_written) in enumerate(zip(before, after), 1):
-        if not reading.take(line):
+        if not reading.take(_code(line)):
             return False
         if line != line_written and not (
-            changed.pop(number, None) == (line.strip(_SPACES), line_written.strip(_SPACES))
+            changed.pop(number, None) == (_code(line).strip(_SPACES), _code(line_written).strip(_SPACES))
+            and line.partition("\\")[2] == line_written.partition("\\")[2]
             and reading.row is not None
-            and (
-                _has_last_constant_on_right(reading.row, line_written)
-                or _is_same_row(reading.row, _ROW.fullmatch(line_written))
-            )
+            and _says_the_same_row(reading.row, _code(line_written))
         ):
             return False
     return not changed and reading.has_only_names(names)
+
+
+def _code(line: str) -> str:
+    """A line without its comment."""
+    return line.partition("\\")[0] if "\\" in line else line
 
 
 class _Lines:
@@ -127,7 +129,7 @@ class _Lines:
         word = " ".join(line.lower().split())
         if word in HEADERS:
             return self._take_header(HEADERS[word])
-        if _NO_STATEMENT.fullmatch(line) is not None:
+        if not line.strip(_SPACES):
             return not self._goes_on or self._section == "objective"
         if not self._sections and (objective := _SENSE_AND_OBJECTIVE.fullmatch(line)) is not None:
             return self._take_header("min") and self.take(objective["objective"])
@@ -182,6 +184,10 @@ class _Lines:
         return known.isdisjoint(names) and not any(
             name.lower() in _NO_NAMES or (name[0] in "eE" and _EXPONENT.fullmatch(name)) for name in known
         )
+
+
+def _says_the_same_row(row: re.Match[str], written: str) -> bool:
+    return _has_last_constant_on_right(row, written) or _is_same_row(row, _ROW.fullmatch(written))
 
 
 def _has_last_constant_on_right(row: re.Match[str], written: str) -> bool:

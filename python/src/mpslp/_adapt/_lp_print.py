@@ -18,6 +18,7 @@ _TOKEN = re.compile(
     r"\\.*|<=|=<|<|>=|=>|>|==|=|::|:|->|(?:[0-9]+(?:\.[0-9]*)?|\.[0-9]+)(?:[eE][+-]?[0-9]+)?|[^\s\\<>=:*^+\-\[\]]+|.",
     re.DOTALL | re.ASCII,
 )
+_COMMENT = re.compile(r"[ \t\r]*\\")
 
 
 class Cell(NamedTuple):
@@ -111,6 +112,7 @@ def printed(cells: Iterable[Cell]) -> str:
             not space
             and (cell.is_new or last.is_new)
             and last.text
+            and _COMMENT.match(cell.text) is None
             and not _are_apart(last.text, cell.text[:_MOST_JOINED])
         ):
             space = " "
