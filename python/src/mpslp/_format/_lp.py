@@ -15,6 +15,9 @@ WIDTH = 100
 _LONGEST_COMMENT = LONGEST_LINE - 1000
 """A longer comment gets a line of its own: after a token it could make a line that is too long, and is rejected."""
 
+_LONGEST_TERM = 700
+"""A term is broken only if it is longer: it has very many signs, and might be longer than a line may be."""
+
 _CONTINUED = " " * 4
 _LOWER_CASE = VALUES.union(SPELLINGS[ROWS]) - ROWS_IN_TWO_WORDS.keys()
 
@@ -214,26 +217,34 @@ class _Lines:
 
     def __init__(self) -> None:
         self.all: list[str] = []
-        self._line = ""
+        self._line: list[str] = []
+        """The parts of the line that is being written; a text that each part is added to would be copied each time."""
+        self._length = 0
 
     def add(self, statement: Statement) -> None:
         indent, is_begun = statement.indent, False
         if statement.opens_section:
             self._skip()
         for chunk in statement.chunks:
-            if self._line and len(self._line) + 1 + _length(chunk) > WIDTH:
+            if self._line and self._length + 1 + _length(chunk) > WIDTH:
                 self._end()
             for piece in chunk:
+                if self._length > _LONGEST_TERM and not piece.is_joined:
+                    self._end()
                 self._add_comments(piece.token, indent, is_begun)
                 if self._line:
-                    self._line += piece.text if piece.is_joined else f" {piece.text}"
+                    self._write(piece.text if piece.is_joined else f" {piece.text}")
                 else:
-                    self._line = (_CONTINUED if is_begun else indent) + piece.text
+                    self._write((_CONTINUED if is_begun else indent) + piece.text)
                 is_begun = True
                 if piece.token.trailing:
-                    self._line += f" {piece.token.trailing}"
+                    self._write(f" {piece.token.trailing}")
                     self._end()
         self._end()
+
+    def _write(self, text: str) -> None:
+        self._line.append(text)
+        self._length += len(text)
 
     def _add_comments(self, token: Token, indent: str, is_begun: bool) -> None:
         """Writes the comments before a token; empty lines between them and before it stay only at the beginning of a
@@ -250,8 +261,8 @@ class _Lines:
 
     def _end(self) -> None:
         if self._line:
-            self.all.append(self._line)
-            self._line = ""
+            self.all.append("".join(self._line))
+            self._line, self._length = [], 0
 
     def _skip(self) -> None:
         """Writes an empty line, unless there is one or nothing is written."""
