@@ -492,6 +492,17 @@ class WholeStatements(unittest.TestCase):
         for word in ("st", "inf", "e1", "free", "2x", "x +"):
             self.assertFalse(is_same(good.replace("y", word), before=source.replace("y", word)), word)
 
+    def test_headers(self):
+        def is_same(header, written):
+            texts = (f"{each}\n x\nst\n x + y >= 2\nend\n" for each in (header, written))
+            return _check_lp.says_the_same(*texts, None, {}, [_changes.Reported(1, "keyword", header, written)])
+
+        self.assertTrue(is_same("Minimise", "Minimize"))
+        self.assertTrue(is_same("MAXIMISE", "max"))
+        self.assertFalse(is_same("Minimise", "Maximize"))
+        self.assertFalse(is_same("Minimise", "min z +"))
+        self.assertFalse(is_same("Minimise", "st"))
+
     def test_constants_that_go_to_the_right(self):
         def is_same(row, written):
             texts = (f"min\n x\nst\n {each}\nend\n" for each in (row, written))

@@ -230,6 +230,13 @@ class Lp(unittest.TestCase):
             self.assertGreater(len(f"{line} {term}"), 100)
         self.assertEqual(lp("\n".join(lines)), "\n".join(lines))
 
+    def test_a_coefficient_with_very_many_signs(self):
+        """It has more signs than a line may have letters, and takes a time that grows with them."""
+        signs = "-\n" * 600_000
+        written = lp(f"min\nx\nst\nr:\n{signs} 2 x >= 4\nend\n")
+        self.assertLess(max(map(len, written.split("\n"))), 1000)
+        self.assertEqual(lp(written), written)
+
     def test_a_row_that_just_fits(self):
         name = "n" * 93
         self.formats(f"min x st {name} <= 10 end", f"Min\n x\n\nst\n {name} <= 10\n\nEnd\n")

@@ -1,7 +1,7 @@
-"""A check of LP files line by line, for files in which each change is of a row that is on one line.
+"""A check of LP files line by line, for files in which each change is of a row that is on one line, or of a header.
 
-If the source and the text that was made of it differ only in lines that are whole rows, and these rows say the same,
-then so do the texts. This is so if no line has two readings: each has to be of one of the forms below, which are
+If the source and the text that was made of it differ only in lines that are whole rows or headers, and these say the
+same, then so do the texts. This is so if no line has two readings: each has to be of one of the forms below, which are
 written here a second time, and take nothing from the rules. A text that has another line is left to the check of all
 declarations.
 """
@@ -48,7 +48,6 @@ _BOUND = _line(
 )
 _NAMES = _line(rf"[ \t]*{_WORD}(?:[ \t]+{_WORD})*")
 _SENSE_AND_OBJECTIVE = _line(rf"[ \t]*(?i:min|max)(?i:imi[sz]e|imum)?[ \t]+(?P<objective>(?:{_LABEL})?{_SIGNED})")
-_NO_STATEMENT = _line(r"[ \t\r]*(?:\\.*)?")
 _NAME_OR_AMOUNT = re.compile(rf"{_AMOUNT}|({_WORD})", re.ASCII)
 _TERM = re.compile(rf"([+-]?)[ \t]*(?=[\w.])({_AMOUNT})?(?:[ \t]*\*?[ \t]*({_WORD}))?", re.ASCII)
 
@@ -80,25 +79,40 @@ _EXPONENT = re.compile(r"[eE][0-9]*")
 def says_the_same(
     source: str, written: str, dialect: str | None, names: Mapping[str, str], reported: Sequence[Change | Reported]
 ) -> bool:
-    """Whether two texts differ only in rows that say the same, and that are in the texts of the changes."""
+    """Whether two texts differ only in rows and headers that say the same, and that are in the texts of the changes."""
     before, after = source.split("\n"), written.split("\n")
     if dialect not in _DIALECTS or len(before) != len(after):
         return False
     changed = {change.line: (change.before, change.after) for change in reported}
     reading = _Lines()
     for number, (line, line_written) in enumerate(zip(before, after), 1):
-        if not reading.take(line):
+        if not reading.take(_code(line)):
             return False
         if line != line_written and not (
-            changed.pop(number, None) == (line.strip(_SPACES), line_written.strip(_SPACES))
-            and reading.row is not None
+            changed.pop(number, None) == (_code(line).strip(_SPACES), _code(line_written).strip(_SPACES))
+            and line.partition("\\")[2] == line_written.partition("\\")[2]
             and (
-                _has_last_constant_on_right(reading.row, line_written)
-                or _is_same_row(reading.row, _ROW.fullmatch(line_written))
+                _is_same_header(_code(line), _code(line_written))
+                if reading.row is None
+                else _says_the_same_row(reading.row, _code(line_written))
             )
         ):
             return False
     return not changed and reading.has_only_names(names)
+
+
+def _code(line: str) -> str:
+    """A line without its comment."""
+    return line.partition("\\")[0] if "\\" in line else line
+
+
+def _header(line: str) -> str | None:
+    """The section that a line opens, if it has no other words."""
+    return HEADERS.get(" ".join(line.lower().split()))
+
+
+def _is_same_header(line: str, written: str) -> bool:
+    return _header(line) is not None and _header(line) == _header(written)
 
 
 class _Lines:
@@ -124,10 +138,10 @@ class _Lines:
             self.row = found
             self._keep(line)
             return True
-        word = " ".join(line.lower().split())
-        if word in HEADERS:
-            return self._take_header(HEADERS[word])
-        if _NO_STATEMENT.fullmatch(line) is not None:
+        header = _header(line)
+        if header is not None:
+            return self._take_header(header)
+        if not line.strip(_SPACES):
             return not self._goes_on or self._section == "objective"
         if not self._sections and (objective := _SENSE_AND_OBJECTIVE.fullmatch(line)) is not None:
             return self._take_header("min") and self.take(objective["objective"])
@@ -182,6 +196,10 @@ class _Lines:
         return known.isdisjoint(names) and not any(
             name.lower() in _NO_NAMES or (name[0] in "eE" and _EXPONENT.fullmatch(name)) for name in known
         )
+
+
+def _says_the_same_row(row: re.Match[str], written: str) -> bool:
+    return _has_last_constant_on_right(row, written) or _is_same_row(row, _ROW.fullmatch(written))
 
 
 def _has_last_constant_on_right(row: re.Match[str], written: str) -> bool:

@@ -97,7 +97,7 @@ class Context:
         """Writes a statement that is read as a whole again."""
         for kind in kinds:
             self.log.add(statement.line, kind, statement.text, text)
-        self.script.replace(statement.start, statement.end, (Cell("", text),))
+        self.script.replace(statement.start, statement.end, text)
 
     def insert_after(self, token: Token, kinds: Iterable[str], cells: Sequence[Cell]) -> None:
         """Writes a statement that the source does not have."""

@@ -192,7 +192,7 @@ def _names_of_pulp(context: Context) -> Iterator[AdaptError]:
             rest = found[2]
             is_tail = (
                 not rest[0].isalpha()
-                or rest in ("e", "E")
+                or rest.rstrip("+-") in ("e", "E")
                 or _SUFFIX.fullmatch(rest)
                 or (found[1] == "0" and _OTHER_BASE.fullmatch(rest))
             )

@@ -28,11 +28,11 @@ _RELATION = r"(?:<=?|>=?|=[<>]?)"
 _AT_MOST = r"(?:<=?|=<)"
 _SIDE = rf"(?:{_SIGN})?{_NUMBER}"
 _BOUND_SIDE = rf"(?:{_SIGN})?(?:{_MANTISSA}(?:[eE][+-]?[0-9]{{1,2}})?|[iI][nN][fF](?:[iI][nN][iI][tT][yY])?)"
-_LINE_END = r"[ \t\r]*(?=\n"
+_LINE_END = r"[ \t\r]*(?=[\\\n])(?="
 _COMMENTS = r"(?:[ \t\r\n]|\\[^\n]*\n)*"
 _NEXT_STATEMENT = rf"{_LINE_END}{_COMMENTS}[A-Za-z_0-9])"
 _NEXT_BOUND = rf"{_LINE_END}{_COMMENTS}[A-Za-z_0-9+.-])"
-_NEXT_HEADER = rf"{_LINE_END}{_COMMENTS}(?i:subject[ \t]+to|st|s\.t\.|such[ \t]+that)[ \t\r]*\n)"
+_NEXT_HEADER = rf"{_LINE_END}\n{_COMMENTS}(?i:subject[ \t]+to|st|s\.t\.|such[ \t]+that)[ \t\r]*\n)"
 
 
 def _sum(space: str, first: str = rf"(?:{_SIGN})?(?:{_TERM}|{_NUMBER})") -> str:

@@ -18,6 +18,7 @@ _TOKEN = re.compile(
     r"\\.*|<=|=<|<|>=|=>|>|==|=|::|:|->|(?:[0-9]+(?:\.[0-9]*)?|\.[0-9]+)(?:[eE][+-]?[0-9]+)?|[^\s\\<>=:*^+\-\[\]]+|.",
     re.DOTALL | re.ASCII,
 )
+_COMMENT = re.compile(r"[ \t\r]*\\")
 
 
 class Cell(NamedTuple):
@@ -29,11 +30,11 @@ class Cell(NamedTuple):
 
 
 class Edit(NamedTuple):
-    """The cells that are written in place of the tokens between two places of the source."""
+    """The cells that are written in place of the tokens between two places of the source; or a text, as one cell."""
 
     start: int
     end: int
-    cells: Sequence[Cell]
+    cells: Sequence[Cell] | str
 
 
 class Script:
@@ -47,7 +48,7 @@ class Script:
     def is_changed(self) -> bool:
         return bool(self._edits)
 
-    def replace(self, start: int, end: int, cells: Sequence[Cell]) -> None:
+    def replace(self, start: int, end: int, cells: Sequence[Cell] | str) -> None:
         """Writes cells in place of the tokens from one place to another, after the comments that were between them."""
         self._edits.append(Edit(start, end, cells))
 
@@ -66,16 +67,17 @@ class Script:
                 yield from self._kept(at, first, Cell(pending, "", is_cut), joins_tokens)
                 pending, is_cut = "", False
             at = first
+            cells = (Cell("", edit.cells),) if isinstance(edit.cells, str) else edit.cells
             if edit.start == edit.end:
-                yield from ((edit.start - 1, cell) for cell in edit.cells)
+                yield from ((edit.start - 1, cell) for cell in cells)
                 continue
             space = pending + self._tokens.space_before(first)
             at = first + 1  # most edits are of one token
             if starts[at] < edit.end:
                 at = bisect_left(starts, edit.end, at)
                 space += "".join(f"{comment}\n" for comment in self._tokens.comments_in(edit.start, edit.end))
-            pending, is_cut = ("", False) if edit.cells else (space, True)
-            for number, cell in enumerate(edit.cells):
+            pending, is_cut = ("", False) if cells else (space, True)
+            for number, cell in enumerate(cells):
                 yield edit.start, cell if number else Cell(space + cell.space, cell.text)
         yield from self._kept(at, len(starts), Cell(pending, "", is_cut), joins_tokens)
 
@@ -111,6 +113,7 @@ def printed(cells: Iterable[Cell]) -> str:
             not space
             and (cell.is_new or last.is_new)
             and last.text
+            and _COMMENT.match(cell.text) is None
             and not _are_apart(last.text, cell.text[:_MOST_JOINED])
         ):
             space = " "

@@ -78,8 +78,11 @@ class Tokens:
             statement = plain.take(at, line)
             if statement is not None:
                 self.all.append(statement)
-                line += statement.text.count("\n") + 1
-                at = text.find("\n", statement.end) + 1
+                line += statement.text.count("\n")
+                end = text.find("\n", statement.end) + 1
+                if text.find("\\", statement.end, end) >= 0:
+                    self._read(statement.end, end, line)  # a comment
+                at, line = end, line + 1
                 continue
             end = text.find("\n", at) + 1 or len(text)
             plain.pass_line(at, end)

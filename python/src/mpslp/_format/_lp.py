@@ -14,6 +14,9 @@ WIDTH = 100
 _LONGEST_COMMENT = LONGEST_LINE - 1000
 """A longer comment gets a line of its own: after a token it could make a line that is too long, and is rejected."""
 
+_LONGEST_TERM = 700
+"""A term is broken only if it is longer: it has very many signs, and might be longer than a line may be."""
+
 _CONTINUED = " " * 4
 _IN_LOWER_CASE = frozenset(SPELLINGS[ROWS]) - ROWS_IN_TWO_WORDS.keys()
 
@@ -81,7 +84,9 @@ class _Lines:
 
     def __init__(self) -> None:
         self.all: list[str] = []
-        self._line = ""
+        self._line: list[str] = []
+        """The parts of the line that is being written; a text that each part is added to would be copied each time."""
+        self._length = 0
         self._start = ""
         """What the next line of the statement starts with."""
         self._long_comments: list[Comment] = []
@@ -92,16 +97,22 @@ class _Lines:
             self._skip()
         self._start = "" if statement.keyword else " "
         for chunk in _chunks(statement):
-            if self._line and len(self._line) + sum([len(text) for _, text in chunk]) > WIDTH:
+            if self._line and self._length + sum([len(text) for _, text in chunk]) > WIDTH:
                 self._end()
             for token, text in chunk:
+                if self._length > _LONGEST_TERM and text.startswith(" "):
+                    self._end()
                 if token.around or self._long_comments:
                     self._add_lines_before(token)
-                self._line = self._line + text if self._line else self._start + text.removeprefix(" ")
+                self._write(text if self._line else self._start + text.removeprefix(" "))
                 self._start = _CONTINUED
                 if token.around and token.around.after:
                     self._add_comment_after(token.line, token.around.after)
         self._end()
+
+    def _write(self, text: str) -> None:
+        self._line.append(text)
+        self._length += len(text)
 
     def _add_lines_before(self, token: Token) -> None:
         """Writes the comments before a token; empty lines between them and before it stay only at the beginning of a
@@ -121,13 +132,13 @@ class _Lines:
         if len(comment) > _LONGEST_COMMENT:
             self._long_comments.append(Comment(line, comment, False))
         else:
-            self._line += f" {comment}"
+            self._write(f" {comment}")
             self._end()
 
     def _end(self) -> None:
         if self._line:
-            self.all.append(self._line)
-            self._line = ""
+            self.all.append("".join(self._line))
+            self._line, self._length = [], 0
 
     def _skip(self) -> None:
         """Writes an empty line, unless there is one or nothing is written."""
