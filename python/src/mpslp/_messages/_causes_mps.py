@@ -93,6 +93,9 @@ def missing_field(case: Case) -> Found | None:
             else f"before the row {last} comes its type"
         )
     if section == "COLUMNS" and count in (1, 2, 4):
+        second, third = (case.fields[at].text if count == 4 else "" for at in (1, 2))
+        if is_number(last) and second in case.rows and third in case.rows:
+            return Found(f"after {second} there is no number")
         if count == 4 and (is_number(last) or last not in case.rows):
             return None
         return Found(f"after {last} there is no {'row' if count == 1 else 'number'}")
