@@ -65,7 +65,7 @@ _TYPED = {
 _UNEQUAL = "\u2260"
 _TYPED_TABLE = str.maketrans(_TYPED)
 _MOST_READ_AGAIN = 2**24
-_NAN = re.compile(r"[+-]?(?:nan.*|#n/a|#value!|-?1\.?#(?:qnan|snan|ind|nan)\w*|n/?a|null|none)", re.IGNORECASE)
+_NAN = re.compile(r"[+-]?(?:nan.*|#n/a|#value!|-?1\.?#(?:qnan|snan|ind|nan)\w*|n/?a|null|none|tbd|todo)", re.IGNORECASE)
 
 
 # ---- git

@@ -60,7 +60,16 @@ _OTHER_KEYWORDS = {
     "logical": "binaries",
     "logicals": "binaries",
     "integral": "generals",
+    "ints": "integers",
+    "gens": "generals",
+    "bins": "binaries",
+    "semicont": "semi-continuous",
+    "fin": "end",
+    "eof": "end",
+    "exit": "end",
+    "quit": "end",
 }
+_AFTER_KEYWORD = ("variables", "variable", "columns")
 _FLIPPED = {"<": ">", ">": "<", "<=": ">=", "=<": ">=", ">=": "<=", "=>": "<=", "=": "="}
 _MARK = re.compile(r"[%$#&!?]+")
 _DIVISOR = re.compile(r"/(\d+(?:\.\d*)?)", re.ASCII)
@@ -83,6 +92,8 @@ def colon_after_keyword(case: Case) -> Found | None:
     before, second, token = case.before(), case.before(2), case.token
     if before is None or token is None or token.text != ":":
         return None
+    if second is not None and second.is_section and before.word in _AFTER_KEYWORD:
+        return Found(mend=second.text)
     pair = f"{second.word} {before.word}" if second is not None else ""
     if before.word not in SENSES and not before.is_section and pair not in ("subject to", "such that"):
         return None
@@ -214,7 +225,7 @@ def mark_after_number(case: Case) -> Found | None:
     if found is None:
         return None
     first, rest = found
-    is_mark = len(rest) == 1 and _MARK.fullmatch(rest[0].text) is not None and rest[0].start == first[-1].end
+    is_mark = len(rest) == 1 and _MARK.fullmatch(rest[0].text) is not None and rest[0].start <= first[-1].end + 1
     if not is_mark or _has_more(case, rest[0]):
         return None
     mend = quotient_text(first[-1].text, "100") if rest[0].text == "%" else first[-1].text

@@ -22,23 +22,29 @@ from mpslp._messages._tokens import Token
 from mpslp._text._lp_words import INFINITIES
 
 _FUNCTION = re.compile(r"(?<![\w.])(?:max|min|abs|and|or|norm|exp|log|ln|sqrt|sin|cos|tan|pow)\s*\(", re.IGNORECASE)
-_LOOP = re.compile(r"(?<![\w.])(?:sum|prod|for|forall)\s*(?:\{|\([^()]*(?:\bin\b|\.\.|=))", re.IGNORECASE)
+_LOOP = re.compile(
+    r"(?<![\w.])(?:(?:sum|prod|for|forall)\s*(?:\{|\([^()]*(?:\bin\b|\.\.|=))|for\s+\w+\s*(?:\bin\b|=)|forall\s+\w+)",
+    re.IGNORECASE,
+)
 _NUMBER = r"[-+]?(?:\d+(?:\.\d+)?|\.\d+)"
+_IN_QUOTES = re.compile(rf"(?:\[\s*{_NUMBER}\s*\]|\(\s*{_NUMBER}\s*\)|\"{_NUMBER}\"|'{_NUMBER}')\s*$")
 _BRACKETS = re.compile(
-    rf"(?P<name>[A-Za-z_][\w.]*)\s*(?::?=|:|\bin\b|\bis\b)\s*[\[({{]\s*(?P<lower>{_NUMBER})\s*"
+    rf"(?<![\w.])(?P<name>[A-Za-z_][\w.]*)\s*(?::?=|\bin\b|\bis\b)\s*[\[({{]\s*(?P<lower>{_NUMBER})\s*"
     rf"(?:\.\.|,|;)\s*(?P<upper>{_NUMBER})\s*[\])}}]\s*$",
     re.IGNORECASE,
 )
 _BETWEEN = re.compile(
-    rf"(?P<name>[A-Za-z_][\w.]*)\s+(?:is\s+)?(?:between|from|in)\s+(?P<lower>{_NUMBER})\s+(?:and|to)\s+"
+    rf"(?<![\w.])(?P<name>[A-Za-z_][\w.]*)\s+(?:is\s+)?(?:between|from|in)\s+(?P<lower>{_NUMBER})\s+(?:and|to)\s+"
     rf"(?P<upper>{_NUMBER})\s*$",
     re.IGNORECASE,
 )
 _DOTS = re.compile(
-    rf"(?:(?P<before>[A-Za-z_][\w.]*)\s*:?=\s*|(?<![\w.]))(?P<lower>{_NUMBER})\s*\.\.\s*(?P<upper>{_NUMBER})(?![\w.])"
-    r"(?:\s+(?P<name>[A-Za-z_]\w*))?"
+    rf"(?:(?<![\w.])(?P<before>[A-Za-z_][\w.]*)\s*(?::?=|\bin\b)\s*|(?<![\w.]))(?P<lower>{_NUMBER})\s*\.\.\s*"
+    rf"(?P<upper>{_NUMBER})(?![\w.])(?:\s+(?P<name>[A-Za-z_]\w*))?"
 )
-_FREE = re.compile(r"(\S+) (?:is|=) free|free (\S+)|(\S+) free[;,.]", re.IGNORECASE)
+_FREE = re.compile(
+    r"(\S+) (?:is|=) (?:free|unbounded|unrestricted|unlimited)|free (\S+)|(\S+) free[;,.]", re.IGNORECASE
+)
 _SEMI_INTEGER = "semi-integer columns are not supported: write a binary column for each, as for a semi-continuous one"
 _TYPES = "columns are continuous unless they are listed"
 _OTHER = {
@@ -55,6 +61,15 @@ _OTHER = {
     "sin": _SEMI_INTEGER,
     "semi-integer": _SEMI_INTEGER,
     "semiint": _SEMI_INTEGER,
+    "semiinteger": _SEMI_INTEGER,
+    "special": "special ordered sets are not supported",
+    "lazy": "all rows come under subject to",
+    "start": "values to start from are for a solver, and no part of a model",
+    "hints": "values to start from are for a solver, and no part of a model",
+    "initial": "values to start from are for a solver, and no part of a model",
+    "solution": "values to start from are for a solver, and no part of a model",
+    "branch": "priorities are for a solver, and no part of a model",
+    "print": "LP has no statements",
     "sets": "special ordered sets are not supported",
     "partial": "partial integers are not supported",
     "pin": "partial integers are not supported",
@@ -65,12 +80,11 @@ _OTHER = {
     "solve": "LP has no statements",
     "optimize": "LP has no statements",
     "display": "LP has no statements",
-    "quit": "LP has no statements",
     "stop": "LP has no statements",
     "constraints": "the rows come under subject to",
 }
 """Sections and statements of other readers by their words, with what LP has instead."""
-_SECOND_WORDS = ("integers", "integer", "variables", ":")
+_SECOND_WORDS = ("integers", "integer", "variables", "priorities", "values", ":")
 _SIGN_WORDS = {"plus": "+", "minus": "-", "times": ""}
 _NUMBER_WORDS = {
     word: number
@@ -119,8 +133,10 @@ def other_section(case: Case, line: Sequence[Token]) -> Found | None:
     first, rest = line[0], line[1:]
     if first.word == "semi" and len(rest) > 1 and rest[0].text == "-" and rest[1].word.startswith("int"):
         return shown(case, line[:3], _SEMI_INTEGER)
+    if first.word == "semi" and len(rest) > 1 and rest[0].text == "-" and rest[1].word in ("cont", "cont."):
+        return shown(case, line[:3], _OTHER["sec"])
     is_heading = not rest or (len(rest) == 1 and rest[0].word in _SECOND_WORDS)
-    is_list = first.word in ("sec", "sin", "pin") and all(each.is_name for each in rest)
+    is_list = first.word in ("sec", "sin", "pin", "print") and all(each.is_name for each in rest)
     if first.word not in _OTHER or not (is_heading or is_list) or not lp_section(case):
         return None
     if first.word == "constraints" and section_of(case, line) == "rows":
@@ -164,6 +180,28 @@ def infinity_without_relation(case: Case, line: Sequence[Token]) -> Found | None
 
 
 @on_lines
+def number_in_quotes(case: Case, line: Sequence[Token]) -> Found | None:
+    """A number in quotes, brackets or parentheses at the end of a line."""
+    text = text_of(case, line)
+    match = _IN_QUOTES.search(text)
+    if match is None or not re.search(r"[<>=]\s*[-+]?\s*$", text[: match.start()]):
+        return None
+    return Found(
+        mend=match[0].strip(" \t[]()\"'"),
+        marks=(mark_of_text(case, line, *match.span()),),
+        moves=True,
+        means_other=True,
+    )
+
+
+@on_lines
+def relation_first(case: Case, line: Sequence[Token]) -> Found | None:
+    """A relation at the start of a line under Bounds."""
+    is_first = line[0].is_relation and not (len(line) > 1 and line[1].is_relation)
+    return shown(case, line[:1]) if is_first and section_of(case, line) == "bounds" else None
+
+
+@on_lines
 def quoted_label(case: Case, line: Sequence[Token]) -> Found | None:
     """A quotation mark before the first word, and one before the colon, with a space between them."""
     at = next((at for at, each in enumerate(line) if each.text == ":"), 0)
@@ -193,6 +231,8 @@ RULES: tuple[Rule, ...] = (
     number_in_words,
     free_in_words,
     infinity_without_relation,
+    number_in_quotes,
+    relation_first,
     quoted_label,
     sign_in_label,
 )

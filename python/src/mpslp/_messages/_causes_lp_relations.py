@@ -89,10 +89,10 @@ _OF_LATEX = {
 }
 _IMPLICATION = re.compile(
     r"[A-Za-z_][\w.]*\s*=\s*[01]\s*(?P<arrow>==?>|implies\b)\s*[-+A-Za-z\d]"
-    r"|\bif\b.*\b(?P<then>then)\b"
+    r"|\bif\b.*\b(?P<then>then)\b|\b(?P<word>implies)\b"
     r"|[\d.]\s*(?P<other><==?|<-)\s*[A-Za-z_][\w.]*\s*=\s*[01]\s*$"
 )
-_CONJUNCTIONS = ("and", "or", "for", "forall", "where", "if", "when", "&", "&&", ",")
+_CONJUNCTIONS = ("and", "or", "for", "forall", "where", "if", "when", "&", "&&", ",", ";")
 _KEYWORDS_OF_LABELS = (FREE, *(word for word, section in SECTIONS.items() if section != ROWS))
 _LETTERS = re.compile(r"[A-Za-z']+[,.;!?]?|\d+")
 

@@ -27,6 +27,8 @@ _TYPES_OF_MPS = {
     "ub": "<=",
 }
 _MOST_LOOKED_AT = 2**20
+_MOST_WRITTEN = 30
+"""A row of more tokens is not written again."""
 
 
 def _is_used(case: Case, name: str, line: int) -> bool:
@@ -61,13 +63,16 @@ def label_without_colon(case: Case, line: Sequence[Token]) -> Found | None:
         return None
     if not _is_used(case, rest[0].text, rest[0].line) or rest[-1].text == ":":
         return None
-    return shown(case, line[:1], mend=f"{name}: {joined(rest)}")._replace(means_other=True)
+    mend = f"{name}: {joined(rest)}" if len(rest) <= _MOST_WRITTEN else f"{name}:"
+    return shown(case, line[:1], mend=mend)._replace(means_other=True)
 
 
 def colon_without_label(case: Case) -> Found | None:
-    """A colon after a number."""
+    """A colon after a number, or after another one."""
     before, token = case.before(), case.token
-    if before is None or token is None or token.text != ":" or not before.is_number or before.line != token.line:
+    if before is None or token is None or token.text != ":" or before.line != token.line:
+        return None
+    if not before.is_number and before.text != ":":
         return None
     return FOUND if lp_section(case) in ("", "rows") else None
 
@@ -90,6 +95,21 @@ def lone_mark(case: Case) -> Found | None:
             is_name = each.text == "." and each is token and after is not None and after.line == each.line
             detail = f".{after.text} is no name, since it starts with a period" if is_name and after is not None else ""
             return shown(case, (each,), detail)
+    return None
+
+
+def word_between_terms(case: Case) -> Found | None:
+    """A word that is on no other line, between two columns that are: the token with the error, or the one before."""
+    near = [
+        each for each in case.tokens[max(0, case.token_at - 2) : case.token_at + 2] if each.line == case.line.number
+    ]
+    if lp_section(case) not in ("", "rows"):
+        return None
+    for first, word, second in zip(near, near[1:], near[2:]):
+        if not (is_word(first) and is_word(word) and (is_word(second) or second.is_number)) or not word.text.isalpha():
+            continue
+        if _is_used(case, first.text, first.line) and not _is_used(case, word.text, word.line):
+            return shown(case, (word,))._replace(means_other=True)
     return None
 
 
@@ -116,15 +136,14 @@ def bound_of_mps(case: Case, line: Sequence[Token]) -> Found | None:
 def word_for_infinity(case: Case, line: Sequence[Token]) -> Found | None:
     for before, each in zip((None, *line), line):
         is_beside = before is not None and (before.is_relation or before.is_sign)
-        if each.word in _INFINITY and (is_beside or each is line[0]) and any(other.is_relation for other in line):
+        is_none = each.word in ("none", "no") and section_of(case, line) == "bounds"
+        if (
+            (each.word in _INFINITY or is_none)
+            and (is_beside or each is line[0])
+            and any(other.is_relation for other in line)
+        ):
             return shown(case, (each,), mend="inf")._replace(means_other=True)
     return None
-
-
-@on_lines
-def relation_first(case: Case, line: Sequence[Token]) -> Found | None:
-    """A relation at the start of a line under Bounds."""
-    return shown(case, line[:1]) if section_of(case, line) == "bounds" and line[0].is_relation else None
 
 
 @on_lines
@@ -153,9 +172,9 @@ RULES: tuple[Rule, ...] = (
     colon_without_label,
     label_without_colon,
     comma_between_terms,
+    word_between_terms,
     bound_of_mps,
     word_for_infinity,
-    relation_first,
     text_after_bound,
     signs_of_number,
 )
