@@ -48,8 +48,9 @@ _TYPED = {
     "\u3000": " ",
     "\u201c": "",
     "\u201d": "",
-    "\u2018": "",
-    "\u2019": "",
+    "\u2018": "'",
+    "\u2019": "'",
+    "\u00b2": "^2",
     "\u00bd": "0.5",
     "\u00bc": "0.25",
     "\u00be": "0.75",
@@ -64,7 +65,7 @@ _TYPED = {
 _UNEQUAL = "\u2260"
 _TYPED_TABLE = str.maketrans(_TYPED)
 _MOST_READ_AGAIN = 2**24
-_NAN = re.compile(r"[+-]?(?:nan.*|#n/a|#value!|-?1\.?#(?:qnan|snan|ind|nan)\w*|n/?a|null|none)", re.IGNORECASE)
+_NAN = re.compile(r"[+-]?(?:nan.*|#n/a|#value!|-?1\.?#(?:qnan|snan|ind|nan)\w*|n/?a|null|none|tbd|todo)", re.IGNORECASE)
 
 
 # ---- git

@@ -13,9 +13,10 @@ from fractions import Fraction
 from mpslp._messages._case import FOUND, Case, Found
 from mpslp._messages._causes_both import Rule, comma_in, conflict_marker, is_nan
 from mpslp._messages._causes_lp_relations import line_of_text
+from mpslp._messages._causes_lp_words import lone_mark
 from mpslp._messages._lp_rows import first_duplicate
 from mpslp._messages._lp_sums import decimal_text, quotient_text, solved_row, sum_text, value_of
-from mpslp._messages._lp_suspects import lp_section
+from mpslp._messages._lp_suspects import is_word, lp_section, on_lines, section_of, shown
 from mpslp._messages._nearest import nearest
 from mpslp._messages._tokens import Token, tokens_of
 from mpslp._text._lines import line_at
@@ -49,6 +50,9 @@ _OTHER_KEYWORDS = {
     "finish": "end",
     "subj.": "subject to",
     "where": "subject to",
+    "with": "subject to",
+    "under": "subject to",
+    "restrictions": "subject to",
     "boolean": "binaries",
     "booleans": "binaries",
     "bool": "binaries",
@@ -56,7 +60,16 @@ _OTHER_KEYWORDS = {
     "logical": "binaries",
     "logicals": "binaries",
     "integral": "generals",
+    "ints": "integers",
+    "gens": "generals",
+    "bins": "binaries",
+    "semicont": "semi-continuous",
+    "fin": "end",
+    "eof": "end",
+    "exit": "end",
+    "quit": "end",
 }
+_AFTER_KEYWORD = ("variables", "variable", "columns")
 _FLIPPED = {"<": ">", ">": "<", "<=": ">=", "=<": ">=", ">=": "<=", "=>": "<=", "=": "="}
 _MARK = re.compile(r"[%$#&!?]+")
 _DIVISOR = re.compile(r"/(\d+(?:\.\d*)?)", re.ASCII)
@@ -79,6 +92,8 @@ def colon_after_keyword(case: Case) -> Found | None:
     before, second, token = case.before(), case.before(2), case.token
     if before is None or token is None or token.text != ":":
         return None
+    if second is not None and second.is_section and before.word in _AFTER_KEYWORD:
+        return Found(mend=second.text)
     pair = f"{second.word} {before.word}" if second is not None else ""
     if before.word not in SENSES and not before.is_section and pair not in ("subject to", "such that"):
         return None
@@ -103,7 +118,9 @@ def other_keyword(case: Case) -> Found | None:
         if not 0 <= at < len(case.tokens) or not _is_like_keyword(case, at):
             continue
         token = case.tokens[at]
-        meant = _OTHER_KEYWORDS.get(token.word) or nearest(token.word, _KEYWORDS)
+        words = [each.word for each in case.tokens[at : at + 2]]
+        pair = " ".join(words) if words[1:] in (["to"], ["that"]) else token.word
+        meant = _OTHER_KEYWORDS.get(token.word) or nearest(token.word, _KEYWORDS) or nearest(pair, _KEYWORDS)
         if meant is not None:
             return Found(mend=meant, marks=(case.mark_of_tokens([token]),), moves=True)
     return None
@@ -208,7 +225,7 @@ def mark_after_number(case: Case) -> Found | None:
     if found is None:
         return None
     first, rest = found
-    is_mark = len(rest) == 1 and _MARK.fullmatch(rest[0].text) is not None and rest[0].start == first[-1].end
+    is_mark = len(rest) == 1 and _MARK.fullmatch(rest[0].text) is not None and rest[0].start <= first[-1].end + 1
     if not is_mark or _has_more(case, rest[0]):
         return None
     mend = quotient_text(first[-1].text, "100") if rest[0].text == "%" else first[-1].text
@@ -290,7 +307,9 @@ def _starts_row(case: Case) -> bool:
 def second_relation(case: Case) -> Found | None:
     """A relation after a relation and a number."""
     before, token = case.before(), case.token
-    if before is None or token is None or not token.is_relation or not before.is_number:
+    if before is None or token is None or not token.is_relation:
+        return None
+    if not before.is_number and before.word not in INFINITIES:
         return None
     first = next((each for each in reversed(case.tokens[: case.token_at - 1]) if not each.is_sign), None)
     return FOUND if first is not None and first.is_relation else None
@@ -463,6 +482,16 @@ def row_in_bounds(case: Case) -> Found | None:
     return FOUND if token.is_sign and before.is_name and not before.is_section else None
 
 
+@on_lines
+def bound_without_relation(case: Case, line: Sequence[Token]) -> Found | None:
+    """A column or a number that is all of a line."""
+    if section_of(case, line) != "bounds" or any(each.is_section for each in line):
+        return None
+    is_name = len(line) == 1 and is_word(line[0])
+    is_number = all(each.is_number or each.is_sign for each in line)
+    return shown(case, line) if is_name or is_number else None
+
+
 def coefficient_in_bounds(case: Case) -> Found | None:
     before, token = case.before(), case.token
     if (
@@ -582,6 +611,7 @@ RULES: tuple[Rule, ...] = (
     decimal_comma,
     fraction,
     punctuation_after_row,
+    lone_mark,
     other_keyword,
     line_of_text,
     no_sense,
@@ -599,6 +629,7 @@ RULES: tuple[Rule, ...] = (
     number_on_the_left,
     free_among_rows,
     row_without_relation,
+    bound_without_relation,
     coefficient_in_bounds,
     no_sign,
     brackets_in_name,

@@ -29,7 +29,7 @@ _TYPES = {
 _SEVERAL = re.compile(r"multi-?objectives?")
 _NEXT_SECTION = re.compile(rb"(?im)^[ \t]*(?:subject[ \t]+to|such[ \t]+that|st|s\.t\.)[ \t\r:]*$")
 _OTHER_SECTION = re.compile(
-    rb"(?im)^[ \t]*(?:(?P<general>general[ \t]+constraints?|gencons|genconstrs?)|"
+    rb"(?im)^[ \t]*(?:(?P<general>gen(?:eral)?[ \t]+constraints?|gencons|genconstrs?)|"
     rb"(?P<pwl>pwl|pwlobj|piecewise[ \t]*linear)|(?P<scenario>scenarios?)|"
     rb"(?P<known>subject[ \t]+to|st|s\.t\.|bounds?|generals?|gen|integers?|int|"
     rb"binar(?:y|ies)|bin|semis?|semi-continuous|sos[12]?|end))(?=[ \t\r\n:]|$)"
@@ -49,6 +49,8 @@ def other_comment(case: Case, line: Sequence[Token]) -> Found | None:
     if match is None or not _is_text(line):
         match = _TRAILING.search(text)
     if match is None or not re.search(r"[A-Za-z]", match[2]) or _is_statement(match[1], case):
+        return None
+    if match[1][0] == ";" and re.search(r"[<>=]", match[2]):  # another row comes after it
         return None
     return Found(
         mend=f"\\ {match[2]}",
@@ -186,6 +188,8 @@ def type_in_bounds(case: Case, line: Sequence[Token]) -> Found | None:
 @on_lines
 def bound_in_list(case: Case, line: Sequence[Token]) -> Found | None:
     """A relation, a number, a colon or a sign in a list of names."""
+    if line[0].is_section and len(line) > 1 and is_word(line[1]):
+        line = line[1:]
     if section_of(case, line) != "list" or any(each.is_section for each in line):
         return None
     if not any(each.is_relation or each.is_number or each.is_sign or each.text == ":" for each in line):

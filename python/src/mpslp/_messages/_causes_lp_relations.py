@@ -89,9 +89,10 @@ _OF_LATEX = {
 }
 _IMPLICATION = re.compile(
     r"[A-Za-z_][\w.]*\s*=\s*[01]\s*(?P<arrow>==?>|implies\b)\s*[-+A-Za-z\d]"
+    r"|\bif\b.*\b(?P<then>then)\b|\b(?P<word>implies)\b"
     r"|[\d.]\s*(?P<other><==?|<-)\s*[A-Za-z_][\w.]*\s*=\s*[01]\s*$"
 )
-_CONJUNCTIONS = ("and", "or", "for", "forall", "where", "if", "when", "&", "&&", ",")
+_CONJUNCTIONS = ("and", "or", "for", "forall", "where", "if", "when", "&", "&&", ",", ";")
 _KEYWORDS_OF_LABELS = (FREE, *(word for word, section in SECTIONS.items() if section != ROWS))
 _LETTERS = re.compile(r"[A-Za-z']+[,.;!?]?|\d+")
 
@@ -318,7 +319,8 @@ def _is_keyword_as_name(case: Case, at: int) -> bool:
     if not token.is_section and token.word not in SENSES and token.word != "free":
         return False
     if after is not None and after.text == ":":
-        return before is None and token.word in _KEYWORDS_OF_LABELS and after is not of_line[-1]
+        is_row = any(each.is_relation for each in of_line)
+        return before is None and token.word in _KEYWORDS_OF_LABELS and after is not of_line[-1] and is_row
     is_after_term = before is not None and (before.is_sign or before.is_number or before.text == ":")
     is_before_relation = after is not None and after.is_relation and token.word not in INFINITIES
     return (

@@ -12,6 +12,18 @@ from mpslp._text._lines import Line, line_at
 from mpslp._text._mps_words import BOUND_TYPES, HEADERS, MARKER, MARKERS, ROW_TYPES, SENSES, UNVALUED
 
 
+_OTHER_HEADERS = {
+    **dict.fromkeys(("END", "EOF", "FIN", "STOP"), "ENDATA"),
+    **dict.fromkeys(("SENSE", "MAXMIN", "DIRECTION"), "OBJSENSE"),
+    **dict.fromkeys(("CONSTRAINTS", "RESTRICTIONS"), "ROWS"),
+    **dict.fromkeys(("COLS", "VARIABLES", "VARS"), "COLUMNS"),
+    **dict.fromkeys(("RIGHT", "R.H.S.", "RIGHTHAND"), "RHS"),
+    **dict.fromkeys(("LIMITS",), "BOUNDS"),
+    **dict.fromkeys(("TITLE", "PROBLEM", "MODEL"), "NAME"),
+}
+"""What is written for sections in other languages."""
+
+
 def is_number(text: str) -> bool:
     return NUMBER.fullmatch(text) is not None
 
@@ -93,6 +105,9 @@ def missing_field(case: Case) -> Found | None:
             else f"before the row {last} comes its type"
         )
     if section == "COLUMNS" and count in (1, 2, 4):
+        second, third = (case.fields[at].text if count == 4 else "" for at in (1, 2))
+        if is_number(last) and second in case.rows and third in case.rows:
+            return Found(f"after {second} there is no number")
         if count == 4 and (is_number(last) or last not in case.rows):
             return None
         return Found(f"after {last} there is no {'row' if count == 1 else 'number'}")
@@ -232,7 +247,7 @@ def lower_case_keyword(case: Case) -> Found | None:
 def misspelt_keyword(case: Case) -> Found | None:
     if len(case.fields) > 2:
         return None
-    found = "ENDATA" if case.field.upper() in ("END", "EOF") else nearest(case.field.upper(), HEADERS)
+    found = _OTHER_HEADERS.get(case.field.upper()) or nearest(case.field.upper(), HEADERS)
     return None if found is None else Found(mend=found)
 
 

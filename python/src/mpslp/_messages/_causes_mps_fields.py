@@ -9,7 +9,9 @@ import re
 from mpslp._messages._case import FOUND, Case, Found
 from mpslp._messages._causes_both import Rule, hexadecimal_value, is_nan, letters_as_digits
 from mpslp._messages._lp_sums import product_text, quotient_text, value_of
+from mpslp._messages._nearest import nearest
 from mpslp._messages._place import NUMBER
+from mpslp._text._mps_words import BOUND_TYPES, HEADERS, MARKER, MARKERS, ROW_TYPES
 
 _COMMENT = re.compile(rb"\s*(#+|//+|!+|%+|--+|;+|\\+|/\*|'|\")[ \t]*([^\n]*?)[ \t]*(?:\*/)?$")
 _INDENTED = re.compile(rb"[ \t]+(\*+)[ \t]*([^\n]*?)$")
@@ -24,6 +26,10 @@ _POINTS = re.compile(r"[+-]?\d*(?:\.\d*){2,}", re.ASCII)
 _EXPONENT = re.compile(r"[+-]?\d+(?:\.\d*)?[eE][+-]?(?:\d+\.\d*)?", re.ASCII)
 _SIGNS = re.compile(r"([+-]+)(\d+(?:\.\d*)?(?:[eE][+-]?\d+)?)", re.ASCII)
 _SIGN_AFTER = re.compile(r"(\d+(?:\.\d*)?)-", re.ASCII)
+_SET = re.compile(r"(?:RHS|RNG|RANGES?|B|R)\d*", re.IGNORECASE)
+_FIRST_SECTION = re.compile(rb"\s*\n(?:ROWS|OBJSENSE|OBJNAME)\b")
+_RELATIONS = ("<", ">", "=", "<=", "=<", ">=", "=>", "==")
+_MARKER_ENDS = [[each] for each in MARKERS]
 _OTHER = {
     "general_constraints": ("GENCONS",),
     "piecewise_linear": ("PWLOBJ", "PWL", "PWLNAM", "PWLCON"),
@@ -57,6 +63,60 @@ def other_comment(case: Case) -> Found | None:
         return None
     note = " ".join(field.text for field in case.fields[at:]).strip("#/!%-;\\* ")
     return Found(mend=f"* {note}", marks=(case.mark_of(case.fields[at]),), moves=True)
+
+
+# ---- fields
+
+
+def separators(case: Case) -> Found | None:
+    """A comma or a semicolon between the parts of a field that would be several, or that is a header."""
+    for field in case.fields:
+        parts = [part for part in re.split("[,;|:]", field.text) if part]
+        is_data = len(parts) > 1 and (parts[0] in (*ROW_TYPES, *BOUND_TYPES, *HEADERS) or NUMBER.fullmatch(parts[-1]))
+        if is_data and NUMBER.fullmatch(parts[0]) is None:
+            return Found(mend="  ".join(parts), marks=(case.mark_of(field),), moves=True)
+    return None
+
+
+def marker_without_name(case: Case) -> Found | None:
+    """The two words of a marker, which are the second and the third field."""
+    words = [field.text for field in case.fields]
+    return Found(mend=f"M  {words[0]}  {words[1]}") if words[:1] == [MARKER] and words[1:] in _MARKER_ENDS else None
+
+
+def relation_in_fields(case: Case) -> Found | None:
+    """A relation of LP among the fields."""
+    at = next((at for at, field in enumerate(case.fields) if at and field.text in _RELATIONS), None)
+    if at is None:
+        return None
+    mend = "  ".join(field.text for field in case.fields if field.text not in _RELATIONS)
+    return Found(mend=mend, marks=(case.mark_of(case.fields[at]),), moves=True)
+
+
+def text_after_header(case: Case) -> Found | None:
+    """A header, and after it what is no field of it."""
+    words = [field.text for field in case.fields]
+    is_header = case.is_header and len(words) > 1 and words[0] in HEADERS
+    return Found(mend=words[0], marks=(case.mark_of(case.fields[1]),), moves=True) if is_header else None
+
+
+def header_left_out(case: Case) -> Found | None:
+    """A line of COLUMNS in ROWS, or one of BOUNDS before it."""
+    words = [field.text for field in case.fields]
+    if case.section == "ROWS" and len(words) in (3, 5) and words[1] in case.rows and NUMBER.fullmatch(words[2]):
+        return Found("it is a line of COLUMNS", "COLUMNS")
+    is_bound = len(words) > 2 and words[0] in BOUND_TYPES and words[0] not in case.rows
+    if case.section in ("RHS", "RANGES") and is_bound:
+        return Found("it is a line of BOUNDS", "BOUNDS")
+    return None
+
+
+def row_left_out(case: Case) -> Found | None:
+    """The name of a set of RHS or RANGES, and a number."""
+    is_pair = len(case.fields) == 2 and NUMBER.fullmatch(case.fields[1].text) is not None
+    if not is_pair or case.section not in ("RHS", "RANGES") or not _SET.fullmatch(case.fields[0].text):
+        return None
+    return Found(f"after {case.fields[0].text} comes a row", marks=(case.mark_of(case.fields[1]),))
 
 
 # ---- numbers
@@ -136,6 +196,15 @@ def signs_of_number(case: Case) -> Found | None:
 # ---- sections
 
 
+def title_without_name(case: Case) -> Found | None:
+    """The first line, and after it a section that comes after NAME."""
+    if case.line.number > 1 or _FIRST_SECTION.match(case.content, case.line.start + len(case.line.content)) is None:
+        return None
+    words = [each.text for each in case.fields]
+    is_header = nearest(words[0].upper().strip(":"), HEADERS) is not None
+    return None if is_header or not words[0][0].isalpha() else Found(mend=f"NAME {words[-1]}")
+
+
 def general_constraints(case: Case) -> Found | None:
     return _section(case, "general_constraints")
 
@@ -153,6 +222,13 @@ def _section(case: Case, name: str) -> Found | None:
 
 
 RULES: tuple[Rule, ...] = (
+    separators,
+    marker_without_name,
+    relation_in_fields,
+    text_after_header,
+    header_left_out,
+    row_left_out,
+    title_without_name,
     other_comment,
     space_in_number,
     fraction,

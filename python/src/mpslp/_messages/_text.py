@@ -13,9 +13,11 @@ from mpslp._messages import (
     _causes_both,
     _causes_files,
     _causes_lp,
+    _causes_lp_languages,
     _causes_lp_numbers,
     _causes_lp_parts,
     _causes_lp_relations,
+    _causes_lp_words,
     _causes_mps,
     _causes_mps_fields,
     _expected,
@@ -57,7 +59,14 @@ class Message(NamedTuple):
 
 
 _OF_MPS = (_causes_mps_fields, _causes_mps)
-_OF_LP = (_causes_lp_parts, _causes_lp_numbers, _causes_lp_relations, _causes_lp)
+_OF_LP = (
+    _causes_lp_languages,
+    _causes_lp_parts,
+    _causes_lp_numbers,
+    _causes_lp_relations,
+    _causes_lp_words,
+    _causes_lp,
+)
 MODULES = (_causes_files, *_OF_MPS, *_OF_LP, _causes_both, _expected)
 """The modules that have rules."""
 
