@@ -251,11 +251,11 @@ def division(case: Case, line: Sequence[Token]) -> Found | None:
 @on_lines
 def coefficient_after(case: Case, line: Sequence[Token]) -> Found | None:
     """A column, and after it a number, and then a sign, a relation or the end of the objective."""
+    has_relation = any(each.is_relation for each in line)
     for at, (name, number) in enumerate(zip(line, line[1:])):
         if not is_word(name) or not number.is_number or is_glued(name, number) or (at > 0 and line[at - 1].is_number):
             continue
         after = line[at + 2] if at + 2 < len(line) else None
-        has_relation = any(each.is_relation for each in line)
         if (after is None and not has_relation and section_of(case, line)) or (
             after is not None and not after.is_sign and not after.is_relation
         ):
