@@ -6,7 +6,7 @@ use Rattle.std.specs.{Ordering.{nat_cmp, eq_by_cmp}, Prelude.{reverse, slice_ran
 use Rattle.std.proofs.lemmas.List.{take_all, length-drop, length-take-le, get_or-take, get_or-drop, append-nil}
 use Rattle.std.proofs.lemmas.Bool.{cases_order}
 use Rattle.std.proofs.{Math.Seq.take-suc, lemmas.Bool.cases_lt, lemmas.List.{reverse-append, take-append-le}}
-use Rattle.std.proofs.lemmas.Option.slice_get-get_or
+use Rattle.std.proofs.lemmas.Option.{slice_get-get_or}
 use Rattle.mpslp_decimal.specs.Decimal.{Number, zero_number}
 use Rattle.mpslp_model_core.proofs.CellLemmas.{number_tied}
 use Rattle.mpslp_builder_parts.specs.CoefficientLog.{LogEntries, chain, IsLog}

@@ -10,7 +10,7 @@ use Rattle.std.specs.{Prelude.{slice_index, ◌≢◌}, declared.cmp.Ordering.Th
 use Rattle.mpslp_model_core.proofs.{CellLemmas.{bytes_total, tied_names}, RenumberLemmas.all-from_each}
 use Rattle.mpslp_types.{proofs.EachLemmas.Each, specs.Name.bytes_cmp}
 use Rattle.mpslp_builder_parts.specs.Ordered.{BeginAlike, entries_at, front_at, front_cmp, front_value, name_at}
-use Rattle.mpslp_builder_parts.specs.declared.order.Front.Front
+use Rattle.mpslp_builder_parts.specs.declared.order.Front.{Front}
 
 -- the weight of a byte that is followed by so many others
 abbrev pub worth : ℕ → ℕ

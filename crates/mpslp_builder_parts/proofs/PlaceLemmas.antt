@@ -8,7 +8,7 @@ use Rattle.mpslp_builder_parts.specs.Grouping.{last_place, times, times_below, g
 use Rattle.mpslp_builder_parts.specs.StoredColumns.{last_of}
 use Rattle.mpslp_builder_parts.specs.declared.known_pairs.StoredColumn.{StoredColumn}
 use Rattle.mpslp_model_core.proofs.CellLemmas.{number_tied}
-use Rattle.mpslp_builder_parts.proofs.RunLemmas.take-short
+use Rattle.mpslp_builder_parts.proofs.RunLemmas.{take-short}
 use Rattle.mpslp_builder_parts.proofs.GroupLemmas.{tie_same, last_le, last_here, last_none, times_none, times_last, times_more, times_take}
 use Rattle.mpslp_builder_parts.proofs.GroupLemmas.{below_all, below_le}
 

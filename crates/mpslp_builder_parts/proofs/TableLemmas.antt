@@ -17,7 +17,7 @@ use Rattle.mpslp_model_core.proofs.CellLemmas.{find-sorted_of}
 use Rattle.mpslp_builder_parts.specs.{ColumnTable.{cells_in_column, IsChanged}, Parts.{parts_with, with_cell}, StoredColumns.entries_of}
 use Rattle.mpslp_builder_parts.proofs.LogLemmas.{logged, kept, one_more}
 use Rattle.mpslp_builder_parts.proofs.{ColumnLemmas.each_part-set, KnownLemmas.{alike, known_more, pair_late}}
-use Rattle.mpslp_builder_parts.proofs.TakenLemmas.part_at as slice_get-part
+use Rattle.mpslp_builder_parts.proofs.TakenLemmas.{part_at as slice_get-part}
 
 -- ---- a write by number
 

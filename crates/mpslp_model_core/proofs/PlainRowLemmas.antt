@@ -4,9 +4,9 @@ use Rattle.std.proofs.Common.{◌≡◌, Bool, true, false, ap, arith, refl, sym
 use Rattle.std.specs.{Prelude.{None, Option, Some, is_none, not, unwrap_or, ◌&&◌, ◌||◌}, Cmp.int_cmp_total}
 use Rattle.mpslp_decimal.specs.Decimal.{Number, zero_number, difference_of}
 use Rattle.mpslp_types.specs.{Limit.limit_of, declared.kinds.Limit.{Limit, TheVariants.{Finite, MinusInf, PlusInf}}}
-use Rattle.mpslp_model_core.specs.Model.Row
+use Rattle.mpslp_model_core.specs.Model.{Row}
 use Rattle.mpslp_model_core.specs.Limits.{RowDefinition, by_limits, has_infinite_rhs, is_declared_integer, no_side_declared}
-use Rattle.mpslp_model_core.specs.RowForms.is_plain
+use Rattle.mpslp_model_core.specs.RowForms.{is_plain}
 use Rattle.mpslp_model_core.specs.declared.bounds.DeclaredColumn.{DeclaredColumn}
 use Rattle.mpslp_model_core.specs.Views.{letter_E, row_range, row_sense}
 use Rattle.mpslp_model_core.specs.WrongParts.{are_faulty_bounds, is_inexact, is_too_large, is_crossed, is_large_limit, is_faulty_row}

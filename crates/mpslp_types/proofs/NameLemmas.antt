@@ -4,7 +4,7 @@ use Rattle.std.specs.{List.list_any, Prelude.{codes, ◌&&◌, ◌==◌, ◌||�
 use Rattle.mpslp_decimal.specs.Literal.{is_digit}
 use Rattle.mpslp_types.{proofs.{BoolLemmas.both_so, EachLemmas.imp_all}, specs.Name.{begins_a_number, has_name_length, is_letter}}
 use Rattle.mpslp_types.specs.Name.{is_like_exponent, is_lp_byte, is_lp_name, is_mps_name, is_reserved, is_upper, is_visible, marker}
-use Rattle.mpslp_types.specs.Name.same_bytes
+use Rattle.mpslp_types.specs.Name.{same_bytes}
 
 visible_among : (symbols : List ℕ) (byte : ℕ) → list_all is_visible symbols ≡ true →
     list_any (λ symbol. symbol == byte) symbols ≡ true → is_visible byte ≡ true

@@ -4,7 +4,7 @@ use Rattle.mpslp_decimal.specs.Decimal.{Number}
 use Rattle.mpslp_builder_parts.specs.Swapped.{AreSwapped}
 use Rattle.mpslp_builder_parts.proofs.SwapLemmas.{first_held, fewer_away, all_home, next_home, to_within, was_away}
 use Rattle.mpslp_builder_parts.proofs.SwapLemmas.{to_left, held_in, held_places_in, held_place, held_moved}
-use Rattle.mpslp_builder_parts.proofs.SwapLemmas.places_mirrored
+use Rattle.mpslp_builder_parts.proofs.SwapLemmas.{places_mirrored}
 use Rattle.mpslp_builder_parts.proofs.moving.at_places.Goals.{then-place-at+else-loop-place-test, else-place-at}
 use Rattle.mpslp_builder_parts.proofs.moving.at_places.Goals as goal
 

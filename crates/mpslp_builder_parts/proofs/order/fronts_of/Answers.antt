@@ -1,5 +1,5 @@
 use Rattle.std.proofs.Common.{List, [], ap, arith, drop, subst, sym, ℕ, ◌++◌, ◌<◌, ◌∙◌, ◌∷◌, ◌≡◌}
-use Rattle.std.proofs.lemmas.List.FromFn.map-range_with_len_more
+use Rattle.std.proofs.lemmas.List.FromFn.{map-range_with_len_more}
 use Rattle.std.specs.Prelude.{slice_index}
 use Rattle.mpslp_builder_parts.{proofs.OrderLemmas.{at_next}, specs.Ordered.{front_at, front_value, name_at}}
 use Rattle.mpslp_builder_parts.proofs.order.fronts_of.Goals as goal

@@ -6,7 +6,7 @@ use Rattle.mpslp_model_core.specs.Numbered.{each_part}
 use Rattle.mpslp_builder_parts.specs.{ColumnTable.{ColumnEntries, name_in}, Parts.{new_column, parts_with}}
 use Rattle.mpslp_builder_parts.specs.{StoredColumns.{parts_of, IsKnown}, declared.known_pairs.StoredColumn.StoredColumn}
 use Rattle.mpslp_builder_parts.proofs.ColumnLemmas.{added, found_part, none_there, name_of_part, name_back, value_back}
-use Rattle.mpslp_builder_parts.proofs.TableLemmas.known_added
+use Rattle.mpslp_builder_parts.proofs.TableLemmas.{known_added}
 use Rattle.mpslp_builder_parts.proofs.column_table.ColumnTable.insert.Goals as goal
 
 pub returns-in_default : goal.returns-in_default
