@@ -24,7 +24,7 @@ _mpslp_tools() {
             return
             ;;
         --ignore)
-            mapfile -t COMPREPLY < <(compgen -W 'sense-in-comment objsense no-name no-rhs-section further-n-row empty-markers short-fields marked-without-bound marked-with-lower-bound objective-rhs range-on-equation upper-zero large-limit text-after-end name-like-arithmetic number-not-held constant-in-comment objective-constant ranged-row row-after-side joined-tokens spaced-side integer-section short-keyword several-signs' -- "$word")
+            mapfile -t COMPREPLY < <(compgen -W 'sense-in-comment objsense no-name no-rhs-section further-n-row empty-markers short-fields marked-without-bound marked-with-lower-bound objective-rhs range-on-equation upper-zero large-limit text-after-end name-like-arithmetic number-not-held coefficient-size semi-continuous-bound near-whole-bound constant-in-comment objective-constant ranged-row row-after-side joined-tokens spaced-side integer-section short-keyword several-signs fixed-bound name-in-dialects' -- "$word")
             return
             ;;
         --from)

@@ -60,18 +60,18 @@ unpack_wheel() {
 install_tools() {
     install -D -m 755 release/mpslp-tools "$1/bin/mpslp-tools"
     mkdir -p "$1/lib/mpslp/python"
-    cp -R "$work/wheel/mpslp" "$1/lib/mpslp/python/"
-    (cd "$1/lib/mpslp/python" && "${PYTHON:-/usr/bin/python3}" -m compileall -q --invalidation-mode unchecked-hash mpslp)
+    cp -R "$work/wheel/mpslp" "$work/wheel/mpslp_tools.py" "$1/lib/mpslp/python/"
+    (cd "$1/lib/mpslp/python" && "${PYTHON:-/usr/bin/python3}" -m compileall -q --invalidation-mode unchecked-hash mpslp mpslp_tools.py)
 }
 
 # The package for Debian's Python, whose bytecode py3compile makes when it is installed.
 install_python() {
     mkdir -p "$1/lib/python3/dist-packages"
-    cp -R "$work/wheel/mpslp" "$work/wheel/mpslp-$version.dist-info" "$1/lib/python3/dist-packages/"
+    cp -R "$work/wheel/mpslp" "$work/wheel/mpslp_tools.py" "$work/wheel/mpslp-$version.dist-info" "$1/lib/python3/dist-packages/"
     rm "$1/lib/python3/dist-packages/mpslp-$version.dist-info/RECORD"
     install -D -m 755 release/mpslp-tools "$1/bin/mpslp-tools"
     sed -i -e '1s|.*|#!/usr/bin/python3|' -e 's|, by the Python package in lib/mpslp/python of the same prefix||' \
-        -e '/^from pathlib/d' -e '/^sys\.dont_write/d' -e '/^sys\.path/d' "$1/bin/mpslp-tools"
+        -e '/^from os/d' -e '/^sys\.dont_write/d' -e '/^sys\.path/d' "$1/bin/mpslp-tools"
 }
 
 # Removes the symbols of debugging and of the linker. The section .comment stays: it has the logic of the kit.

@@ -492,6 +492,33 @@ class WholeStatements(unittest.TestCase):
         for word in ("st", "inf", "e1", "free", "2x", "x +"):
             self.assertFalse(is_same(good.replace("y", word), before=source.replace("y", word)), word)
 
+    def test_constants_that_go_to_the_right(self):
+        def is_same(row, written):
+            texts = (f"min\n x\nst\n {each}\nend\n" for each in (row, written))
+            return _check_lp.says_the_same(*texts, None, {}, [_changes.Reported(4, "constant-in-row", row, written)])
+
+        for row, written in (
+            ("c: x + 3 >= 5", "c: x >= 2"),
+            ("c: x + 3 => 5", "c: x >= 2"),
+            ("c: - 2 x + y - 1.5 < - 2", "c: - 2 x + y <= -0.5"),
+            ("c: 4 + price + 2e+3 = 5", "c: price = -1999"),
+            ("c: price + 7 + 3 >= 5", "c: price + 7 >= 2"),
+        ):
+            self.assertTrue(is_same(row, written), row)
+        for row, written in (
+            ("c: x + 3 => 5", "c: x = 2"),
+            ("c: x + 3 =< 5", "c: x = 2"),
+            ("c: x + y + 3 >= 5", "c: x >= 2"),
+            ("c: x + 3 + y >= 5", "c: x + y >= 5"),
+            ("c: 3 + 4 >= 5", "c: 3 >= 1"),
+            ("c: x + 2e+3 >= 5", "c: x + 2e >= 2"),
+            ("c: 1e+20 x + 3 >= 5", "c: 1e+20 x >= 2"),
+            ("c: x + 3 >= 1e+20", "c: x >= 99999999999999999997"),
+            ("c: x + 1e+20 >= 5", "c: x >= -99999999999999999995"),
+            ("c: x12 + 3 >= 5", "c: x1 >= 3"),
+        ):
+            self.assertFalse(is_same(row, written), row)
+
 
 class Words(unittest.TestCase):
     """The second reading of the words of a text, without the rules that it checks."""

@@ -296,20 +296,20 @@ class Call(unittest.TestCase):
         self.assertGreater(len(texts), 40)
 
     def test_a_result_that_is_another_model_is_not_returned(self):
-        for wrong in ("min 2 x\nend\n", "min x y\nend\n", ""):
+        for wrong in (b"min 2 x\nend\n", b"min x y\nend\n", b""):
             with mock.patch.object(_call, "formatted_lp", return_value=wrong), self.assertRaisesRegex(
                 RuntimeError, "internal error"
             ):
                 lp("min x end")
 
     def test_a_result_with_other_comments_is_not_returned(self):
-        for wrong in ("min x\nend\n", "\\ two\nmin x\nend\n", "\\ one\n\\ one\nmin x\nend\n"):
+        for wrong in (b"min x\nend\n", b"\\ two\nmin x\nend\n", b"\\ one\n\\ one\nmin x\nend\n"):
             with mock.patch.object(_call, "formatted_lp", return_value=wrong), self.assertRaisesRegex(
                 RuntimeError, "the same comments"
             ):
                 lp("\\ one\nmin x end")
         content = b"* one\nROWS\n N  c\nCOLUMNS\n    x  c  1\nENDATA\n"
-        with mock.patch.object(_call, "formatted_mps", return_value=content[6:].decode()), self.assertRaisesRegex(
+        with mock.patch.object(_call, "formatted_mps", return_value=content[6:]), self.assertRaisesRegex(
             RuntimeError, "the same comments"
         ):
             mpslp.formatted(content, "mps")
@@ -360,7 +360,7 @@ class Command(Directory):
 
     def test_another_model_is_not_written(self):
         self.file("a.lp", LP)
-        with mock.patch.object(_call, "formatted_lp", return_value="min 2 x\nend\n"):
+        with mock.patch.object(_call, "formatted_lp", return_value=b"min 2 x\nend\n"):
             for words in ([], ["-i"], ["--check"], ["--diff"]):
                 self.prints(
                     ["fmt", *words, "a.lp"], 2, error="a.lp: internal error: the result is not the same model\n"

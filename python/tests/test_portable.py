@@ -5,6 +5,7 @@ import gzip
 import io
 import pickle
 import random
+import re
 import unittest
 from dataclasses import FrozenInstanceError
 
@@ -169,6 +170,29 @@ class Calls(unittest.TestCase):
 
 
 class Command(Directory):
+    def test_what_is_published(self):
+        """Each row of the table of SOLVERS that is about HiGHS or SCIP has a remark; check has them with --target."""
+        mps = (
+            b"NAME\nROWS\n N  cost\n N  next\n L  cap\nCOLUMNS\n M  'MARKER'  'INTORG'\n    i  cost  1  cap  1e-9\n"
+            b"    j  cap  1e15\n M  'MARKER'  'INTEND'\n    s  cap  1234567890.123456789012\nRHS\nBOUNDS\n"
+            b" UP  BND  j  2.99999\n SC  BND  s  200000\nENDATA\n"
+        )
+        lp = (
+            b"min x + y + s\nst\nc: 1 <= x + 1e15 y <= 4\nd: 1e-9 x + y#1 >= 0.1234567890123456789\nbounds\nx = 3\n"
+            b"y <= 0.99999\ns <= 200000\ngeneral\ny\nsemi\ns\nend\n"
+        )
+        of_both = {"near-whole-bound", "number-not-held", "coefficient-size"}
+        in_mps = of_both | {"further-n-row", "marked-without-bound"}
+        in_lp = of_both | {"ranged-row", "fixed-bound", "name-in-dialects"}
+        self.file("a.mps", mps)
+        self.file("a.lp", lp)
+        for text, form, wanted in ((mps, "mps", in_mps), (lp, "lp", in_lp)):
+            for program, kinds in (("highs", wanted | {"semi-continuous-bound"}), ("scip", wanted)):
+                found = mpslp.portability(text, form, target=program)
+                self.assertEqual({each.kind for each in found}, kinds)
+                done = self.run_tools("check", "--portable", "--target", program, f"a.{form}")
+                self.assertEqual(set(re.findall(r"^a\.\w+: ([a-z-]+): ", done.stdout.decode(), re.M)), kinds)
+
     def test_statuses(self):
         self.file("a.lp", CANONICAL_LP)
         self.prints(["check", "--portable", "a.lp"], 0)

@@ -15,6 +15,7 @@ import warning_rules
 from mpslp import _mpslp
 from mpslp._portable._mps import MpsFile
 from mpslp._warnings import KINDS, _lp, warnings_in
+from mpslp._warnings._canonical import columns_without_terms
 from mpslp._warnings._lp import LpText
 from repository import EXAMPLES, VECTORS, form_of, model_files
 from test_tools import CANONICAL, Directory
@@ -147,12 +148,35 @@ class Properties(unittest.TestCase):
                 model = mpslp.load(text.encode(), "lp")
             except mpslp.ModelFileError:
                 continue
-            for most in (_lp._MOST_READ_IN_FULL, 0):  # as in a large file, too
-                with mock.patch.object(_lp, "_MOST_READ_IN_FULL", most):
-                    found = {name.name.decode() for name in LpText(text.encode()).late_names}
-                self.assertEqual(found, set(model.columns) - columns_in_rows(model), text)
+            names = [LpText(text.encode()).late_names, *self.in_other_ways(text.encode())]
+            self.assertEqual(names, names[:1] * len(names), text)
+            found = {name.name.decode() for name in names[0]}
+            self.assertEqual(found, set(model.columns) - columns_in_rows(model), text)
             count += bool(found)
         self.assertGreater(count, 100)
+
+    def in_other_ways(self, text):
+        """The late names of a text, found as in a large file, with many of them, and by a canonical text."""
+        unused = [
+            None,
+            *(columns_without_terms(_mpslp.canonical(text, _mpslp.LP, to)) for to in (_mpslp.LP, _mpslp.MPS)),
+        ]
+        for most_read, most_sought in ((_lp._MOST_READ_IN_FULL, 0), (0, _lp._MOST_SEARCHED_FOR), (0, 0)):
+            with mock.patch.multiple(_lp, _MOST_READ_IN_FULL=most_read, _MOST_SEARCHED_FOR=most_sought):
+                yield from (LpText(text, columns).late_names for columns in unused)
+
+    def test_sections_in_large_files(self):
+        """A section may start within a line, and a comment or the end of a name may look like one."""
+        text = (
+            b"min 0 zero\nst\nc: 2 x + 0none + 0 glued>= 1\ngeneral zero\nBound_ none semi - \\ int\ncontinuous last "
+            b"lend bounds\nglued<=2 \\ binary\nsend <= 4 last <= 1 lend<=2 end\nbinary\nafter\n"
+        )
+        wanted = [("Bound_", "general"), ("last", "semi"), ("lend", "semi"), ("send", "bounds")]
+        for found in (LpText(text).late_names, *self.in_other_ways(text)):
+            self.assertEqual(
+                [(each.name, each.place, each.section) for each in found],
+                [(name.encode(), text.index(name.encode()), _lp._TITLES[_lp.SECTIONS[word]]) for name, word in wanted],
+            )
 
     def test_random_models(self):
         """However a model is spelled, both readers of the package find the same: this one and that of check
@@ -203,7 +227,9 @@ class Properties(unittest.TestCase):
         head = text[: file.rows_end] + (b"\nend\n" if file.rows_end < len(text) else b"")
         before = set(mpslp.load(head, "lp").columns) if mpslp_accepts(head, "lp") else set()
         self.assertEqual({name.decode() for name in late}, set(mpslp.load(text, "lp").columns) - before)
-        places = [place for place, _ in file._sections()]
+        for names in self.in_other_ways(text):
+            self.assertLessEqual({each.name for each in names}, late)
+        places = [place for place, _ in file._sections]
         with mock.patch.object(_lp, "_MOST_READ_IN_FULL", 0):  # a section of a large file is found if it starts a line
             self.assertLessEqual({each.name for each in LpText(text).late_names}, late)
             lines = text

@@ -6,7 +6,7 @@ a part that has none, what mpslp reads, and what to do. The part is put into the
 warnings about it have to be of the kind, and on lines of the part. About the other part there must be none. Every kind
 has an example.
 
-With the program, both have to be accepted. Each row of the table has to be in docs/ERRORS.md.
+With the program, both have to be accepted. Each row of the table has to be in docs/ERRORS-ROWS.md.
 
 With --wrong the rules are made wrong one by one, as warnings_wrong.tsv says: the examples have to find each.
 """
@@ -17,7 +17,7 @@ from adapt_package import WARNING_KINDS, warnings_in
 from adapt_rules import ROOT, check_of_kinds, conclude, framed, is_read, parser_of, rows, shown, unescaped, wrong_rules
 
 TABLE = ROOT / "docs" / "warnings.tsv"
-PAGE = ROOT / "docs" / "ERRORS.md"
+PAGE = ROOT / "docs" / "ERRORS-ROWS.md"
 WRONG = ROOT / "python" / "tests" / "warnings_wrong.tsv"
 FORMATS = {"mps": 0, "lp": 1}  # the numbers of the library
 
@@ -54,7 +54,7 @@ def table_line(row):
 
 def main():
     parser = parser_of(__doc__)
-    parser.add_argument("--table", action="store_true", help="print the table of docs/ERRORS.md")
+    parser.add_argument("--table", action="store_true", help="print the table of docs/ERRORS-ROWS.md")
     options = parser.parse_args()
     if options.table:
         print(*map(table_line, rows(TABLE)), sep="\n")

@@ -414,7 +414,7 @@ class Errors(Form):
     def __init__(self, scratch):
         super().__init__(scratch)
         self.kinds = []
-        self.ranked = self.RANK.findall(scratch.page)
+        self.ranked = self.RANK.findall(errors.ORDER.read_text())
         self.causes = list(causes())
         self.rows = errors.table().splitlines()
 

@@ -1,7 +1,8 @@
 #!/usr/bin/env python3
 """Write what is made of docs/errors.tsv: `python3 tests/documents/errors.py --write`
 
-That is the table in docs/ERRORS.md and the section DIAGNOSTICS of docs/mpslp.1; docs_check.py compares them.
+That is the table of errors in docs/ERRORS-ROWS.md, and the section DIAGNOSTICS of docs/mpslp.1; docs_check.py compares
+them.
 """
 
 import re
@@ -13,7 +14,9 @@ sys.path.insert(0, str(Path(__file__).resolve().parents[1]))
 from shared.error_causes import causes, plain
 
 ROOT = Path(__file__).resolve().parents[2]
-PAGE = ROOT / "docs" / "ERRORS.md"
+PAGE = ROOT / "docs" / "ERRORS-ROWS.md"
+ORDER = ROOT / "docs" / "ERRORS.md"
+"""The page with the order of the kinds."""
 MANUAL = ROOT / "docs" / "mpslp.1"
 TABLE_HEAD = "| kind | cause | fix | example |\n|---|---|---|---|\n"
 MANUAL_INTRODUCTION = (
@@ -24,7 +27,7 @@ MANUAL_INTRODUCTION = (
 
 
 def table():
-    """The rows of the table in ERRORS.md."""
+    """The rows of the table of errors."""
     rows, last = [], None
     for cause in causes():
         name = f"`{cause.kind}`" if cause.kind != last else ""

@@ -17,7 +17,7 @@ Some tables of the documents for contributors are read further:
     | function | file | ..       the file has the function
     | crate | ..                 the crates are those of crates.txt, in any order
 
-In WRONG-BODIES each mutant of a table is one of the crate of the heading, of the crate in
+In WRONG-BODIES each mutant of a list or a table is one of the crate of the heading, of the crate in
 parentheses after it, or, where the heading is no crate, of those that are named before it;
 and each mutant is there.
 
@@ -43,6 +43,7 @@ FOR_CONTRIBUTORS = ("CONTRIBUTING.md", "docs/ARCHITECTURE.md", "docs/DECISIONS.m
 MOST_WORDS = 15_000
 # The page that lists the mutants, and where they are.
 OF_MUTANTS = "docs/WRONG-BODIES.md"
+COUNTED = (*FOR_CONTRIBUTORS, OF_MUTANTS)
 EDIT = re.compile(r"(?:crates/(\w+)/must-fail|tests/wrong-bodies/(\w+))/(\w+)\.edit")
 
 # Files whose names count, outside their comments.
@@ -380,13 +381,13 @@ def crates_of_mutants(names: Iterable[str]) -> dict[str, set[str]]:
 
 
 def cited_mutants(text: str, known: Iterable[str]) -> Iterator[tuple[int, str, str]]:
-    """Each mutant that a table of the page cites, with its line and its crate."""
+    """Each mutant that a list or a table of the page cites, with its line and its crate."""
     of_heading, names = None, set(known)
     for number, line in enumerate(text.split("\n"), 1):
         if line.startswith("## "):
             of_heading = line[3:] if re.fullmatch(r"## \w+", line) else None
-        elif line.startswith("|"):
-            cell = re.split(r"(?<!\\)\|", line)[-2]
+        elif line.startswith(("|", "- ")):
+            cell = re.split(r"(?<!\\)\|", line)[-2] if line.startswith("|") else line.partition(": ")[2]
             yield from ((number, name, crate) for name, crate in cited_in_cell(cell, of_heading) if name in names)
 
 
@@ -411,7 +412,7 @@ def missing_mutants(text: str, known: dict[str, set[str]]) -> Iterator[Missing]:
             yield Missing(OF_MUTANTS, number, f"{name} of {crate}", "no such mutant")
     left = {(name, crate) for name, crates in known.items() for crate in crates} - cited
     for name, crate in sorted(left):
-        yield Missing(OF_MUTANTS, 1, f"{name} of {crate}", "mutant that no table has")
+        yield Missing(OF_MUTANTS, 1, f"{name} of {crate}", "mutant that the page does not have")
 
 
 def pages() -> list[str]:
@@ -442,9 +443,9 @@ def check() -> list[str]:
         if not covering:
             lines.append(str(missing))
     lines += [f"names_allowed.tsv: nothing needs {it.name} in {it.files}" for it in allowed if it not in used]
-    words = sum(len(text_of(page).split()) for page in FOR_CONTRIBUTORS)
+    words = sum(len(text_of(page).split()) for page in COUNTED)
     if words > MOST_WORDS:
-        lines.append(f"{', '.join(FOR_CONTRIBUTORS)}: {words} words, at most {MOST_WORDS} are wanted")
+        lines.append(f"{', '.join(COUNTED)}: {words} words, at most {MOST_WORDS} are wanted")
     return lines
 
 

@@ -39,6 +39,7 @@ LEFT_OUT = (
     "docs/DECISIONS.md",
     "docs/PROOF-NOTES.md",
     "docs/TRUST.md",
+    "docs/TRUST-DEFINITIONS.md",
     "tests/documents/places.py",
     "tests/documents/names_*",
     "scripts/*.tsv",

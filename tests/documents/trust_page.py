@@ -1,18 +1,18 @@
 #!/usr/bin/env python3
-"""What the headline theorem says, file by file, for docs/TRUST.md.
+"""What the headline theorem says, file by file, for docs/TRUST.md and docs/TRUST-DEFINITIONS.md.
 
 It begins at the definition of the theorem and at the definitions that the formats give to
 it, and follows the imports of `specs/`. A line of a file counts if it is neither a comment
 nor empty; it is used if it belongs to a definition that the theorem reaches by name. Where
 a name has two meanings, as a variable and as a definition, it counts as the definition.
 
-    trust_page.py            prints the tables of the page
-    trust_page.py --check    compares them with the page
-    trust_page.py --write    writes them into the page; the last cells of its rows are kept
+    trust_page.py            prints the tables of the pages
+    trust_page.py --check    compares them with the pages
+    trust_page.py --write    writes them into the pages; the last cells of the rows are kept
     trust_page.py --unused   lists what these files have that the theorem does not reach
     trust_page.py --shared   lists what acceptance and the first error of a format share
 
-A table of the page follows the comment <!-- trust: PART -->, a sentence with numbers the
+A table of a page follows the comment <!-- trust: PART -->, a sentence with numbers the
 comment <!-- trust: total -->.
 """
 
@@ -26,7 +26,7 @@ from pathlib import Path
 from typing import NamedTuple
 
 ROOT = Path(__file__).resolve().parents[2]
-PAGE = ROOT / "docs" / "TRUST.md"
+PAGES = (ROOT / "docs" / "TRUST.md", ROOT / "docs" / "TRUST-DEFINITIONS.md")
 CRATES = ROOT / "crates"
 FORMATS = CRATES / "mpslp_write" / "src" / "formats.rt"
 THEOREM = "Headline"
@@ -377,24 +377,28 @@ def blocks(sections: dict[str, str]) -> dict[str, str]:
 
 
 def sections_of(text: str) -> dict[str, str]:
-    """The last cell of each row of the page, by the path of its file."""
+    """The last cell of each row of the pages, by the path of its file."""
     return dict(re.findall(r"^\| \[[^\]]*\]\(\.\./([^)]*\.antt)\) .*\| ([^|]*) \|$", text, flags=re.M))
 
 
+def text_of_pages() -> str:
+    return "".join(page.read_text() for page in PAGES if page.exists())
+
+
 def check() -> list[str]:
-    """What differs between the page and the definitions."""
-    text = PAGE.read_text()
+    """What differs between the pages and the definitions."""
+    text = text_of_pages()
     wanted, found, reported = blocks(sections_of(text)), dict(BLOCK.findall(text)), []
-    reported += [f"docs/TRUST.md has no comment <!-- trust: {title} -->" for title in wanted.keys() - found.keys()]
-    reported += [f"docs/TRUST.md: no part is called {title}" for title in found.keys() - wanted.keys()]
+    reported += [f"docs/TRUST*.md have no comment <!-- trust: {title} -->" for title in wanted.keys() - found.keys()]
+    reported += [f"docs/TRUST*.md: no part is called {title}" for title in found.keys() - wanted.keys()]
     for title in wanted.keys() & found.keys():
         have, want = found[title].splitlines(), wanted[title].splitlines()
-        reported += [f"docs/TRUST.md, {title}: not so: {line}" for line in have if line not in want]
-        reported += [f"docs/TRUST.md, {title}: wanted: {line}" for line in want if line not in have]
+        reported += [f"docs/TRUST*.md, {title}: not so: {line}" for line in have if line not in want]
+        reported += [f"docs/TRUST*.md, {title}: wanted: {line}" for line in want if line not in have]
         if sorted(have) == sorted(want) and have != want:
-            reported.append(f"docs/TRUST.md, {title}: the order is that of the imports")
+            reported.append(f"docs/TRUST*.md, {title}: the order is that of the imports")
         reported += [
-            f"docs/TRUST.md, {title}: which section of FORMATS is this? {line}"
+            f"docs/TRUST*.md, {title}: which section of FORMATS is this? {line}"
             for line in have
             if line.endswith(f"| {MISSING} |")
         ]
@@ -402,9 +406,10 @@ def check() -> list[str]:
 
 
 def write() -> None:
-    text = PAGE.read_text()
-    wanted = blocks(sections_of(text))
-    PAGE.write_text(BLOCK.sub(lambda found: f"<!-- trust: {found[1]} -->\n{wanted.get(found[1], '')}", text))
+    wanted = blocks(sections_of(text_of_pages()))
+    for page in PAGES:
+        made = BLOCK.sub(lambda found: f"<!-- trust: {found[1]} -->\n{wanted.get(found[1], '')}", page.read_text())
+        page.write_text(made)
 
 
 def unused() -> Iterator[str]:
@@ -455,7 +460,7 @@ def main() -> int:
     if options.unused or options.shared:
         print("\n".join(unused() if options.unused else listed_shared()))
         return 0
-    for title, text in blocks(sections_of(PAGE.read_text()) if PAGE.exists() else {}).items():
+    for title, text in blocks(sections_of(text_of_pages())).items():
         print(f"<!-- trust: {title} -->\n{text}")
     return 0
 

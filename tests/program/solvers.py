@@ -7,7 +7,7 @@ directly, and then by the recipe of docs/SOLVERS.md: the shell block after the
 comment <!-- solver: NAME FORMAT -->, which reads model.mps. It uses mpslp-tools,
 in whose place canon_for.py runs. A recipe that ends with status 2 rejects the model.
 
-The tables of that page, each after a comment <!-- optima: FORMAT -->, state the
+The tables of that page and of docs/SOLVERS-RESULTS.md, each after a comment <!-- optima: FORMAT -->, state the
 results, and the table after <!-- exports --> what became of the models that a
 command reads and writes again, to the file out. Cells that differ are reported.
 --tables prints the tables as measured, for the solvers that are installed.
@@ -38,7 +38,7 @@ from shared.solver_models import FEATURES
 from shared.solver_programs import CLOSE, PROGRAM, REJECTED, SECONDS, SOLVERS, answer, canonical
 
 ROOT = Path(__file__).resolve().parents[2]
-PAGE = ROOT / "docs" / "SOLVERS.md"
+PAGES = [ROOT / "docs" / name for name in ("SOLVERS.md", "SOLVERS-RESULTS.md")]
 EXAMPLES = ROOT / "examples"
 # Does what `mpslp-tools canon --for` does, without the library.
 CANON_FOR = ROOT / "python" / "tests" / "canon_for.py"
@@ -57,10 +57,10 @@ class Model:
 
 
 class Page:
-    """The recipes of the page, and its tables."""
+    """The recipes of the pages, and their tables."""
 
-    def __init__(self, path):
-        text = path.read_text()
+    def __init__(self, paths):
+        text = "".join(path.read_text() for path in paths)
         self.recipes = {(name, form): recipe for name, form, recipe in RECIPE.findall(text)}
         self.tables = {form: cells_of(rows) for form, rows in TABLE.findall(text)}
         self.exports = [[cell.strip() for cell in row.split("|")[1:-1]] for row in EXPORTS.search(text)[1].splitlines()]
@@ -288,7 +288,7 @@ def main():
     if not program.exists():
         print(f"{program} is not there: make run builds it", file=sys.stderr)
         return 1
-    page = Page(PAGE)
+    page = Page(PAGES)
     there = [name for name in SOLVERS if shutil.which(name)]
     for name in SOLVERS.keys() - set(there):
         print(f"skipped: {name} is missing: apt-get install {SOLVERS[name].package}")

@@ -2,7 +2,7 @@
 
 import sys
 
-from mpslp._main import run
+from mpslp_tools import run
 
 if __name__ == "__main__":
     sys.exit(run("python3 -m mpslp"))

@@ -41,15 +41,12 @@ def _without_help(words: Sequence[str]) -> list[str]:
 
 
 def run(prog: str | None = None) -> int:
-    """The whole of a process: main, with the streams and the signals of a command."""
+    """Main, with the streams and the signals of a command. mpslp_tools handles interrupts."""
     if sys.stderr is None:  # it is closed: nobody wants the messages
         sys.stderr = open(os.devnull, "w")
     signal.signal(signal.SIGTERM, _terminate)
     try:
         return main(prog=prog)
-    except KeyboardInterrupt:
-        _write_last_line("mpslp-tools: interrupted")
-        return 128 + signal.SIGINT
     except MemoryError:
         _write_last_line("out of memory")
         return Status.NO_MEMORY

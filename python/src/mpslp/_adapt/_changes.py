@@ -187,10 +187,9 @@ def _printable(text: str) -> str:
 
 def shown(text: str) -> str:
     """Text in latin-1, as people read it: on one line, and short."""
-    words = " ".join(_decoded(text).split())
-    if words == text and len(text) <= _MOST_SHOWN and text.isprintable():
+    if len(text) <= _MOST_SHOWN and text.isascii() and text.isprintable() and "  " not in text and text.strip() == text:
         return text  # not a copy of it: a file may have many
-    text = _printable(words)
+    text = _printable(" ".join(_decoded(text).split()))
     return text if len(text) <= _MOST_SHOWN else f"{text[:_MOST_SHOWN]}.."
 
 

@@ -11,7 +11,7 @@ from __future__ import annotations
 import re
 from collections.abc import Mapping, Sequence
 from decimal import Context, Decimal, Inexact
-from functools import lru_cache
+from functools import lru_cache, reduce
 from typing import NamedTuple
 
 from mpslp._adapt._changes import Change, Reported
@@ -54,6 +54,15 @@ _TERM = re.compile(rf"([+-]?)[ \t]*(?=[\w.])({_AMOUNT})?(?:[ \t]*\*?[ \t]*({_WOR
 
 _EXACT = Context(prec=2000, Emin=-(10**6), Emax=10**6, traps=[Inexact])
 _LARGE = Decimal(10**20, _EXACT)
+_CONSTANT = re.compile(rf"[ \t]+([+-])[ \t]*({_AMOUNT})", re.ASCII)
+"""With a space before its sign, which is then not that of an exponent."""
+
+_RELATION, _RIGHT = re.compile(_END), re.compile(_SIDE, re.ASCII)
+_MAY_BE_LARGE = re.compile(r"[0-9]{16}|[eE][+-]")
+_NO_LETTERS = "0123456789.+-* \t"
+_SHORT_AMOUNT = 4
+"""The letters of amounts that are below this, whatever they are: 9e+9 has four."""
+
 _DIALECTS = (None, "lp_solve")
 """Others have a constant of the objective that is not where it is read."""
 
@@ -82,7 +91,11 @@ def says_the_same(
             return False
         if line != line_written and not (
             changed.pop(number, None) == (line.strip(_SPACES), line_written.strip(_SPACES))
-            and _is_same_row(reading.row, _ROW.fullmatch(line_written))
+            and reading.row is not None
+            and (
+                _has_last_constant_on_right(reading.row, line_written)
+                or _is_same_row(reading.row, _ROW.fullmatch(line_written))
+            )
         ):
             return False
     return not changed and reading.has_only_names(names)
@@ -171,36 +184,89 @@ class _Lines:
         )
 
 
-def _is_same_row(before: re.Match[str] | None, after: re.Match[str] | None) -> bool:
-    if before is None or after is None or before["label"] != after["label"]:
+def _has_last_constant_on_right(row: re.Match[str], written: str) -> bool:
+    """Whether a line is a row up to a constant that is the last number on its left, then its relation, and its number
+    less this constant: most changed rows are so, and what stays need not be read again. If not, the row may still say
+    the same.
+    """
+    relation = _RELATION.search(written)
+    if relation is None or _sense(relation[0]) != _sense(row["relation"]):
         return False
-    first = _reading(before["left"], before["relation"].strip(_SPACES)[0], before["right"])
-    return first is not None and first == _reading(after["left"], after["relation"].strip(_SPACES)[0], after["right"])
+    front, right = written[: relation.start()], written[relation.end() :].rstrip(_SPACES)
+    left = front[row.start("left") :]
+    if not row.string.startswith(front) or not left.lstrip(_NO_LETTERS) or _MAY_BE_LARGE.search(left) is not None:
+        return False
+    constant = _CONSTANT.fullmatch(row.string, len(front), row.start("relation"))
+    if constant is None or _RIGHT.fullmatch(right) is None:
+        return False
+    limit = _limit(row["right"], ("".join(constant.groups()),))
+    return limit is not None and limit == _limit(right, ())
 
 
-class _Reading(NamedTuple):
-    """What a row says: its terms, with those of one column added, its relation, and the number on its right."""
+def _is_same_row(before: re.Match[str], after: re.Match[str] | None) -> bool:
+    if after is None:
+        return False
+    label, left, relation, right = before.groups()
+    label_written, left_written, relation_written, right_written = after.groups()
+    if label != label_written or _sense(relation) != _sense(relation_written):
+        return False
+    terms, constants = _parted(left)
+    terms_written, constants_written = _parted(left_written)
+    if not terms or not all(map(_is_finite, terms)):
+        return False
+    if terms != terms_written and not (all(map(_is_finite, terms_written)) and _added(terms) == _added(terms_written)):
+        return False
+    limit = _limit(right, constants)
+    return limit is not None and limit == _limit(right_written, constants_written)
 
-    terms: dict[str, Decimal]
-    sense: str
-    limit: Decimal
+
+def _sense(relation: str) -> str:
+    return "<" if "<" in relation else ">" if ">" in relation else "="
+
+
+_Term = tuple[str, str, str]
+"""A term of a row: its sign, its number, which may be empty, and its column."""
+
+
+class _Parts(NamedTuple):
+    """What is on the left of a row: its terms and its constants."""
+
+    terms: list[_Term]
+    constants: tuple[str, ...]
+
+
+def _parted(left: str) -> _Parts:
+    items = _TERM.findall(left)
+    if not items[0][0]:
+        items[0] = ("+", *items[0][1:])
+    return _Parts(
+        [item for item in items if item[2]], tuple([sign + amount for sign, amount, name in items if not name])
+    )
+
+
+def _added(terms: Sequence[_Term]) -> dict[str, Decimal]:
+    """The terms with those of one column added."""
+    added: dict[str, Decimal] = {}
+    for sign, amount, name in terms:
+        value = _value(sign + (amount or "1"))
+        added[name] = _EXACT.add(added[name], value) if name in added else value
+    return added
 
 
 @lru_cache(maxsize=4096)
-def _reading(left: str, sense: str, right: str) -> _Reading | None:
-    """What a row says; None if a number of it may be infinite, or if it has no terms."""
-    terms: dict[str, Decimal] = {}
-    limit = _value("", right.replace(" ", "").replace("\t", ""))
-    for sign, amount, name in _TERM.findall(left):
-        value = _value(sign, amount or "1")
-        if not -_LARGE < value < _LARGE:
-            return None
-        if name:
-            terms[name] = _EXACT.add(terms[name], value) if name in terms else value
-        else:
-            limit = _EXACT.subtract(limit, value)
-    return _Reading(terms, sense, limit) if terms and -_LARGE < limit < _LARGE else None
+def _limit(right: str, constants: tuple[str, ...]) -> Decimal | None:
+    """The number on the right of a row, less the constants on its left; None if one of them may be infinite."""
+    numbers = [_value(right.replace(" ", "").replace("\t", "")), *map(_value, constants)]
+    if not all(-_LARGE < number < _LARGE for number in numbers):
+        return None
+    limit = reduce(_EXACT.subtract, numbers)
+    return limit if -_LARGE < limit < _LARGE else None
 
 
-def _value(sign: str, amount: str) -> Decimal:
-    return _EXACT.create_decimal(sign + amount)
+def _is_finite(term: _Term) -> bool:
+    amount = term[1]
+    return len(amount) <= _SHORT_AMOUNT or _value(amount) < _LARGE
+
+
+def _value(number: str) -> Decimal:
+    return _EXACT.create_decimal(number)

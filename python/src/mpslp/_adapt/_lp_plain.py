@@ -86,10 +86,15 @@ class PlainStatements:
     def __init__(self, text: str, dialect: str | None) -> None:
         self._text = text
         self._dialect = dialect
-        self.names: set[str] = set()
-        """The names that are plain in any place, of columns and of rows."""
+        self._seen = {""}
+        """The names that are plain in any place, of columns and of rows; and what is no name."""
         self.kind = ""
         """The kind of the statements of this section; empty where none is taken."""
+
+    @property
+    def names(self) -> set[str]:
+        """The names of columns and of rows."""
+        return self._seen - {""}
 
     def take(self, at: int, line: int) -> Token | None:
         """The statement that starts with a line, if it is plain."""
@@ -99,10 +104,11 @@ class PlainStatements:
         if found is None:
             return None
         statement = found[1]
-        names = names_of_bound(statement) if self.kind == PLAIN_BOUND else names_in(statement)
-        if not names or not self._are_plain(names):
+        words = names_of_bound(statement) if self.kind == PLAIN_BOUND else _WORD.findall(statement)
+        names = len(words) - words.count("")
+        if not names or not self._are_plain(words):
             return None
-        if self.kind == PLAIN_ROW and len(names) == 1 and ":" in statement:
+        if self.kind == PLAIN_ROW and names == 1 and ":" in statement:
             return None  # the name is that of the row
         if self.kind == PLAIN_OBJECTIVE and not self._is_kept(sum_of(parts_of(statement).body)):
             return None
@@ -122,13 +128,12 @@ class PlainStatements:
         constants = {None: 1, "lp_solve": 1, "coinutils": 0}.get(self._dialect, -1)
         return objective.constants <= constants and not objective.has_products and not objective.is_again
 
-    def _are_plain(self, names: list[str]) -> bool:
-        if self.names.issuperset(names):
-            return True
-        new = [name for name in names if name not in self.names]
-        if not all(map(is_plain, new)):
+    def _are_plain(self, words: list[str]) -> bool:
+        """Whether all words that are not empty are plain names."""
+        new = {*words} - self._seen
+        if _PLAIN_BY_LETTERS.fullmatch(" ".join(new)) is None and not all(map(is_plain, new)):
             return False
-        self.names.update(new)
+        self._seen |= new
         return True
 
 
@@ -145,6 +150,9 @@ _PATTERNS: dict[str, Callable[[str, int], re.Match[str] | None]] = {
 
 
 _WORDS_OF_OTHERS = frozenset((*NOT_SUPPORTED, *OTHER_INFINITIES, *SECTIONS_OF_OTHERS))
+_NAME_WITH_DIGIT = r"[A-DF-RT-Za-df-rt-z_][A-Za-z_]{0,99}[0-9][A-Za-z0-9_]{0,99}"
+_PLAIN_BY_LETTERS = re.compile(rf"(?:{_NAME_WITH_DIGIT}(?: {_NAME_WITH_DIGIT})*)?")
+"""Names that are plain for sure: most have a digit, which no word that means something has but sos1 and sos2."""
 
 
 def is_plain(name: str) -> bool:
@@ -176,14 +184,15 @@ class Parts(NamedTuple):
 
 def parts_of(statement: str) -> Parts:
     label, colon, body = statement.partition(":")
-    return Parts(label.rstrip(" \t"), body) if colon else Parts("", statement)
+    return new_token(Parts, (label.rstrip(" \t"), body) if colon else ("", statement))
 
 
 class Sum(NamedTuple):
-    """What is in a row or an objective: the columns of its terms, how many numbers without a column, and whether it has
-    products.
+    """What is in a row or an objective: its items, each a sign, a number, a star and a name, of which some are empty;
+    the columns of its terms, how many numbers without a column, and whether it has products.
     """
 
+    items: list[tuple[str, str, str, str]]
     names: list[str]
     constants: int
     has_products: bool
@@ -195,13 +204,14 @@ class Sum(NamedTuple):
 
 
 def sum_of(body: str) -> Sum:
-    words = _ITEM.findall(body)
-    names = [name for _, _, _, name in words if name]
-    return Sum(names, len(words) - len(names), "*" in body)
+    items = _ITEM.findall(body)
+    names = [item[3] for item in items if item[3]]
+    return new_token(Sum, (items, names, len(items) - len(names), "*" in body))
 
 
 def has_two_relations(body: str) -> bool:
-    return len(_RELATIONS.findall(body)) > 1
+    """Whether a row is between two numbers: both relations are then at most."""
+    return body.count("<") > 1
 
 
 def row_of(statement: Token, body: str) -> Row:

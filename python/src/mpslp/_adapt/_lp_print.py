@@ -61,7 +61,7 @@ class Script:
         starts = [token.start for token in self._tokens.all]
         at, pending, is_cut = 0, "", False
         for edit in _outermost(self._edits):
-            first = bisect_left(starts, edit.start, at)
+            first = at if starts[at] == edit.start else bisect_left(starts, edit.start, at)
             if first > at:
                 yield from self._kept(at, first, Cell(pending, "", is_cut), joins_tokens)
                 pending, is_cut = "", False
@@ -69,12 +69,11 @@ class Script:
             if edit.start == edit.end:
                 yield from ((edit.start - 1, cell) for cell in edit.cells)
                 continue
-            at = bisect_left(starts, edit.end, first)
-            space = (
-                pending
-                + self._tokens.space_before(first)
-                + "".join(f"{comment}\n" for comment in self._tokens.comments_in(edit.start, edit.end))
-            )
+            space = pending + self._tokens.space_before(first)
+            at = first + 1  # most edits are of one token
+            if starts[at] < edit.end:
+                at = bisect_left(starts, edit.end, at)
+                space += "".join(f"{comment}\n" for comment in self._tokens.comments_in(edit.start, edit.end))
             pending, is_cut = ("", False) if edit.cells else (space, True)
             for number, cell in enumerate(edit.cells):
                 yield edit.start, cell if number else Cell(space + cell.space, cell.text)

@@ -18,6 +18,9 @@ from mpslp._text._lp_words import INFINITIES, LISTS, RESERVED
 
 _WORDS_BEFORE_ERROR = 3
 _EXPONENT = re.compile(r"[eE][0-9]+")
+_SIGNED_EXPONENT = re.compile(r"[eE][+-][0-9]+")
+"""A word of PuLP's files only; elsewhere it is three tokens."""
+
 _NO_BOUND = "no bound of LP: a column and a number, or a column between two numbers"
 
 
@@ -317,6 +320,8 @@ class Reader:
             self.has_spaces = True
             if name.text in "eE" and self.is_power(self.ahead(), self.ahead(2)):
                 self.note_tail(number, self.as_word(self.token, self.ahead(2)))
+            elif _SIGNED_EXPONENT.fullmatch(name.text):
+                self.note_tail(number, name)
             return
         self.joined.setdefault(name.text, []).append(number)
         letter = name.text[0]

@@ -6,12 +6,12 @@ import re
 from collections import Counter
 from collections.abc import Sequence
 from decimal import Decimal
-from typing import NamedTuple
 
 from mpslp._adapt._changes import AdaptError
 from mpslp._adapt._lp_context import Context
+from mpslp._adapt._lp_forms import Form, form_with_constant
 from mpslp._adapt._lp_parts import FLIPPED, Item, Objective, Row, has_terms, negated, sense_of, spelled
-from mpslp._adapt._lp_plain import has_two_relations, parts_of, row_of, sum_of
+from mpslp._adapt._lp_plain import Sum, has_two_relations, parts_of, row_of, sum_of
 from mpslp._adapt._lp_print import Cell, labelled, literal_cells, printed, term_cells
 from mpslp._adapt._lp_sections import ORDERED_SETS
 from mpslp._adapt._lp_tokens import Token
@@ -27,13 +27,6 @@ _MOST_FORMS = 10_000
 
 ONLY_ON_THE_RIGHT = "only after numbers on the right"
 _ORDERED_SET = re.compile(r"sos[0-9]*", re.IGNORECASE)
-
-
-class Form(NamedTuple):
-    """How a row is written, and why."""
-
-    kinds: tuple[str, ...]
-    text: str
 
 
 class ObjectiveRules:
@@ -177,24 +170,26 @@ class RowRules:
             return
         self.take_other_row(label != "")
         self.context.take_plain(statement, body, found.names)
-        if found.has_products or found.is_again or not is_limit:
-            form = self.form_of(statement, body)
+        if not is_limit or found.has_products or found.is_again:
+            form = self.form_of(statement, body, found)
             self.context.rewrite(statement, form.kinds, f"{label}: {form.text}" if label else form.text)
 
-    def form_of(self, statement: Token, body: str) -> Form:
+    def form_of(self, statement: Token, body: str, found: Sum) -> Form:
         """How a row is written that is read as a whole. Files that programs write have many rows that differ in their
         labels only.
         """
         form = self.forms.get(body)
         if form is None:
-            row = row_of(statement, body)
-            kinds: list[str] = []
-            terms, outer = self.parted(row, kinds)
-            kinds += self.kinds_of_sides(row, terms, outer, False)
-            form = Form(tuple(kinds), printed(self.row_cells(row, terms, outer, False)))
+            form = form_with_constant(body, found) or self.form_by_tokens(row_of(statement, body))
             if len(self.forms) < _MOST_FORMS:
                 self.forms[body] = form
         return form
+
+    def form_by_tokens(self, row: Row) -> Form:
+        kinds: list[str] = []
+        terms, outer = self.parted(row, kinds)
+        kinds += self.kinds_of_sides(row, terms, outer, False)
+        return Form(tuple(kinds), printed(self.row_cells(row, terms, outer, False)))
 
     def parted(self, row: Row, kinds: list[str]) -> tuple[list[Item], list[list[Item]]]:
         """The side with the terms, and those with numbers."""

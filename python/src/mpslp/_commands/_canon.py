@@ -165,22 +165,22 @@ def _rewrite(text: Text, given: Input, options: argparse.Namespace) -> Outcome:
     """Makes a file canonical. One that is canonical already is not written."""
     content = _mpslp.canonical(text.content, text.format, text.format)
     if content == text.content:
-        return warned(text, options).before(Outcome)
+        return warned(text, options, content).before(Outcome)
 
     def work() -> Outcome:
         replace_file(given.path, pack(given.path, content))
         return Outcome(output="" if options.quiet else given.path)
 
-    return replacing(text, options, work)
+    return replacing(text, options, content, work)
 
 
 def _show_patch(text: Text, given: Input, options: argparse.Namespace) -> Outcome:
     """What -i would change."""
     content = _mpslp.canonical(text.content, text.format, text.format)
     if content == text.content:
-        return warned(text, options).before(Outcome)
+        return warned(text, options, content).before(Outcome)
     return replacing(
-        text, options, lambda: Outcome(Status.DIFFERS, patch=unified_diff(given.path, text.content, content))
+        text, options, content, lambda: Outcome(Status.DIFFERS, patch=unified_diff(given.path, text.content, content))
     )
 
 
@@ -207,7 +207,7 @@ def _write(text: Text, given: Input, options: argparse.Namespace) -> Outcome:
     path = _target(given, options, options.to)
     to: Format | None = options.to or format_of_name(path)
     content = _mpslp.canonical(text.content, text.format, text.format if to is None else format_number(to))
-    return _written(text, given, options, path, lambda: given_out(content, path, options))
+    return _written(text, given, options, path, content, lambda: given_out(content, path, options))
 
 
 def _write_for_solver(text: Text, given: Input, options: argparse.Namespace) -> Outcome:
@@ -229,10 +229,12 @@ def _write_for_solver(text: Text, given: Input, options: argparse.Namespace) -> 
             replace_file(options.map, table(made.names))
         return given_out(made, path, options).preceded_by(lines if is_printed(options) else "")
 
-    return _written(text, given, options, path, work)
+    return _written(text, given, options, path, canonical, work)
 
 
-def _written(text: Text, given: Input, options: argparse.Namespace, path: str, work: Callable[[], Outcome]) -> Outcome:
+def _written(
+    text: Text, given: Input, options: argparse.Namespace, path: str, canonical: bytes, work: Callable[[], Outcome]
+) -> Outcome:
     """Writes a text with the warnings about its source, which it may replace."""
     replaces = path != STANDARD_INPUT and given.path != STANDARD_INPUT and is_one_file(path, given.path)
-    return replacing(text, options, work) if replaces else warned(text, options).before(work)
+    return replacing(text, options, canonical, work) if replaces else warned(text, options, canonical).before(work)

@@ -22,7 +22,7 @@ read. The exit status is 1 if there is one."""
 DETAILS = """\
 Of each kind of remark of --portable there are the number of lines and the first three, as model.mps:3: objsense: the
 model is maximised; clp and cbc ignore OBJSENSE and minimise. With --all each line is printed, and also the kinds in
-which all programs that were measured agree. DIALECTS.md lists the kinds."""
+which all programs that were measured agree; with --target each kind about that program. DIALECTS.md lists the kinds."""
 
 
 def add(parser: argparse.ArgumentParser) -> None:
@@ -67,16 +67,15 @@ def _canonical(text: Text, given: Input, options: argparse.Namespace) -> Outcome
         "" if is_canonical or options.quiet else given.path,
         record=record_of(given.path, "accepted", canonical=is_canonical),
     )
-    return warned(text, options).before(lambda: outcome)
+    return warned(text, options, text.content if is_canonical else None).before(lambda: outcome)
 
 
 def _portable(text: Text, given: Input, options: argparse.Namespace) -> Outcome:
     """What other programs may read differently in a file."""
     format: Format = "mps" if text.format == _mpslp.MPS else "lp"
     found = portability(text.content, format, target=options.target)
-    remarks = [
-        remark for remark in found if remark.kind not in options.ignore and (options.all or remark.kind not in AGREED)
-    ]
+    left_out = {*options.ignore, *(() if options.all or options.target else AGREED)}
+    remarks = [remark for remark in found if remark.kind not in left_out]
     lines = map(str, remarks) if options.all else grouped(remarks)
     records = [{"line": each.line, "kind": each.kind, "text": each.text, "programs": each.programs} for each in remarks]
     return Outcome(

@@ -51,11 +51,13 @@ def before(files: Sequence[Warned], work: Callable[[], Outcome]) -> Outcome:
     return done if done.record is None else done._replace(record={**done.record, "warnings": records})
 
 
-def warned(text: Text, options: argparse.Namespace) -> Warned:
-    """The warnings about a text that is accepted, as the options ask for them."""
+def warned(text: Text, options: argparse.Namespace, canonical: bytes | None = None) -> Warned:
+    """The warnings about a text that is accepted, as the options ask for them. ``canonical`` is its canonical text, if
+    that is known.
+    """
     if not is_printed(options) and not options.strict:
         return Warned(str(text.filename))
-    return _as_asked(str(text.filename), warnings_in(text.content, text.format), options)
+    return _as_asked(str(text.filename), warnings_in(text.content, text.format, canonical), options)
 
 
 def is_printed(options: argparse.Namespace) -> bool:
@@ -63,9 +65,9 @@ def is_printed(options: argparse.Namespace) -> bool:
     return bool(options.warnings) and not options.quiet
 
 
-def replacing(text: Text, options: argparse.Namespace, work: Callable[[], Outcome]) -> Outcome:
+def replacing(text: Text, options: argparse.Namespace, canonical: bytes, work: Callable[[], Outcome]) -> Outcome:
     """Replaces the file of a text by another text, if that loses nothing that only a comment has."""
-    path, found = str(text.filename), warnings_in(text.content, text.format)
+    path, found = str(text.filename), warnings_in(text.content, text.format, canonical)
     kept = [] if options.force else [each for each in found if each.kind == _KEPT]
     if kept:
         lines = (f"{path}:{each}; the file is left: write OBJSENSE, or give --force" for each in kept)

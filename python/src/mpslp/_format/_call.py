@@ -62,5 +62,4 @@ def _comments(content: bytes, format: int) -> list[bytes]:
 
 
 def _formatted(text: Text) -> bytes:
-    letters = text.content.decode("latin-1")  # a letter a byte
-    return (formatted_mps if text.format == _mpslp.MPS else formatted_lp)(letters).encode("latin-1")
+    return (formatted_mps if text.format == _mpslp.MPS else formatted_lp)(text.content)

@@ -2,66 +2,54 @@
 
 from __future__ import annotations
 
-import re
-from collections.abc import Iterable, Sequence
+from collections.abc import Iterable, Iterator, Sequence
 
 from mpslp._format._numbers import plain
+from mpslp._text._mps import MpsText
 from mpslp._text._mps_words import MARKER, VALUED
 
-_END = re.compile(r"^ENDATA[ \t\r]*$\n?", re.MULTILINE)
 _GAP = "  "
 _STEP = 8
 _WIDEST = 40
 """A longer field does not move the fields of other lines."""
 
-
-class _Section:
-    """The lines of a section: the fields of data lines, and other lines as they are written."""
-
-    def __init__(self, header: str, keyword: str) -> None:
-        self.header = header
-        self.keyword = keyword
-        self.lines: list[tuple[str, ...] | str] = []
-
-    def written(self) -> Iterable[str]:
-        if self.header:
-            yield self.header
-        has_types = self.keyword in ("ROWS", "BOUNDS")
-        widths = _widths((line for line in self.lines if isinstance(line, tuple)), has_types)
-        indent = " " if has_types else "    "
-        for line in self.lines:
-            yield line if isinstance(line, str) else indent + _padded(line, widths)
-
-    def add(self, line: str) -> None:
-        """Adds a line that is no header."""
-        if line.startswith("*"):
-            self.lines.append(line)
-            return
-        fields = line.split()
-        if fields:
-            self.lines.append(_with_plain_numbers(self.keyword, fields))
-        elif self.lines[-1:] != [""]:
-            self.lines.append("")
+_Line = tuple[str, ...] | str
+"""The fields of a data line, or another line as it is written."""
 
 
-def formatted_mps(text: str) -> str:
+def formatted_mps(content: bytes) -> bytes:
     """An MPS text that is accepted, formatted. What follows ENDATA stays as it is."""
-    end = _END.search(text)
-    assert end is not None, "the text is accepted"
-    sections = [_Section("", "")]
-    for line in text[: end.start()].split("\n")[:-1]:
-        line = line.rstrip("\r")
-        if not line or line[0] in " \t*":
-            sections[-1].add(line)
-        else:
-            sections.append(_section_of(line))
-    lines = [line for section in sections for line in section.written()]
-    return "".join(f"{line}\n" for line in (*lines, "ENDATA")) + text[end.end() :]
+    text = MpsText(content)
+    lines = list(_written("", content[: text.start]))
+    for keyword, header in text.headers.items():
+        lines.append(header.text.rstrip("\r").rstrip(" \t") if keyword == "NAME" else _GAP.join(header.text.split()))
+        start, end = text.sections[keyword.encode("ascii")]
+        lines += _written(keyword, content[start + 1 : end + 1])
+    return "\n".join([*lines, "ENDATA", ""]).encode("latin-1") + text.rest
 
 
-def _section_of(header: str) -> _Section:
-    fields = header.split()
-    return _Section(header.rstrip(" \t") if fields[0] == "NAME" else _GAP.join(fields), fields[0])
+def _lines(keyword: str, content: bytes) -> Iterator[_Line]:
+    """The lines of a section; of several empty ones the first."""
+    is_after_empty_line = False
+    for line in content.decode("latin-1").split("\n")[:-1]:
+        fields = line.split()
+        if line.startswith("*"):
+            yield line.rstrip("\r")
+        elif fields:
+            yield _with_plain_numbers(keyword, fields)
+        elif not is_after_empty_line:
+            yield ""
+        is_after_empty_line = not fields
+
+
+def _written(keyword: str, content: bytes) -> Iterator[str]:
+    """The lines of a section, with the fields in columns."""
+    has_types = keyword in ("ROWS", "BOUNDS")
+    lines = list(_lines(keyword, content))
+    widths = _widths((line for line in lines if isinstance(line, tuple)), has_types)
+    indent = " " if has_types else "    "
+    for line in lines:
+        yield line if isinstance(line, str) else indent + _padded(line, widths)
 
 
 def _with_plain_numbers(keyword: str, fields: list[str]) -> tuple[str, ...]:

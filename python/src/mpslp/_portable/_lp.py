@@ -2,30 +2,26 @@
 
 from __future__ import annotations
 
-from collections.abc import Iterator, Sequence
+from collections.abc import Iterable, Iterator
 from dataclasses import dataclass, field
+from itertools import pairwise
 from typing import NamedTuple
 
-from mpslp._portable._numbers import is_doubtful
+from mpslp._portable._numbers import is_doubtful, may_be_extreme
 from mpslp._portable._words import Word, first_text
-from mpslp._text._lp_tokens import TOKEN
-from mpslp._text._lp_words import BOUNDS, END, FREE, INFINITIES, LISTS, ROWS, ROWS_IN_TWO_WORDS, SECTIONS
-from mpslp._text._numbers import is_infinite
+from mpslp._text._lp_statements import VALUE, LpLines, LpStatements, Statement, Token, Tokens
+from mpslp._text._lp_words import BOUNDS, LISTS, OBJECTIVE, ROWS, SENSES
+from mpslp._text._numbers import is_infinite, parts
 
 _SHORT = ("int", "gen", "bin")
-
-
-class Token(NamedTuple):
-    """A token, and whether no space is before it on its line."""
-
-    sort: str
-    text: str
-    line: int
-    is_joined: bool
-
-
-_END = Token("end", "", 0, False)
-_MAY_BE_JOINED = {("word", "colon"), ("sign", "number"), ("sign", "word"), ("sign", "sign"), ("relation", "sign")}
+_MAY_BE_JOINED = {
+    ("word", "colon"),
+    ("sign", "number"),
+    ("sign", "word"),
+    ("sign", VALUE),
+    ("sign", "sign"),
+    ("relation", "sign"),
+}
 
 
 class Side(NamedTuple):
@@ -53,6 +49,11 @@ class Bound(NamedTuple):
     line: int
     lower: str | None
     upper: str | None
+
+    @property
+    def numbers(self) -> Iterator[Word]:
+        """The sides that are finite; both of a fixed column are one."""
+        return (Word(self.line, each) for each in dict.fromkeys(self[1:]) if each is not None and "inf" not in each)
 
 
 class ShortKeyword(NamedTuple):
@@ -86,182 +87,123 @@ class LpFile:
         """The keywords of the sections that list names that CoinUtils does not have."""
         self.has_integer = False
         """Whether the keyword of the integer columns is the word ``integer``."""
+        self.coefficients: list[Word] = []
+        """The coefficients of rows that are not 0 and may be very small or very large."""
         self.numbers: list[Word] = []
         """The numbers that a double may not hold; of the infinite ones none."""
         self.rest: Word | None = None
         """The first text after the end."""
-        self._tokens = self._all_tokens(content.decode("latin-1").split("\n"))
-        self._now, self._next, self._third = (next(self._tokens, _END) for _ in range(3))
-        self._read()
-
-    # ---- tokens
-
-    def _all_tokens(self, lines: Sequence[str]) -> Iterator[Token]:
-        for number, line in enumerate(lines, 1):
-            before, end = _END, -1
-            for match in TOKEN.finditer(line):
-                sort = match.lastgroup
-                if sort is None:
-                    self.comments.append(Word(number, match[0]))
-                    continue
-                token = Token(sort, match[0], number, match.start() == end)
-                if token.is_joined and (before.sort, sort) not in _MAY_BE_JOINED and before.text.lower() != "semi":
-                    self.joined.setdefault(number, before.text + token.text)
-                before, end = token, match.end()
-                yield token
-                if match[0].lower() == "end":
-                    self.rest = first_text(lines[number:], number + 1, "\\")
-                    return
-
-    def _advance(self) -> Token:
-        token, self._now, self._next = self._now, self._next, self._third
-        assert token is not _END, "the text is not accepted"
-        self._third = next(self._tokens, _END)
-        return token
-
-    def _is_section(self) -> bool:
-        return self._now.sort == "word" and self._now.text.lower() in SECTIONS
-
-    # ---- sections
-
-    def _read(self) -> None:
-        self.is_maximised = self._advance().text.lower().startswith("max")
-        self._objective()
-        has_bounds = False
-        while self._now.sort == "word":
-            keyword = self._advance()
-            word = keyword.text.lower()
-            section = SECTIONS[word]
-            if section == ROWS:
-                if word in ROWS_IN_TWO_WORDS:
-                    self._advance()
-                self._read_rows()
-            elif section == BOUNDS:
-                has_bounds = True
-                self._read_bounds()
-            elif section in LISTS:
-                if word in _SHORT:
-                    self.short_keywords.append(ShortKeyword(keyword.line, keyword.text, has_bounds))
-                if word == "semi" and self._now.text == "-":
-                    self._advance()
-                    self._advance()
-                self._read_list(self.lists[section])
-                self.has_integer |= word == "integer"
-            elif section == END:
-                break
-
-    def _objective(self) -> None:
-        self._label()
-        while self._now.sort != "end" and not self._is_section():
-            sign, line = self._signs(), self._now.line
-            number = self._number()
-            if number and (self._now.sort != "word" or self._is_section()):
-                self.constant = Word(line, sign + number)
+        self._has_bounds = False
+        self._side_before = 0
+        """The line on which the side of the row before ended."""
+        lines = LpLines(content.decode("latin-1"))
+        for statement in LpStatements(self._looked_at(lines)):
+            if statement.keyword:
+                self._open(statement)
             else:
-                self._name()
+                self._take(statement)
+        self.rest = first_text(lines.rest.split("\n")[1:], lines.end + 1, "\\")
 
-    def _read_rows(self) -> None:
-        after = 0
-        while self._now.sort != "end" and not self._is_section():
-            row = Row(self._now.line, "", self._now.text, after)
-            row.label = self._label()
-            self._row(row)
-            after = row.sides[-1].line
-            self.rows.append(row)
+    def _looked_at(self, lines: Iterable[list[Token]]) -> Iterator[list[Token]]:
+        """The lines, after their comments, and what may not be joined in them, were noted."""
+        for line in lines:
+            if line[0].around:
+                self.comments += (Word(each.line, each.text) for each in line[0].around.before)
+            if line[-1].around and line[-1].around.after:
+                self.comments.append(Word(line[-1].line, line[-1].around.after))
+            odd = [both for both in pairwise(line) if both[1].is_joined and _is_odd(*both)]
+            if odd:
+                first, second = odd[0]
+                self.joined[first.line] = first.text + second.text
+            yield line
 
-    def _row(self, row: Row) -> None:
-        """The sides and terms of a row, up to its last side."""
-        if self._starts_with_side():
-            row.sides.append(self._side())
-            self._advance()
-            self._terms()
-        else:
-            self._terms()
-        self._advance()
-        row.sides.append(self._side())
+    def _open(self, statement: Statement) -> None:
+        section, (first, *_) = statement.section, statement.keyword
+        word = first.text.lower()
+        self._side_before = 0
+        self._has_bounds |= section == BOUNDS
+        self.has_integer |= word == "integer"
+        if section == OBJECTIVE:
+            self.is_maximised = SENSES[word] == "max"
+        elif word in _SHORT:
+            self.short_keywords.append(ShortKeyword(first.line, first.text, self._has_bounds))
 
-    def _starts_with_side(self) -> bool:
-        """Whether a row starts with a side: a number with a relation after it, or a word for infinity; a sign may come
-        first.
-        """
-        first, second = (self._next, self._third) if self._now.sort == "sign" else (self._now, self._next)
-        return second.sort == "relation" if first.sort == "number" else first.text.lower() in INFINITIES
+    def _take(self, statement: Statement) -> None:
+        section = statement.section
+        for name in statement.label[:1]:
+            self._name(name)
+        if section == ROWS:
+            self._row(statement)
+        self._terms(statement.terms)
+        if section == BOUNDS:
+            self._bound(statement)
+        elif section in LISTS:
+            ((name,),) = statement.terms
+            self.lists[section].setdefault(name.text, name.line)
 
-    def _terms(self) -> None:
-        while self._now.sort != "relation":
-            self._signs()
-            self._number()
-            self._name()
+    def _row(self, statement: Statement) -> None:
+        start, label = statement.start, statement.label
+        row = Row(start.line, label[0].text if label else "", start.text, self._side_before)
+        row.sides += [self._side(side) for side in (statement.first[:-1], statement.last[1:]) if side]
+        self._side_before = row.sides[-1].line
+        self.rows.append(row)
+        numbers = (token for term in statement.terms for token in term if token.sort == "number")
+        self.coefficients += (Word(each.line, each.text) for each in numbers if _is_extreme(each.text))
 
-    def _side(self) -> Side:
-        line, has_sign, sign = self._now.line, self._now.sort == "sign", self._signs()
-        is_spaced = has_sign and not self._now.is_joined
-        if self._now.sort == "number":
-            return Side(line, sign + self._number(is_limit=True), is_spaced)
-        self._advance()
-        return Side(line, f"{sign}inf", is_spaced)
+    def _bound(self, statement: Statement) -> None:
+        line, first, last = statement.start.line, statement.first, statement.last
+        given = self.bounds.setdefault(statement.terms[0][0].text, [])
+        if first:
+            given.append(_bound(line, _flipped(first[-1].text), self._side(first[:-1]).text))
+        if len(last) > 1:
+            given.append(_bound(line, last[0].text, self._side(last[1:]).text))
+        elif last:
+            given.append(Bound(line, "-inf", "inf"))
 
-    def _read_bounds(self) -> None:
-        while self._now.sort != "end" and not self._is_section():
-            self._read_bound()
+    def _terms(self, terms: Iterable[Tokens]) -> None:
+        """Takes the signs, numbers and names of terms; the constant of the objective has no name."""
+        for term in terms:
+            if len(term) > 2 and term[1].sort == "sign":
+                self.signs.append(term[0].line)
+            *others, last = term
+            for token in others:
+                if token.sort == "number":
+                    self._number(token)
+            if last.sort == "word":
+                self.names.setdefault(last.text, last.line)
+            else:
+                self._number(last)
+                self.constant = Word(last.line, _sign(others) + last.text)
 
-    def _read_bound(self) -> None:
-        line = self._now.line
-        if self._now.sort == "word" and self._now.text.lower() not in INFINITIES:
-            name = self._name()
-            if self._now.text.lower() == FREE:
-                self._advance()
-                self._give(name, Bound(line, "-inf", "inf"))
-                return
-            relation = self._advance().text
-            self._give(name, _bound(line, relation, self._side().text))
-            return
-        side, relation = self._side().text, _flipped(self._advance().text)
-        name = self._name()
-        self._give(name, _bound(line, relation, side))
-        if self._now.sort == "relation":
-            relation = self._advance().text
-            self._give(name, _bound(line, relation, self._side().text))
+    def _side(self, side: Tokens) -> Side:
+        *signs, value = side
+        is_spaced = bool(signs) and not value.is_joined
+        if value.sort == VALUE:
+            return Side(side[0].line, f"{_sign(signs)}inf", is_spaced)
+        self._number(value, is_limit=True)
+        return Side(side[0].line, _sign(signs) + value.text, is_spaced)
 
-    def _give(self, column: str, bound: Bound) -> None:
-        self.bounds.setdefault(column, []).append(bound)
-
-    def _read_list(self, names: dict[str, int]) -> None:
-        while self._now.sort == "word" and not self._is_section():
-            line = self._now.line
-            names.setdefault(self._name(), line)
-
-    # ---- parts
-
-    def _label(self) -> str:
-        if self._now.sort != "word" or self._next.sort != "colon":
-            return ""
-        name = self._name()
-        self._advance()
-        return name
-
-    def _signs(self) -> str:
-        """The product of signs: a minus, or nothing."""
-        count, is_negative, line = 0, False, self._now.line
-        while self._now.sort == "sign":
-            count += 1
-            is_negative ^= self._advance().text == "-"
-        if count > 1:
-            self.signs.append(line)
-        return "-" if is_negative else ""
-
-    def _number(self, *, is_limit: bool = False) -> str:
-        if self._now.sort != "number":
-            return ""
-        token = self._advance()
+    def _number(self, token: Token, *, is_limit: bool = False) -> None:
         if is_doubtful(token.text) and not (is_limit and is_infinite(token.text)):
             self.numbers.append(Word(token.line, token.text))
-        return token.text
 
-    def _name(self) -> str:
-        token = self._advance()
+    def _name(self, token: Token) -> None:
         self.names.setdefault(token.text, token.line)
-        return token.text
+
+
+def _is_odd(before: Token, token: Token) -> bool:
+    """Whether other programs want a space between two tokens."""
+    return (before.sort, token.sort) not in _MAY_BE_JOINED and before.text.lower() != "semi"
+
+
+def _is_extreme(number: str) -> bool:
+    """Whether a coefficient is not 0 and may be very small or very large."""
+    return may_be_extreme(number) and bool(parts(number)[0])
+
+
+def _sign(signs: Tokens) -> str:
+    """The product of signs: a minus, or nothing."""
+    return "-" if sum(sign.text == "-" for sign in signs) % 2 else ""
 
 
 def _flipped(relation: str) -> str:

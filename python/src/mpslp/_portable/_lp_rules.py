@@ -3,12 +3,23 @@
 from __future__ import annotations
 
 import re
+from collections.abc import Iterator
 
-from mpslp._portable._lp import LpFile
+from mpslp._portable._lp import Bound, LpFile
+from mpslp._portable._names import arithmetic
 from mpslp._portable._numbers import is_large
 from mpslp._portable._remarks import COIN, NONE, PUBLISHED, Found, by_kind
-from mpslp._portable._words import Word, of_names, of_numbers, of_rest
+from mpslp._portable._words import (
+    Word,
+    of_coefficients,
+    of_names,
+    of_numbers,
+    of_rest,
+    of_semi_continuous,
+    of_whole_columns,
+)
 from mpslp._text._numbers import parts
+from mpslp._text._published import LP_NAME
 
 _READERS = ("glpsol", *COIN, "esolver")
 """The measured programs that read LP."""
@@ -32,7 +43,8 @@ def ranged_row(file: LpFile) -> Found:
     for row in file.rows:
         if len(row.sides) == 2:
             first, last = (side.text for side in row.sides)
-            yield row.line, f"the row is between {first} and {last}; clp and cbc read another row", _READERS
+            said = f"the row is between {first} and {last}; clp and cbc read another row"
+            yield row.line, f"{said}, and not every dialect has such rows", (*_READERS, *PUBLISHED)
 
 
 def row_after_side(file: LpFile) -> Found:
@@ -101,11 +113,42 @@ def text_after_end(file: LpFile) -> Found:
 
 
 def name_like_arithmetic(file: LpFile) -> Found:
-    return of_names(Word(line, name) for name, line in file.names.items())
+    return of_names((Word(line, name) for name, line in file.names.items()), PUBLISHED)
 
 
 def number_not_held(file: LpFile) -> Found:
     return of_numbers(file.numbers, ("glpsol", *COIN, *PUBLISHED))
+
+
+def fixed_bound(file: LpFile) -> Found:
+    for name, bounds in file.bounds.items():
+        for bound in bounds:
+            if bound.lower is not None and bound.lower == bound.upper:
+                yield bound.line, f"{name} is fixed by an equation, which not every dialect has under Bounds", PUBLISHED
+
+
+def name_in_dialects(file: LpFile) -> Found:
+    for name, line in file.names.items():
+        if not LP_NAME.fullmatch(name) and arithmetic(name) is None:
+            said = f"{name} has bytes that are in no names of other dialects, or is a word of one"
+            yield line, said, PUBLISHED
+
+
+def coefficient_size(file: LpFile) -> Found:
+    return of_coefficients(file.coefficients)
+
+
+def semi_continuous_bound(file: LpFile) -> Found:
+    return of_semi_continuous((name, _numbers(file.bounds.get(name, []))) for name in file.lists["semis"])
+
+
+def near_whole_bound(file: LpFile) -> Found:
+    names = dict.fromkeys(name for names in file.lists.values() for name in names)
+    return of_whole_columns(((name, _numbers(file.bounds.get(name, []))) for name in names), ("glpsol", "cbc"))
+
+
+def _numbers(bounds: list[Bound]) -> Iterator[Word]:
+    return (number for bound in bounds for number in bound.numbers)
 
 
 RULES = by_kind(
@@ -123,4 +166,9 @@ RULES = by_kind(
     text_after_end,
     name_like_arithmetic,
     number_not_held,
+    fixed_bound,
+    name_in_dialects,
+    coefficient_size,
+    semi_continuous_bound,
+    near_whole_bound,
 )

@@ -7,11 +7,11 @@ from enum import Enum
 from functools import partial
 from typing import NamedTuple
 
-from mpslp._portable._numbers import is_doubtful
+from mpslp._portable._numbers import is_doubtful, may_be_extreme
 from mpslp._portable._words import Word, first_text
 from mpslp._text._mps import DataLine, MpsText, bound_of, pairs_of
 from mpslp._text._mps_words import INTORG, MARKER
-from mpslp._text._numbers import is_infinite
+from mpslp._text._numbers import is_infinite, parts
 
 _FIXED_SECTIONS = ("COLUMNS", "RHS", "RANGES")
 _FIRST_NAME, _SECOND_NAME = slice(4, 12), slice(14, 22)
@@ -66,6 +66,8 @@ class MpsFile:
         self.ranges: list[Pair] = []
         self.bounds: dict[str, list[Bound]] = {}
         """The lines of BOUNDS by columns."""
+        self.coefficients: list[Word] = []
+        """The coefficients of rows that are not 0 and may be very small or very large."""
         self.numbers: list[Word] = []
         """The numbers that a double may not hold; of the infinite ones none."""
         self.empty_markers: list[int] = []
@@ -117,8 +119,10 @@ class MpsFile:
         self._marker = None
         if name not in self.columns:
             self.columns[name] = Column(line.number, self._is_marked)
-        for number in line.fields[2::2]:
+        for row, number in zip(line.fields[1::2], line.fields[2::2]):
             self._number(line, number)
+            if may_be_extreme(number) and row != self.objective and parts(number)[0]:
+                self.coefficients.append(Word(line.number, number))
 
     def _pairs(self, found: list[Pair], line: DataLine) -> None:
         for row, number in pairs_of(line.fields):

@@ -6,11 +6,21 @@ from __future__ import annotations
 from mpslp._portable._mps import Bound, MpsFile
 from mpslp._portable._numbers import is_large
 from mpslp._portable._remarks import COIN, MEASURED, NONE, PUBLISHED, Found, by_kind
-from mpslp._portable._words import Word, of_names, of_numbers, of_rest
+from mpslp._portable._words import (
+    Word,
+    of_coefficients,
+    of_names,
+    of_numbers,
+    of_rest,
+    of_semi_continuous,
+    of_whole_columns,
+)
 from mpslp._text._mps_words import LOWER, UPPER
 from mpslp._text._numbers import parts
 
 _DOUBLES = ("glpsol", *COIN, "lp_solve")
+_OF_WHOLE_COLUMNS = ("LI", "UI", "BV", "SC")
+"""The types of bounds of columns that are integer or semi-continuous."""
 
 
 def sense_in_comment(file: MpsFile) -> Found:
@@ -70,9 +80,8 @@ def short_fields(file: MpsFile) -> Found:
 def marked_without_bound(file: MpsFile) -> Found:
     for name, column in file.columns.items():
         if column.is_marked and name not in file.bounds:
-            yield column.line, f"{name} is an integer column from 0 to 1; for lp_solve it has no upper bound", (
-                "lp_solve",
-            )
+            said = f"{name} is an integer column from 0 to 1; for lp_solve it has no upper bound"
+            yield column.line, f"{said}, and the documents of other solvers differ", ("lp_solve", *PUBLISHED)
 
 
 def marked_with_lower_bound(file: MpsFile) -> Found:
@@ -131,12 +140,33 @@ def text_after_end(file: MpsFile) -> Found:
 
 
 def name_like_arithmetic(file: MpsFile) -> Found:
-    yield from of_names(Word(word.line, name) for name, word in file.types.items())
-    yield from of_names(Word(column.line, name) for name, column in file.columns.items())
+    yield from of_names((Word(word.line, name) for name, word in file.types.items()), NONE)
+    yield from of_names((Word(column.line, name) for name, column in file.columns.items()), NONE)
 
 
 def number_not_held(file: MpsFile) -> Found:
     return of_numbers(file.numbers, (*_DOUBLES, *PUBLISHED))
+
+
+def coefficient_size(file: MpsFile) -> Found:
+    return of_coefficients(file.coefficients)
+
+
+def semi_continuous_bound(file: MpsFile) -> Found:
+    return of_semi_continuous(
+        (name, (Word(bound.line, bound.number) for bound in bounds if bound.type in ("SC", "UP")))
+        for name, bounds in file.bounds.items()
+        if _given(bounds, ("SC",))
+    )
+
+
+def near_whole_bound(file: MpsFile) -> Found:
+    whole = (
+        (name, (Word(bound.line, bound.number) for bound in bounds if bound.number))
+        for name, bounds in file.bounds.items()
+        if file.columns[name].is_marked or _given(bounds, _OF_WHOLE_COLUMNS)
+    )
+    return of_whole_columns(whole, ("glpsol", *COIN))
 
 
 def _is_maximised(file: MpsFile) -> bool:
@@ -164,4 +194,7 @@ RULES = by_kind(
     text_after_end,
     name_like_arithmetic,
     number_not_held,
+    coefficient_size,
+    semi_continuous_bound,
+    near_whole_bound,
 )

@@ -15,7 +15,9 @@ PROGRAMS: tuple[Program, ...] = (*MEASURED, *PUBLISHED)
 COIN: tuple[Program, ...] = ("clp", "cbc", "coinutils")
 NONE: tuple[Program, ...] = ()
 
-AGREED = frozenset(("name-like-arithmetic", "range-on-equation", "upper-zero"))
+ONLY_PUBLISHED = frozenset(("coefficient-size", "fixed-bound", "name-in-dialects", "semi-continuous-bound"))
+"""The kinds about what is published of programs that were not measured."""
+AGREED = frozenset(("name-like-arithmetic", "range-on-equation", "upper-zero", *ONLY_PUBLISHED))
 """The kinds in which all programs that were measured read what is read here."""
 
 

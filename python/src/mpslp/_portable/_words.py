@@ -6,8 +6,9 @@ from collections.abc import Iterable
 from typing import NamedTuple
 
 from mpslp._portable._names import arithmetic
-from mpslp._portable._numbers import nearest_if_lost
-from mpslp._portable._remarks import NONE, Found, Program
+from mpslp._portable._numbers import is_near_whole, nearest_if_lost
+from mpslp._portable._remarks import PUBLISHED, Found, Program
+from mpslp._text._published import COEFFICIENT_OF_0, COEFFICIENTS_OF_HIGHS, COEFFICIENTS_OF_SCIP, UPPER_BOUND_OF_HIGHS
 
 
 class Word(NamedTuple):
@@ -34,11 +35,11 @@ def of_rest(rest: Word | None, keyword: str, programs: tuple[Program, ...]) -> F
         yield rest.line, f"the text after {keyword} is ignored", programs
 
 
-def of_names(names: Iterable[Word]) -> Found:
+def of_names(names: Iterable[Word], programs: tuple[Program, ...]) -> Found:
     for line, name in names:
         why = arithmetic(name)
         if why is not None:
-            yield line, f"{name} is one name; {why}", NONE
+            yield line, f"{name} is one name; {why}", programs
 
 
 def of_numbers(numbers: Iterable[Word], programs: tuple[Program, ...]) -> Found:
@@ -46,3 +47,36 @@ def of_numbers(numbers: Iterable[Word], programs: tuple[Program, ...]) -> Found:
         nearest = nearest_if_lost(number)
         if nearest is not None:
             yield line, f"{number} is exact; as a double it is {nearest}", programs
+
+
+def of_coefficients(coefficients: Iterable[Word]) -> Found:
+    """What is published of coefficients in rows that are very small or very large."""
+    for line, number in coefficients:
+        size = abs(float(number))
+        if size <= COEFFICIENT_OF_0:
+            yield line, f"the coefficient {number} in a row is 0 for HiGHS and SCIP by their documents", PUBLISHED
+        elif size >= COEFFICIENTS_OF_SCIP:
+            said = f"the coefficient {number} in a row is too large for HiGHS and SCIP by their documents"
+            yield line, said, PUBLISHED
+        elif size >= COEFFICIENTS_OF_HIGHS:
+            yield line, f"the coefficient {number} in a row is too large for HiGHS by its documents", ("highs",)
+
+
+def of_semi_continuous(columns: Iterable[tuple[str, Iterable[Word]]]) -> Found:
+    """What is published of the upper bounds of semi-continuous columns."""
+    for name, bounds in columns:
+        for line, number in bounds:
+            if float(number) > UPPER_BOUND_OF_HIGHS:
+                said = f"{name} is semi-continuous, and {number} is too large for its upper bound in HiGHS"
+                yield line, f"{said} by its documents", ("highs",)
+
+
+def of_whole_columns(columns: Iterable[tuple[str, Iterable[Word]]], programs: tuple[Program, ...]) -> Found:
+    """Bounds near whole numbers of columns that are not continuous."""
+    for name, bounds in columns:
+        for line, number in bounds:
+            if is_near_whole(number):
+                said = (
+                    f"{name} is not continuous, and its bound {number} is nearly whole: cbc rounds it, glpsol rejects"
+                )
+                yield line, f"{said} it, and HiGHS and SCIP have tolerances", (*programs, *PUBLISHED)

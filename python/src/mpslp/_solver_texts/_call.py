@@ -14,6 +14,7 @@ from mpslp._solver_texts._plain import Column, Row, plain_model
 from mpslp._solver_texts._read_back import Added, canonical_says, differences, text_says
 from mpslp._solver_texts._solvers import SOLVERS, Constant, Language, SemiContinuous, Solver, TextFormat
 from mpslp._solver_texts._writers import WRITERS
+from mpslp._text._published import TOLERANCE
 
 SolverName = Literal["glpsol", "clp", "cbc", "lp_solve", "esolver", "highs", "scip", "portable"]
 """The name of a solver's program, or ``portable`` for what HiGHS, Gurobi, CPLEX and Xpress read alike."""
@@ -22,9 +23,6 @@ _DIGITS = 17
 """A number with more digits is rounded to the nearest double."""
 _LONGEST = 24
 """A longer literal is written as the shortest one of its double; clp and cbc read at most 25 characters."""
-
-
-_NEAR_WHOLE = 1e-4
 
 
 class SolverError(ValueError):
@@ -355,7 +353,7 @@ def _is_above(bound: Decimal | None, most: float) -> bool:
 
 def _is_near_whole(bound: Decimal | None) -> bool:
     distance = 0.0 if bound is None else float(abs(bound - bound.to_integral_value()))
-    return 0 < distance < _NEAR_WHOLE
+    return 0 < distance < TOLERANCE
 
 
 def _rounded(bound: Decimal | None, rounding: str) -> Decimal | None:

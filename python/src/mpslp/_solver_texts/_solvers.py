@@ -8,6 +8,8 @@ from dataclasses import dataclass, replace
 from enum import Enum
 from typing import Literal
 
+from mpslp._text import _published
+
 TextFormat = Literal["mps", "lp", "glp"]
 """A format of a text for a solver; glp is the format of GLPK itself."""
 
@@ -99,15 +101,6 @@ _NO_SIGN = re.compile(r"(?![-+]$).*")
 _COIN_NAME = re.compile(r"[^/|]*")
 """Of the names of LP."""
 
-_KEYWORDS_OF_LP = (
-    "abs|and|bin|binaries|binary|bounds?|constraints|cos|end|exp|free|gc|general_constraints|generals?|gen|inf|infinity"
-    "|int|integers?|lazy_constraints|log|max|maximi[sz]e|maximum|min|minimi[sz]e|minimum"
-    "|multi-objectives|norm|or|partial"
-    "|pow|pwl|pwlobj|ranges|scenario|sec|semi|semis|sin|sos|sos1|sos2|st|subject|such|tan|user_cuts|ucs"
-)
-_CAREFUL_NAME = rf"(?!(?i:{_KEYWORDS_OF_LP})$)(?![eE]\d)[A-Za-z_][A-Za-z0-9_.]*"
-"""A name that is no keyword and no number in any dialect of LP."""
-
 # What readers may take in several ways is avoided: the constant is a cost, and a row without limits has an infinite
 # one.
 _CAREFUL_MPS = Language("mps", Constant.COLUMN, Constant.COLUMN, free_row="1e30", name=_NO_DOLLAR)
@@ -116,7 +109,7 @@ _CAREFUL_LP = Language(
     Constant.COLUMN,
     Constant.COLUMN,
     has_ranged_rows=False,
-    name=re.compile(_CAREFUL_NAME),
+    name=_published.LP_NAME,
     replaced=re.compile(r"[^A-Za-z0-9_.]"),
     has_equal_bounds=False,
 )
@@ -126,11 +119,15 @@ _HIGHS = Solver(
     semi_continuous=SemiContinuous.ALL,
     largest=1e20,
     rounds_integer_bounds=True,
-    largest_semi_continuous=1e5,
-    coefficients=(1e-9, 1e15),
+    largest_semi_continuous=_published.UPPER_BOUND_OF_HIGHS,
+    coefficients=(_published.COEFFICIENT_OF_0, _published.COEFFICIENTS_OF_HIGHS),
     is_measured=False,
 )
-_SCIP = replace(_HIGHS, largest_semi_continuous=float("inf"), coefficients=(1e-9, 1e20))
+_SCIP = replace(
+    _HIGHS,
+    largest_semi_continuous=float("inf"),
+    coefficients=(_published.COEFFICIENT_OF_0, _published.COEFFICIENTS_OF_SCIP),
+)
 _SHORT_NAMES = 64
 """Xpress has names of up to so many bytes."""
 

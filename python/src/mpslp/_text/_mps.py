@@ -75,6 +75,8 @@ class MpsText:
         self.comments: list[Section] = []
         self.sections: dict[bytes, Section] = {}
         """The sections by their headers, without ENDATA."""
+        self.start = 0
+        """Where the first header starts."""
         self.end = len(content)
         """Where the line after ENDATA starts."""
         self._find()
@@ -88,6 +90,8 @@ class MpsText:
                 continue
             if header:
                 self.sections[header] = Section(start, place - 1)
+            else:
+                self.start = place
             word = _WORD.match(self.content, place)
             header, start = (b"" if word is None else word[0]), line_end
             if header == b"ENDATA":

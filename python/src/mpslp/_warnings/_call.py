@@ -7,6 +7,7 @@ from mpslp._files._sources import Format, Source, naming, read
 from mpslp._text._lines import numbers_of
 from mpslp._text._mps import MpsText
 from mpslp._warnings import _lp_rules, _mps_rules
+from mpslp._warnings._canonical import columns_without_terms
 from mpslp._warnings._lp import LpText
 from mpslp._warnings._records import Found, ModelFileWarning
 
@@ -27,15 +28,16 @@ def warnings_of(source: Source, format: Format | None = None) -> tuple[ModelFile
     """
     text = read(source, format)
     with naming(text):
-        _mpslp.is_canonical(text.content, text.format)  # it raises the error of a text that is rejected
-    return warnings_in(text.content, text.format)
+        canonical = _mpslp.canonical(text.content, text.format, text.format)
+    return warnings_in(text.content, text.format, canonical)
 
 
-def warnings_in(content: bytes, format: int) -> tuple[ModelFileWarning, ...]:
-    """The warnings about a text that is accepted."""
-    if format == _mpslp.LP:
-        return _in_order(content, LpText(content), _lp_rules.RULES)
-    return _in_order(content, MpsText(content), _mps_rules.RULES)
+def warnings_in(content: bytes, format: int, canonical: bytes | None = None) -> tuple[ModelFileWarning, ...]:
+    """The warnings about a text that is accepted. With its canonical text, in either format, it takes less time."""
+    if format == _mpslp.MPS:
+        return _in_order(content, MpsText(content), _mps_rules.RULES)
+    unused = None if canonical is None else columns_without_terms(canonical)
+    return _in_order(content, LpText(content, unused), _lp_rules.RULES)
 
 
 def _in_order(content: bytes, file: object, rules: Mapping[str, Callable[..., Found]]) -> tuple[ModelFileWarning, ...]:
