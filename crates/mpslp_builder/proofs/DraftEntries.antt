@@ -18,16 +18,18 @@ use Rattle.std.specs.declared.cmp.Ordering.TheVariants as orders
 -- ---- one more entry
 
 pub put_all : {K X : Type 0} (R : K → K → Ordering) (p : K × X → Bool) (k : K) (v : X) (es : List (K × X))
-    → ((j : K) → R k j ≡ orders.Equal → p (j, v) ≡ true) → p (k, v) ≡ true → list_all p es ≡ true → list_all p (put R k v es) ≡ true
+    → ((j : K) → R k j ≡ orders.Equal → p (j, v) ≡ true) → p (k, v) ≡ true → list_all p es ≡ true →
+    list_all p (put R k v es) ≡ true
 put_all R p k v [] tied h all = both_so _ _ h refl
-put_all {K} {X} R p k v (e ∷ es) tied h all = grind (arith, both_so, put_all R p k v es tied h (second_so (p e) (list_all p es) all))
+put_all {K} {X} R p k v (e ∷ es) tied h all =
+    grind (arith, both_so, put_all R p k v es tied h (second_so (p e) (list_all p es) all))
 
-put_names : {X : Type 0} (p : List ℕ × X → Bool) (k : List ℕ) (v : X) (es : List (List ℕ × X)) → p (k, v) ≡ true → list_all p es ≡ true
-    → list_all p (put bytes_cmp k v es) ≡ true
+put_names : {X : Type 0} (p : List ℕ × X → Bool) (k : List ℕ) (v : X) (es : List (List ℕ × X)) → p (k, v) ≡ true →
+    list_all p es ≡ true → list_all p (put bytes_cmp k v es) ≡ true
 put_names p k v es h all = put_all bytes_cmp p k v es (λ j tie. ap (λ n. p (n, v)) (sym (tied_names k j tie)) ∙ h) h all
 
-put_keys : {X : Type 0} (p : CoefficientKey × X → Bool) (k : CoefficientKey) (v : X) (es : List (CoefficientKey × X)) → p (k, v) ≡ true
-    → list_all p es ≡ true → list_all p (put key_cmp k v es) ≡ true
+put_keys : {X : Type 0} (p : CoefficientKey × X → Bool) (k : CoefficientKey) (v : X) (es : List (CoefficientKey × X)) →
+    p (k, v) ≡ true → list_all p es ≡ true → list_all p (put key_cmp k v es) ≡ true
 put_keys p k v es h all = put_all key_cmp p k v es (λ j tie. ap (λ n. p (n, v)) (sym (same_key k j tie)) ∙ h) h all
 
 -- ---- a draft whose entries are valid in the draft of all declarations
@@ -39,7 +41,8 @@ pub record IsGood (all draft : Draft) : Type 0 where
   pub rows : list_all (λ e. is_mps_name e.0 && (are_given e.1 && not (have_infinite_side e.1))) draft.rows ≡ true
   pub rhs_values : list_all (λ e. is_decimal e.1) draft.rhs_values ≡ true
   pub columns : list_all (λ e. is_mps_name e.0) draft.columns ≡ true
-  pub coefficients : list_all (λ e. is_decimal e.1 && (has_row all e.0.row && has_column all e.0.column)) draft.coefficients ≡ true
+  pub coefficients : list_all (λ e. is_decimal e.1 && (has_row all e.0.row && has_column all e.0.column))
+      draft.coefficients ≡ true
   pub lowers : list_all (λ e. is_given e.1 && not (is_plus_infinite e.1)) draft.lowers ≡ true
   pub uppers : list_all (λ e. is_given e.1 && not (is_minus_infinite e.1)) draft.uppers ≡ true
   pub rows_sorted : T (is_sorted bytes_cmp draft.rows)
@@ -96,16 +99,17 @@ good-with_declaration all b (declare_upper column limit) g legal known allowed =
 good-with_declaration all b _ g legal known allowed = grind (arith)
 
 pub good-with_declarations : (all : Draft) (declarations : Declarations) (draft : Draft) → IsGood all draft
-    → list_all is_legal declarations ≡ true → list_all (is_known all) declarations ≡ true → list_all (is_allowed all) declarations ≡ true
-    → IsGood all (with_declarations draft declarations)
+    → list_all is_legal declarations ≡ true → list_all (is_known all) declarations ≡ true →
+    list_all (is_allowed all) declarations ≡ true → IsGood all (with_declarations draft declarations)
 good-with_declarations all [] draft g legal known allowed = g
 good-with_declarations all (d ∷ more) draft g legal known allowed =
     grind (
       arith,
       good-with_declaration,
       good-with_declarations all more (with_declaration draft d) (good-with_declaration all draft d g (first_so (is_legal d)
-          (list_all is_legal more) legal) (first_so (is_known all d) (list_all (is_known all) more) known) (first_so (is_allowed all d)
-          (list_all (is_allowed all) more) allowed)) (second_so (is_legal d) (list_all is_legal more) legal) (second_so (is_known all d)
+          (list_all is_legal more) legal) (first_so (is_known all d) (list_all (is_known all) more) known)
+          (first_so (is_allowed all d) (list_all (is_allowed all) more) allowed))
+          (second_so (is_legal d) (list_all is_legal more) legal) (second_so (is_known all d)
           (list_all (is_known all) more) known) (second_so (is_allowed all d) (list_all (is_allowed all) more) allowed),
     )
 
@@ -169,16 +173,19 @@ puts-all : {K X : Type 0} (R : K → K → Ordering) (part : Declaration → Lis
     → (ds : Declarations) (all : Draft) → entries (with_declarations all ds) ≡ puts R (flat_map part ds) (entries all)
 puts-all R part entries one [] all = refl
 puts-all R part entries one (d ∷ ds) all =
-    puts-all R _ _ one ds _ ∙ ap (puts R (flat_map part ds)) (one all d) ∙ sym (puts-append R (part d) (flat_map part ds) (entries all))
+    puts-all R _ _ one ds _ ∙ ap (puts R (flat_map part ds)) (one all d)
+    ∙ sym (puts-append R (part d) (flat_map part ds) (entries all))
 
-pub rows-all : (ds : Declarations) (all : Draft) → (with_declarations all ds).rows ≡ puts bytes_cmp (flat_map row_part ds) all.rows
+pub rows-all : (ds : Declarations) (all : Draft) →
+    (with_declarations all ds).rows ≡ puts bytes_cmp (flat_map row_part ds) all.rows
 rows-all = puts-all _ _ (λ all. all.rows) (λ all d. grind arith)
 
 pub rhs_values-all : (ds : Declarations) (all : Draft)
     → (with_declarations all ds).rhs_values ≡ puts bytes_cmp (flat_map rhs_part ds) all.rhs_values
 rhs_values-all = puts-all _ _ (λ all. all.rhs_values) (λ all d. grind arith)
 
-pub ranges-all : (ds : Declarations) (all : Draft) → (with_declarations all ds).ranges ≡ puts bytes_cmp (flat_map range_part ds) all.ranges
+pub ranges-all : (ds : Declarations) (all : Draft) →
+    (with_declarations all ds).ranges ≡ puts bytes_cmp (flat_map range_part ds) all.ranges
 ranges-all = puts-all _ _ (λ all. all.ranges) (λ all d. grind arith)
 
 pub columns-all : (ds : Declarations) (all : Draft)
@@ -189,13 +196,16 @@ pub coefficients-all : (ds : Declarations) (all : Draft)
     → (with_declarations all ds).coefficients ≡ puts key_cmp (flat_map coefficient_part ds) all.coefficients
 coefficients-all = puts-all _ _ (λ all. all.coefficients) (λ all d. grind arith)
 
-pub lowers-all : (ds : Declarations) (all : Draft) → (with_declarations all ds).lowers ≡ puts bytes_cmp (flat_map lower_part ds) all.lowers
+pub lowers-all : (ds : Declarations) (all : Draft) →
+    (with_declarations all ds).lowers ≡ puts bytes_cmp (flat_map lower_part ds) all.lowers
 lowers-all = puts-all _ _ (λ all. all.lowers) (λ all d. grind arith)
 
-pub uppers-all : (ds : Declarations) (all : Draft) → (with_declarations all ds).uppers ≡ puts bytes_cmp (flat_map upper_part ds) all.uppers
+pub uppers-all : (ds : Declarations) (all : Draft) →
+    (with_declarations all ds).uppers ≡ puts bytes_cmp (flat_map upper_part ds) all.uppers
 uppers-all = puts-all _ _ (λ all. all.uppers) (λ all d. grind arith)
 
-pub marked-all : (ds : Declarations) (all : Draft) → (with_declarations all ds).marked ≡ puts bytes_cmp (flat_map marked_part ds) all.marked
+pub marked-all : (ds : Declarations) (all : Draft) →
+    (with_declarations all ds).marked ≡ puts bytes_cmp (flat_map marked_part ds) all.marked
 marked-all = puts-all _ _ (λ all. all.marked) (λ all d. grind arith)
 
 pub integers-all : (ds : Declarations) (all : Draft)
@@ -206,7 +216,8 @@ pub binaries-all : (ds : Declarations) (all : Draft)
     → (with_declarations all ds).binaries ≡ puts bytes_cmp (flat_map binary_part ds) all.binaries
 binaries-all = puts-all _ _ (λ all. all.binaries) (λ all d. grind arith)
 
-pub semis-all : (ds : Declarations) (all : Draft) → (with_declarations all ds).semis ≡ puts bytes_cmp (flat_map semi_part ds) all.semis
+pub semis-all : (ds : Declarations) (all : Draft) →
+    (with_declarations all ds).semis ≡ puts bytes_cmp (flat_map semi_part ds) all.semis
 semis-all = puts-all _ _ (λ all. all.semis) (λ all d. grind arith)
 
 -- ---- each map of a draft holds its entries in the order of their keys
@@ -225,9 +236,6 @@ pub record IsSortedDraft (all : Draft) : Type 0 where
   pub integers : T (is_sorted bytes_cmp all.integers)
   pub binaries : T (is_sorted bytes_cmp all.binaries)
   pub semis : T (is_sorted bytes_cmp all.semis)
-
-pub empty_sorted : IsSortedDraft empty_draft
-empty_sorted = grind arith
 
 pub sorted-with_declarations : (ds : Declarations) (all : Draft) → IsSortedDraft all → IsSortedDraft (with_declarations all ds)
 sorted-with_declarations ds all s = record {
@@ -268,7 +276,8 @@ row_named = grind arith
 
 pub row_sides : (row : List ℕ × Row) → is_sound_row row ≡ true → are_sides row.1.lower row.1.upper ≡ true
 row_sides row h =
-    first_so _ _ (second_so (is_mps_name row.0) (are_sides row.1.lower row.1.upper && has_bounded_distance row.1.lower row.1.upper) h)
+    first_so _ _ (second_so (is_mps_name row.0) (are_sides row.1.lower row.1.upper && has_bounded_distance row.1.lower
+    row.1.upper) h)
 
 pub row_distance : (row : List ℕ × Row) → is_sound_row row ≡ true → has_bounded_distance row.1.lower row.1.upper ≡ true
 row_distance row h = grind arith
@@ -277,11 +286,14 @@ pub column_named : (column : List ℕ × Column) → is_sound_column column ≡ 
 column_named = grind arith
 
 pub column_sides : (column : List ℕ × Column) → is_sound_column column ≡ true → are_sides column.1.lower column.1.upper ≡ true
-column_sides column h = first_so _ _ (second_so (is_mps_name column.0) (are_sides column.1.lower column.1.upper && suits column.1.kind
+column_sides column h = first_so _ _
+    (second_so (is_mps_name column.0) (are_sides column.1.lower column.1.upper && suits column.1.kind
     column.1.lower column.1.upper) h)
 
-pub column_suited : (column : List ℕ × Column) → is_sound_column column ≡ true → suits column.1.kind column.1.lower column.1.upper ≡ true
-column_suited column h = second_so _ _ (second_so (is_mps_name column.0) (are_sides column.1.lower column.1.upper && suits column.1.kind
+pub column_suited : (column : List ℕ × Column) → is_sound_column column ≡ true →
+    suits column.1.kind column.1.lower column.1.upper ≡ true
+column_suited column h = second_so _ _
+    (second_so (is_mps_name column.0) (are_sides column.1.lower column.1.upper && suits column.1.kind
     column.1.lower column.1.upper) h)
 
 pub lower_of : (l u : Limit) → are_sides l u ≡ true → is_lower_side l ≡ true
@@ -313,4 +325,7 @@ differs = grind (arith, no_truth, same_name, bytes_total)
 pub later_differ : {X : Type 0} (x : List ℕ) (es : List (List ℕ × X)) → below_all bytes_cmp x es ≡ true
     → Each (λ e. same_bytes e.0 x ≡ false) es
 later_differ x [] h = tt
-later_differ x (e ∷ es) h = (differs x e.0 (first_so (is_lt (bytes_cmp x e.0)) (below_all bytes_cmp x es) h), later_differ x es (second_so (is_lt (bytes_cmp x e.0)) (below_all bytes_cmp x es) h))
+later_differ x (e ∷ es) h = (
+  differs x e.0 (first_so (is_lt (bytes_cmp x e.0)) (below_all bytes_cmp x es) h),
+  later_differ x es (second_so (is_lt (bytes_cmp x e.0)) (below_all bytes_cmp x es) h),
+)

@@ -46,7 +46,8 @@ module _ {K X : Type 0} (R : K → K → Ordering) where
 
   pub sorted-kept : (p : K × X → Bool) (es : List (K × X)) → is_sorted R es ≡ true → is_sorted R (filter p es) ≡ true
   sorted-kept p [] h = refl
-  sorted-kept p (e ∷ es) h = grind (arith, both_so, below-kept, sorted-kept p es (second_so (below_all R e.0 es) (is_sorted R es) h))
+  sorted-kept p (e ∷ es) h = grind
+      (arith, both_so, below-kept, sorted-kept p es (second_so (below_all R e.0 es) (is_sorted R es) h))
 
   module _ (o : IsTotalOrder R) (same : (x y : K) → R x y ≡ Equal → x ≡ y) where
     -- a key equal to one below all keys is not found
@@ -61,13 +62,16 @@ module _ {K X : Type 0} (R : K → K → Ordering) where
         ∙ ap (first_there (find R q es)) (find-put R o q e.0 e.1 base) ∙ by (eq_by_cmp R q e.0) refl
       where
         by : (b : Bool) → eq_by_cmp R q e.0 ≡ b
-            → first_there (find R q es) (cond b (Some e.1) (find R q base)) ≡ first_there (cond b (Some e.1) (find R q es)) (find R q base)
-        by true tie = ap (λ (f : Option X). first_there f (Some e.1)) (none-tied q e.0 es tie (first_so (below_all R e.0 es) (is_sorted R es) h))
+            → first_there (find R q es) (cond b (Some e.1) (find R q base)) ≡ first_there
+            (cond b (Some e.1) (find R q es)) (find R q base)
+        by true tie = ap (λ (f : Option X). first_there f (Some e.1))
+            (none-tied q e.0 es tie (first_so (below_all R e.0 es) (is_sorted R es) h))
         by false tie = refl
 
     -- putting sorted entries leaves them unchanged
     pub puts-own : (es : List (K × X)) → is_sorted R es ≡ true → puts R es [] ≡ es
-    puts-own es h = let own = finds_own R o same es (T_from (is_sorted R es) h) in puts-give R o same es es (T_from (is_sorted R es) h) own
+    puts-own es h = let own = finds_own R o same es (T_from (is_sorted R es) h) in
+        puts-give R o same es es (T_from (is_sorted R es) h) own
         (Each-weaker (λ e. find R e.0 es ≡ Some e.1) (λ e. is_some (find R e.0 es) ≡ true) (λ e is. ap is_some is) es own)
 
     -- a property of all entries that are put is one of each that is found
@@ -88,7 +92,8 @@ module _ {K X : Type 0} (R : K → K → Ordering) where
             by false tie at = was k y at
 
     -- a property of all entries is one of each that is found
-    pub found-each : (P : K → X → Type 0) (es : List (K × X)) → Each (λ e. P e.0 e.1) es → (q : K) (v : X) → find R q es ≡ Some v → P q v
+    pub found-each : (P : K → X → Type 0) (es : List (K × X)) → Each (λ e. P e.0 e.1) es → (q : K) (v : X) →
+        find R q es ≡ Some v → P q v
     found-each P [] h q v is = absurd (nothing v is)
       where
         nothing : (y : X) → ◌≡◌ {A = Option X} None (Some y) → ⊥
@@ -98,11 +103,14 @@ module _ {K X : Type 0} (R : K → K → Ordering) where
         unwrap : (x y : X) → ◌≡◌ {A = Option X} (Some x) (Some y) → x ≡ y
         unwrap x y e = cc
 
-        by : (b : Bool) → eq_by_cmp R q e.0 ≡ b → cond b (Some e.1) (find R q es) ≡ Some v → (find R q es ≡ Some v → P q v) → P q v
-        by true tie at more = subst (λ (k : K). P k v) (sym (same q e.0 (equal_from (R q e.0) tie))) (subst (λ (x : X). P e.0 x) (unwrap e.1 v at) h.0)
+        by : (b : Bool) → eq_by_cmp R q e.0 ≡ b → cond b (Some e.1) (find R q es) ≡ Some v →
+            (find R q es ≡ Some v → P q v) → P q v
+        by true tie at more = subst (λ (k : K). P k v) (sym (same q e.0 (equal_from (R q e.0) tie)))
+            (subst (λ (x : X). P e.0 x) (unwrap e.1 v at) h.0)
         by false tie at more = more at
 
-    kept_put : (q k : K) (v : X) (base : List (K × X)) → is_some (find R q base) ≡ true → is_some (find R q (put R k v base)) ≡ true
+    kept_put : (q k : K) (v : X) (base : List (K × X)) → is_some (find R q base) ≡ true →
+        is_some (find R q (put R k v base)) ≡ true
     kept_put q k v base h = ap is_some (find-put R o q k v base) ∙ by (eq_by_cmp R q k)
       where
         by : (b : Bool) → is_some (cond b (Some v) (find R q base)) ≡ true
@@ -118,8 +126,9 @@ module _ {K X : Type 0} (R : K → K → Ordering) where
     some-puts q [] base h = cc
     some-puts q (e ∷ es) base h = by (eq_by_cmp R q e.0) refl (λ is. some-puts q es (put R e.0 e.1 base) is) h
       where
-        by : (b : Bool) → eq_by_cmp R q e.0 ≡ b → (is_some (find R q es) ≡ true → is_some (find R q (puts R es (put R e.0 e.1 base)))
-            ≡ true) → is_some (cond b (Some e.1) (find R q es)) ≡ true → is_some (find R q (puts R es (put R e.0 e.1 base))) ≡ true
+        by : (b : Bool) → eq_by_cmp R q e.0 ≡ b →
+            (is_some (find R q es) ≡ true → is_some (find R q (puts R es (put R e.0 e.1 base))) ≡ true) →
+            is_some (cond b (Some e.1) (find R q es)) ≡ true → is_some (find R q (puts R es (put R e.0 e.1 base))) ≡ true
         by true tie more is = kept_puts q es (put R e.0 e.1 base)
             (ap is_some (find-put R o q e.0 e.1 base) ∙ ap (λ (b : Bool). is_some (cond b (Some e.1) (find R q base))) tie)
         by false tie more is = more is
@@ -128,10 +137,12 @@ module _ {K X : Type 0} (R : K → K → Ordering) where
     pub find-kept : (keep : X → Bool) (q : K) (es : List (K × X)) → is_sorted R es ≡ true
         → find R q (filter (λ e. keep e.1) es) ≡ then_stated (λ x. cond (keep x) (Some x) None) (find R q es)
     find-kept keep q [] h = refl
-    find-kept keep q (e ∷ es) h = by (eq_by_cmp R q e.0) refl (find-kept keep q es (second_so (below_all R e.0 es) (is_sorted R es) h))
+    find-kept keep q (e ∷ es) h = by (eq_by_cmp R q e.0) refl
+        (find-kept keep q es (second_so (below_all R e.0 es) (is_sorted R es) h))
       where
-        by : (b : Bool) → eq_by_cmp R q e.0 ≡ b → find R q (filter (λ x. keep x.1) es) ≡ then_stated (λ x. cond (keep x) (Some x) None)
-            (find R q es) → find R q (cond (keep e.1) (e ∷ filter (λ x. keep x.1) es) (filter (λ x. keep x.1) es))
+        by : (b : Bool) → eq_by_cmp R q e.0 ≡ b →
+            find R q (filter (λ x. keep x.1) es) ≡ then_stated (λ x. cond (keep x) (Some x) None) (find R q es) →
+            find R q (cond (keep e.1) (e ∷ filter (λ x. keep x.1) es) (filter (λ x. keep x.1) es))
             ≡ then_stated (λ x. cond (keep x) (Some x) None) (cond b (Some e.1) (find R q es))
         by true tie more = elim (keep e.1)
             as (λ k. find R q (cond k (e ∷ filter (λ x. keep x.1) es) (filter (λ x. keep x.1) es)) ≡ cond k (Some e.1) None) [
@@ -148,7 +159,8 @@ module _ {K X : Type 0} (R : K → K → Ordering) where
     -- Entries of which those kept are the target's, and the others are at none of its keys, give the target when they are put and filtered.
     pub puts-kept : (keep : X → Bool) (target es : List (K × X)) → is_sorted R target ≡ true
         → Each (λ e. find R e.0 target ≡ cond (keep e.1) (Some e.1) None) es
-        → ((q : K) → is_some (find R q target) ≡ true → is_some (find R q es) ≡ true) → filter (λ e. keep e.1) (puts R es []) ≡ target
+        → ((q : K) → is_some (find R q target) ≡ true → is_some (find R q es) ≡ true) →
+        filter (λ e. keep e.1) (puts R es []) ≡ target
     puts-kept keep target es sorted own all = let drafted = puts R es [] in
         let in_order : is_sorted R drafted ≡ true = true_from (is_sorted R drafted) (is_sorted-puts R o same es [] tt) in
         same_entries R o same (filter (λ e. keep e.1) drafted) target (T_from _ (sorted-kept (λ e. keep e.1) drafted in_order))
@@ -164,9 +176,11 @@ module _ {K X : Type 0} (R : K → K → Ordering) where
         no_none : false ≡ true → ⊥
         no_none e = cc
 
-        alike : (q : K) (f : Option X) → find R q (puts R es []) ≡ f → then_stated (λ x. cond (keep x) (Some x) None) f ≡ find R q target
+        alike : (q : K) (f : Option X) → find R q (puts R es []) ≡ f →
+            then_stated (λ x. cond (keep x) (Some x) None) f ≡ find R q target
         alike q (Some x) is =
-            sym (found-puts (λ k v. find R k target ≡ cond (keep v) (Some v) None) es [] own (λ k y none. absurd (never y none)) q x is)
+            sym (found-puts (λ k v. find R k target ≡ cond (keep v) (Some v) None) es [] own
+            (λ k y none. absurd (never y none)) q x is)
         alike q None is = none_of (find R q target) (λ there. no_none (sym (ap is_some is) ∙ some-puts q es [] (all q there)))
 
 -- the entries that some elements make
@@ -181,17 +195,19 @@ module _ {K X V : Type 0} (R : K → K → Ordering) (f : X → Option V) where
   -- entries that some of sorted ones make are sorted
   pub sorted-stated : (xs : List (K × X)) → is_sorted R xs ≡ true → is_sorted R (all_stated f xs) ≡ true
   sorted-stated [] h = refl
-  sorted-stated (x ∷ xs) h = grind (arith, both_so, below-stated, sorted-stated xs (second_so (below_all R x.0 xs) (is_sorted R xs) h))
+  sorted-stated (x ∷ xs) h = grind
+      (arith, both_so, below-stated, sorted-stated xs (second_so (below_all R x.0 xs) (is_sorted R xs) h))
 
   -- what is found among them
-  pub find-stated : (o : IsTotalOrder R) (same : (x y : K) → R x y ≡ Equal → x ≡ y) (q : K) (xs : List (K × X)) → is_sorted R xs ≡ true
-      → find R q (all_stated f xs) ≡ then_stated f (find R q xs)
+  pub find-stated : (o : IsTotalOrder R) (same : (x y : K) → R x y ≡ Equal → x ≡ y) (q : K) (xs : List (K × X)) →
+      is_sorted R xs ≡ true → find R q (all_stated f xs) ≡ then_stated f (find R q xs)
   find-stated o same q [] h = refl
   find-stated o same q (x ∷ xs) h =
       by (eq_by_cmp R q x.0) refl (f x.1) refl (find-stated o same q xs (second_so (below_all R x.0 xs) (is_sorted R xs) h))
     where
-      by : (b : Bool) → eq_by_cmp R q x.0 ≡ b → (v : Option V) → f x.1 ≡ v → find R q (all_stated f xs) ≡ then_stated f (find R q xs)
-          → find R q (stated x.0 v ++ all_stated f xs) ≡ then_stated f (cond b (Some x.1) (find R q xs))
+      by : (b : Bool) → eq_by_cmp R q x.0 ≡ b → (v : Option V) → f x.1 ≡ v →
+          find R q (all_stated f xs) ≡ then_stated f (find R q xs) →
+          find R q (stated x.0 v ++ all_stated f xs) ≡ then_stated f (cond b (Some x.1) (find R q xs))
       by true tie (Some v) is more = ap (λ (b : Bool). cond b (Some v) (find R q (all_stated f xs))) tie ∙ sym is
       by true tie None is more = more
           ∙ ap (then_stated f) (none-tied R o same q x.0 xs tie (first_so (below_all R x.0 xs) (is_sorted R xs) h)) ∙ sym is
@@ -204,7 +220,8 @@ pub filter-not_not : {X : Type 0} (p : X → Bool) (xs : List X) → filter (λ 
 filter-not_not p [] = refl
 filter-not_not p (x ∷ xs) = grind (arith, filter-not_not p xs)
 
-module _ {K X Y : Type 0} (R : K → K → Ordering) (o : IsTotalOrder R) (same : (x y : K) → R x y ≡ Equal → x ≡ y) (f : Y → List (K × X)) where
+module _ {K X Y : Type 0} (R : K → K → Ordering) (o : IsTotalOrder R) (same : (x y : K) → R x y ≡ Equal →
+    x ≡ y) (f : Y → List (K × X)) where
   abbrev SomeIn : K → List (K × X) → List (K × X) → Type 0
   SomeIn q left right = (is_some (find R q left) || is_some (find R q right)) ≡ true
 
@@ -224,7 +241,8 @@ module _ {K X Y : Type 0} (R : K → K → Ordering) (o : IsTotalOrder R) (same 
           (flat_map f (filter (λ y. not (p y)) xs))) → (c : Bool) → SomeIn q (flat_map f (cond c (x ∷ filter p xs) (filter p xs)))
           (flat_map f (cond (not c) (x ∷ filter (λ y. not (p y)) xs) (filter (λ y. not (p y)) xs)))
       by true e k more true = or_left
-          (is_some (find R q (f x ++ flat_map f (filter p xs)))) _ (some_append_left R o same q (f x) (flat_map f (filter p xs)) (some x e))
+          (is_some (find R q (f x ++ flat_map f (filter p xs)))) _
+          (some_append_left R o same q (f x) (flat_map f (filter p xs)) (some x e))
       by true e k more false = or_right (is_some (find R q (flat_map f (filter p xs))))
           _ (some_append_left R o same q (f x) (flat_map f (filter (λ y. not (p y)) xs)) (some x e))
       by false e k more true = wider_left q (f x) (flat_map f (filter p xs)) (flat_map f (filter (λ y. not (p y)) xs)) (more k)
@@ -232,7 +250,8 @@ module _ {K X Y : Type 0} (R : K → K → Ordering) (o : IsTotalOrder R) (same 
 
 -- ---- entries of a list that is declared in two parts, with some elements in both: they are sorted again
 
-module _ {K X Y : Type 0} (R : K → K → Ordering) (o : IsTotalOrder R) (same : (x y : K) → R x y ≡ Equal → x ≡ y) (entry : Y → K × X) (f : Y → List (K × X)) where
+module _ {K X Y : Type 0} (R : K → K → Ordering) (o : IsTotalOrder R) (same : (x y : K) → R x y ≡ Equal →
+    x ≡ y) (entry : Y → K × X) (f : Y → List (K × X)) where
   -- what is found among an element's own entries is found in the whole
   found : (p : Y → Bool) (xs : List Y) → Each (λ x. is_some (find R (entry x).0 (f x)) ≡ true) xs
       → Each (λ x. p x ≡ true → is_some (find R (entry x).0 (flat_map f (filter p xs))) ≡ true) xs
@@ -253,16 +272,19 @@ module _ {K X Y : Type 0} (R : K → K → Ordering) (o : IsTotalOrder R) (same 
   in_either = grind (arith, some_append_left, some_append_right)
 
   -- Entries of the elements that pass, and then of the others, give all elements' entries in order.
-  pub parted-give : (p : Y → Bool) (xs : List Y) → T (is_sorted R (map entry xs)) → Each (λ x. is_some (find R (entry x).0 (f x)) ≡ true) xs
-      → Each (λ x. Each (λ e. e ≡ entry x) (f x)) xs
+  pub parted-give : (p : Y → Bool) (xs : List Y) → T (is_sorted R (map entry xs)) →
+      Each (λ x. is_some (find R (entry x).0 (f x)) ≡ true) xs → Each (λ x. Each (λ e. e ≡ entry x) (f x)) xs
       → puts R (flat_map f (filter p xs) ++ flat_map f (filter (λ x. not (p x)) xs)) [] ≡ map entry xs
   parted-give p xs sorted some own = let target = map entry xs in
       let finds : Each (λ x. find R _ _ ≡ Some _) xs = Each-unmap _ xs (finds_own R o same _ sorted) in
       let right : Each (λ x. Each _ _) xs = Each-both _ _ _ (λ x is each. Each-weaker _ _ (λ e same_entry. subst
       (λ d. find R d.0 (map entry xs) ≡ Some d.1) (sym same_entry) is) _ each) xs finds own in puts-give R o same _ _ sorted
-      (Each-append _ _ (flat_map f (filter _ xs)) (Each-flat_map _ f _ (Each-filter _ p xs (Each-weaker _ _ (λ x is _. is) xs right)))
-      (Each-flat_map _ f (filter _ xs) (Each-filter _ (λ x. not _) xs (Each-weaker _ _ (λ x is _. is) xs right)))) (Each-map _ _ xs
-      (Each-both _ _ _ (λ x g h. in_either p _ (flat_map f (filter _ xs)) x g h) xs (found p xs some) (found (λ x. not _) xs some)))
+      (Each-append _ _ (flat_map f (filter _ xs))
+      (Each-flat_map _ f _ (Each-filter _ p xs (Each-weaker _ _ (λ x is _. is) xs right)))
+      (Each-flat_map _ f (filter _ xs)
+      (Each-filter _ (λ x. not _) xs (Each-weaker _ _ (λ x is _. is) xs right)))) (Each-map _ _ xs
+      (Each-both _ _ _ (λ x g h. in_either p _ (flat_map f (filter _ xs)) x g h) xs (found p xs some)
+      (found (λ x. not _) xs some)))
     where
       Each-unmap : (Q : K × X → Type 0) (ys : List Y) → Each Q (map entry ys) → Each (λ y. Q (entry y)) ys
       Each-unmap Q [] h = tt
@@ -284,7 +306,8 @@ module _ {K : Type 0} (same : K → K → Bool) where
   distinct-append [] ys h k apart = k
   distinct-append (x ∷ xs) ys h k apart = let only = list_any (λ later. same later x) xs in
       let here = not_so only (first_so (not only) (are_distinct same xs) h) in
-      both_so (not (list_any (λ later. same later x) (xs ++ ys))) (are_distinct same (xs ++ ys)) (ap not (new_append x xs ys here apart.0))
+      both_so (not (list_any (λ later. same later x) (xs ++ ys))) (are_distinct same (xs ++ ys))
+      (ap not (new_append x xs ys here apart.0))
       (distinct-append xs ys (second_so (not only) (are_distinct same xs) h) k apart.1)
 
   new_flat : {X : Type 0} (f : X → List K) (k : K) (xs : List X) → Each (λ x. IsNew k (f x)) xs → IsNew k (flat_map f xs)
@@ -303,19 +326,23 @@ module _ {K : Type 0} (same : K → K → Bool) where
   distinct-flat_map f (x ∷ xs) h apart = distinct-append (f x) (flat_map f xs) h.0 (distinct-flat_map f xs h.1 apart.1)
       (Each-weaker _ _ (λ k each. new_flat f k xs each) (f x) apart.0)
 
-module _ {K : Type 0} (R : K → K → Ordering) (o : IsTotalOrder R) (same : K → K → Bool) (equal : (x y : K) → same x y ≡ true → x ≡ y) where
+module _ {K : Type 0} (R : K → K → Ordering) (o : IsTotalOrder R) (same : K → K → Bool) (equal : (x y : K) →
+    same x y ≡ true → x ≡ y) where
   differs : (x y : K) (b : Bool) → same y x ≡ b → is_lt (R x y) ≡ true → b ≡ false
   differs = grind arith
 
-module _ {K X : Type 0} (R : K → K → Ordering) (o : IsTotalOrder R) (same : K → K → Bool) (equal : (x y : K) → same x y ≡ true → x ≡ y) where
-  none_above : (x : K) (es : List (K × X)) → below_all R x es ≡ true → list_any (λ later. same later x) (map (λ e. e.0) es) ≡ false
+module _ {K X : Type 0} (R : K → K → Ordering) (o : IsTotalOrder R) (same : K → K → Bool) (equal : (x y : K) →
+    same x y ≡ true → x ≡ y) where
+  none_above : (x : K) (es : List (K × X)) → below_all R x es ≡ true →
+      list_any (λ later. same later x) (map (λ e. e.0) es) ≡ false
   none_above x [] h = refl
   none_above x (e ∷ es) h = grind (arith, differs, none_above x es (second_so (is_lt (R x e.0)) (below_all R x es) h))
 
   -- the keys of sorted entries
   pub distinct-sorted : (es : List (K × X)) → is_sorted R es ≡ true → are_distinct same (map (λ e. e.0) es) ≡ true
   distinct-sorted [] h = refl
-  distinct-sorted (e ∷ es) h = grind (arith, both_so, none_above, distinct-sorted es (second_so (below_all R e.0 es) (is_sorted R es) h))
+  distinct-sorted (e ∷ es) h = grind
+      (arith, both_so, none_above, distinct-sorted es (second_so (below_all R e.0 es) (is_sorted R es) h))
 
 -- ---- the coefficients of a column are adjacent, because all are sorted by column first; and at most one is the
 -- objective's
@@ -347,7 +374,8 @@ module _ {K : Type 0} (R : K → K → Ordering) (o : IsTotalOrder R) where
     above_kept : (k x : K) (es : List (K × X)) → is_eq (R k x) ≡ true → below_all R x es ≡ true
         → filter (λ e. not (is_eq (R k e.0))) es ≡ es
     above_kept k x [] tie above = refl
-    above_kept k x (e ∷ es) tie above = let here = o.congr k x e.0 (equal_from _ tie) ∙ less_from _ (first_so (is_lt _) _ above) in
+    above_kept k x (e ∷ es) tie above = let here =
+        o.congr k x e.0 (equal_from _ tie) ∙ less_from _ (first_so (is_lt _) _ above) in
         ap (λ r. cond (not (is_eq r)) (e ∷ filter (λ y. not (is_eq (R k y.0))) es) (filter (λ y. not (is_eq (R k y.0))) es)) here
         ∙ ap (λ ys. e ∷ ys) (above_kept k x es tie (second_so (is_lt _) _ above))
 
@@ -371,20 +399,23 @@ by_first = grind arith
 
 module _ {X : Type 0} where
   -- the columns of later coefficients are not lower
-  below_columns : (x : CoefficientKey) (es : List (CoefficientKey × X)) (i : ℕ) (d : CoefficientKey × X) → below_all key_cmp x es ≡ true
-      → i < length es → is_le (bytes_cmp x.column (get_or es i d).0.column) ≡ true
+  below_columns : (x : CoefficientKey) (es : List (CoefficientKey × X)) (i : ℕ) (d : CoefficientKey × X) →
+      below_all key_cmp x es ≡ true → i < length es → is_le (bytes_cmp x.column (get_or es i d).0.column) ≡ true
   below_columns x [] i d h in' = absurd (omega arith)
   below_columns x (e ∷ es) zero d h in' = grind (arith, by_first)
   below_columns x (e ∷ es) (suc i) d h in' = below_columns x es i d (second_so _ _ h) (omega arith)
 
-  columns_rise : (es : List (CoefficientKey × X)) (i j : ℕ) (d : CoefficientKey × X) → is_sorted key_cmp es ≡ true → i ≤ j → j < length es
-      → is_le (bytes_cmp (get_or es i d).0.column (get_or es j d).0.column) ≡ true
+  columns_rise : (es : List (CoefficientKey × X)) (i j : ℕ) (d : CoefficientKey × X) → is_sorted key_cmp es ≡ true →
+      i ≤ j → j < length es → is_le (bytes_cmp (get_or es i d).0.column (get_or es j d).0.column) ≡ true
   columns_rise [] i j d sorted le in' = absurd (omega arith)
   columns_rise (e ∷ es) zero zero d sorted le in' = at_most_itself _ nat_list_cmp_total e.0.column
   columns_rise (e ∷ es) zero (suc j) d sorted le in' = grind (arith, below_columns, arith)
   columns_rise (e ∷ es) (suc i) zero d sorted le in' = absurd (omega arith)
-  columns_rise (e ∷ es) (suc i) (suc j) d sorted le in' = grind
-      (arith, columns_rise es i j d (second_so (below_all key_cmp e.0 es) (is_sorted key_cmp es) sorted) (omega arith) (omega arith))
+  columns_rise (e ∷ es) (suc i) (suc j) d sorted le in' = grind (
+    arith,
+    columns_rise es i j d (second_so (below_all key_cmp e.0 es) (is_sorted key_cmp es) sorted) (omega arith)
+        (omega arith),
+  )
 
   abbrev pub elements : List ℕ → List ℕ → List (CoefficientKey × X) → List (CoefficientKey × X)
   elements objective column es = filter (λ e. not (same_bytes objective e.0.row) && same_bytes column e.0.column) es
@@ -398,7 +429,8 @@ abbrev pub named : {X : Type 0} → List ℕ × X → List ℕ × Unit {0}
 named entry = (entry.0, tt)
 
 -- the same as a test of each entry
-pub any-name : {X : Type 0} (q : List ℕ) (es : List (List ℕ × X)) → is_one_of (names_in es) q ≡ list_any (λ e. same_bytes q e.0) es
+pub any-name : {X : Type 0} (q : List ℕ) (es : List (List ℕ × X)) →
+    is_one_of (names_in es) q ≡ list_any (λ e. same_bytes q e.0) es
 any-name q [] = refl
 any-name q (e ∷ es) = grind (arith, any-name q es)
 
@@ -433,7 +465,8 @@ at-mapped {X} {Y} g q (e ∷ es) = grind (arith, then_stated, at-mapped g q es)
 from_sorted-back : {K X : Type 0} {R : K → K → Ordering} (m : FinMap R X) (es : List (K × X)) → es ≡ maps.entries m
     → m ≡ maps.from_sorted es
 from_sorted-back {K} {X} {R} m es e =
-    maps.same_entries_map m _ (sym (maps.entries-from_sorted R es (subst (λ xs. T (is_sorted R xs)) (sym e) (maps.entries_sorted m)) ∙ e))
+    maps.same_entries_map m _ (sym
+    (maps.entries-from_sorted R es (subst (λ xs. T (is_sorted R xs)) (sym e) (maps.entries_sorted m)) ∙ e))
 
 -- each part of a model, as the draft has it
 pub record GivesBack (all : Draft) (m : LinearModel) : Type 0 where
@@ -449,7 +482,8 @@ model-back = grind (arith, from_sorted-back)
 
 -- ---- columns, each of which is given back
 
-module _ (all : Draft) (columns : List (List ℕ × Column)) (declared : all.columns ≡ map named columns) (back : Each (λ column. column_of all column.0 ≡ column.1) columns) where
+module _ (all : Draft) (columns : List (List ℕ × Column)) (declared : all.columns ≡ map named columns)
+    (back : Each (λ column. column_of all column.0 ≡ column.1) columns) where
   pub columns-back : map (λ column. (column.0, column_of all column.0)) all.columns ≡ columns
   columns-back = ap (map _) declared ∙ each _ back
     where

@@ -28,7 +28,8 @@ use Rattle.mpslp_model_core.specs.ModelParts as parts
 -- ---- what numbers refer to, in another order
 
 -- one more in front, if there is one
-front_kept : {Y : Type 0} (o : Option Y) (xs ys : List Y) → IsPermutation xs ys → IsPermutation (cons_option o xs) (cons_option o ys)
+front_kept : {Y : Type 0} (o : Option Y) (xs ys : List Y) → IsPermutation xs ys →
+    IsPermutation (cons_option o xs) (cons_option o ys)
 front_kept None xs ys h = h
 front_kept (Some x) xs ys h = IsPermutation-cons x xs ys h
 
@@ -40,15 +41,17 @@ filter_map-permutation : {X Y : Type 0} (f : X → Option Y) (xs ys : List X) �
     → IsPermutation (filter_map f xs) (filter_map f ys)
 filter_map-permutation f = along_permutation (λ xs ys. IsPermutation (filter_map f xs) (filter_map f ys))
     (λ xs. IsPermutation-refl (filter_map f xs)) (λ x xs ys h. front_kept (f x) (filter_map f xs) (filter_map f ys) h) (λ x y xs.
-    fronts_turned (f x) (f y) (filter_map f xs)) (λ xs ys zs. IsPermutation-trans (filter_map f xs) (filter_map f ys) (filter_map f zs))
+    fronts_turned (f x) (f y) (filter_map f xs)) (λ xs ys zs. IsPermutation-trans (filter_map f xs) (filter_map f ys)
+    (filter_map f zs))
 
 taken-range : {X : Type 0} (xs ys : List X) (k : ℕ) → ((i : ℕ) → i < length ys → slice_get xs (k + i) ≡ slice_get ys i)
     → entries_at xs (range_with_len k (length ys)) ≡ ys
 taken-range xs [] k h = refl
 taken-range {X} xs (y ∷ ys) k h = let here : k + 0 ≡ k = omega arith in
     let first : slice_get xs k ≡ Some y = ap (slice_get xs) (sym here) ∙ h zero (omega arith) in
-    (λ i. cons_option (first i) (entries_at xs (range_with_len (k + 1) (length ys)))) ∙ ap (λ (more : List X). y ∷ more) (taken-range xs ys
-    (k + 1) (λ i l. let step : (k + 1) + i ≡ k + suc i = omega arith in ap (slice_get xs) step ∙ h (suc i) (omega (arith, l))))
+    (λ i. cons_option (first i) (entries_at xs (range_with_len (k + 1) (length ys)))) ∙ ap (λ (more : List X). y ∷ more)
+    (taken-range xs ys (k + 1) (λ i l. let step : (k + 1) + i ≡ k + suc i = omega arith in
+    ap (slice_get xs) step ∙ h (suc i) (omega (arith, l))))
 
 taken-all : {X : Type 0} (xs : List X) → entries_at xs (range_with_len 0 (length xs)) ≡ xs
 taken-all xs = taken-range xs xs 0 (λ i l. let none : 0 + i ≡ i = omega arith in ap (slice_get xs) none)
@@ -60,24 +63,27 @@ taken-permutation xs order p = subst (λ (ys : List _). IsPermutation ys (entrie
 
 -- ---- their names do not descend
 
-name_at-get : {V : Type 0} (entries : List (List ℕ × V)) (n : ℕ) (e : List ℕ × V) → slice_get entries n ≡ Some e → name_at entries n ≡ e.0
+name_at-get : {V : Type 0} (entries : List (List ℕ × V)) (n : ℕ) (e : List ℕ × V) → slice_get entries n ≡ Some e →
+    name_at entries n ≡ e.0
 name_at-get = grind arith
 
-taken-each : {X : Type 0} (xs : List X) (Q : ℕ → Type 0) (P : X → Type 0) → ((n : ℕ) (x : X) → slice_get xs n ≡ Some x → Q n → P x)
-    → (ns : List ℕ) → Each Q ns → Each P (entries_at xs ns)
+taken-each : {X : Type 0} (xs : List X) (Q : ℕ → Type 0) (P : X → Type 0) →
+    ((n : ℕ) (x : X) → slice_get xs n ≡ Some x → Q n → P x) → (ns : List ℕ) → Each Q ns → Each P (entries_at xs ns)
 taken-each xs Q P f [] h = tt
 taken-each {X} xs Q P f (n ∷ ns) h = grind (arith, taken-each xs Q P f ns h.1)
 
 never_falls-taken : {V : Type 0} (entries : List (List ℕ × V)) (ns : List ℕ) → NeverFalls (λ n m. is_lt
-    (bytes_cmp (name_at entries n) (name_at entries m))) ns → NeverFalls (λ e d. is_lt (bytes_cmp e.0 d.0)) (entries_at entries ns)
+    (bytes_cmp (name_at entries n) (name_at entries m))) ns →
+    NeverFalls (λ e d. is_lt (bytes_cmp e.0 d.0)) (entries_at entries ns)
 never_falls-taken entries [] h = tt
 never_falls-taken {V} entries (n ∷ ns) h =
     elim (slice_get entries n) as (λ o. slice_get entries n ≡ o
     → NeverFalls (λ e d. is_lt (bytes_cmp e.0 d.0)) (cons_option o (entries_at entries ns))) [
       | None ↦ λ _. never_falls-taken entries ns h.1
       | Some e ↦ λ is. (
-        taken-each entries (λ m. is_lt (bytes_cmp (name_at entries m) (name_at entries n)) ≡ false) (λ d. is_lt (bytes_cmp d.0 e.0) ≡ false)
-            (λ m d at below. let there = name_at-get entries m d at in let here = name_at-get entries n e is in
+        taken-each entries (λ m. is_lt (bytes_cmp (name_at entries m) (name_at entries n)) ≡ false)
+            (λ d. is_lt (bytes_cmp d.0 e.0) ≡ false) (λ m d at below. let there = name_at-get entries m d at in
+            let here = name_at-get entries n e is in
             sym (λ i. is_lt (bytes_cmp (there i) (here i))) ∙ below) ns h.0,
         never_falls-taken entries ns h.1,
       )
@@ -97,17 +103,21 @@ module _ {V X : Type 0} (f : V → X) where
   part-never_falls [] h = tt
   part-never_falls (e ∷ es) h = (part-each (λ name. is_lt (bytes_cmp name e.0) ≡ false) es h.0, part-never_falls es h.1)
 
-  pub parts-permutation : (es ordered : List (List ℕ × V)) → IsPermutation es ordered → IsPermutation (each_part f es) (each_part f ordered)
+  pub parts-permutation : (es ordered : List (List ℕ × V)) → IsPermutation es ordered →
+      IsPermutation (each_part f es) (each_part f ordered)
   parts-permutation es ordered p = subst (λ (xs : List (List ℕ × X)). IsPermutation xs (each_part f ordered)) (sym (part-map es))
-      (subst (IsPermutation (map (λ (e : List ℕ × V). (e.0, f e.1)) es)) (sym (part-map ordered)) (IsPermutation-map (λ (e : List ℕ × V). (e.0, f e.1)) es ordered p))
+      (subst (IsPermutation (map (λ (e : List ℕ × V). (e.0, f e.1)) es)) (sym (part-map ordered))
+      (IsPermutation-map (λ (e : List ℕ × V). (e.0, f e.1)) es ordered p))
 
   -- the parts of the entries, in the order of their names, are those of the map
   pub ordered_parts : (es : List (List ℕ × V)) (order : List ℕ) → IsOnce (each_part f es)
-      → IsPermutation (range_with_len 0 (length es)) order → IsSortedBy (λ n m. is_lt (bytes_cmp (name_at es n) (name_at es m))) order
-      → each_part f (entries_at es order) ≡ sorted_of bytes_cmp (each_part f es)
+      → IsPermutation (range_with_len 0 (length es)) order →
+      IsSortedBy (λ n m. is_lt (bytes_cmp (name_at es n) (name_at es m))) order →
+      each_part f (entries_at es order) ≡ sorted_of bytes_cmp (each_part f es)
   ordered_parts es order once p sorted = permuted-is_map bytes_cmp bytes_total tied_names (each_part f es)
       (each_part f (entries_at es order)) once (parts-permutation es (entries_at es order) (taken-permutation es order p))
-      (part-never_falls (entries_at es order) (never_falls-taken es order (never_falls-from_sort bytes_total (name_at es) order sorted)))
+      (part-never_falls (entries_at es order)
+      (never_falls-taken es order (never_falls-from_sort bytes_total (name_at es) order sorted)))
 
 -- ---- what is found at an entry's own name
 
@@ -130,13 +140,15 @@ module _ {V X : Type 0} (f : V → Option X) where
       let others = differs g e.0 es h.0 in
       let rest = given_parts f es in
       let tie : eq_by_cmp bytes_cmp e.0 e.0 ≡ true = ap is_eq (tied_itself bytes_total e.0) in
-      elim (f e.1) as (λ o. f e.1 ≡ o → Each (λ d. find bytes_cmp d.0 (option_map_or (λ x. (e.0, x) ∷ rest) o rest) ≡ f d.1) (e ∷ es)) [
+      elim (f e.1) as (λ o. f e.1 ≡ o →
+      Each (λ d. find bytes_cmp d.0 (option_map_or (λ x. (e.0, x) ∷ rest) o rest) ≡ f d.1) (e ∷ es)) [
         | None ↦ λ none. (no_part-found e.0 es others ∙ sym none, own_parts g es h.1)
         | Some x ↦ λ is. (
           ap (λ (b : Bool). cond b (Some x) (find bytes_cmp e.0 rest)) tie ∙ sym is,
           Each-both (λ d. eq_by_cmp bytes_cmp d.0 e.0 ≡ false) (λ d. find bytes_cmp d.0 rest ≡ f d.1)
               (λ d. cond (eq_by_cmp bytes_cmp d.0 e.0) (Some x) (find bytes_cmp d.0 rest) ≡ f d.1)
-              (λ d apart own. ap (λ (b : Bool). cond b (Some x) (find bytes_cmp d.0 rest)) apart ∙ own) es others (own_parts g es h.1),
+              (λ d apart own. ap (λ (b : Bool). cond b (Some x) (find bytes_cmp d.0 rest)) apart ∙ own) es others
+              (own_parts g es h.1),
         )
       ] refl
 
@@ -144,7 +156,8 @@ module _ {V X : Type 0} (f : V → Option X) where
 pub each-ordered : {V : Type 0} (P : List ℕ × V → Type 0) (es : List (List ℕ × V)) (order : List ℕ)
     → IsPermutation (range_with_len 0 (length es)) order → Each P es → Each P (entries_at es order)
 each-ordered P es order p h =
-    each-from_all P (entries_at es order) (All-permutation P es (entries_at es order) (taken-permutation es order p) (all-from_each P es h))
+    each-from_all P (entries_at es order) (All-permutation P es (entries_at es order) (taken-permutation es order p)
+    (all-from_each P es h))
 
 -- ---- keys that are distinct
 
@@ -161,8 +174,9 @@ each-from_get P (x ∷ xs) h = (h zero x refl, each-from_get P xs (λ i y is. h 
 abbrev pub SaysRow : Draft → List ℕ × RowParts → Type 0
 SaysRow d e = (at_name d.rhs_values e.0 ≡ e.1.rhs) × (at_name d.ranges e.0 ≡ e.1.range)
 
-no_objective : (objective : Option ObjectiveParts) (rows : List (List ℕ × RowParts)) → IsInjective (name_of_row_key objective rows)
-    → (i : ℕ) (e : List ℕ × RowParts) → slice_get rows i ≡ Some e → find bytes_cmp e.0 (objective_rhs objective) ≡ None
+no_objective : (objective : Option ObjectiveParts) (rows : List (List ℕ × RowParts)) →
+    IsInjective (name_of_row_key objective rows) → (i : ℕ) (e : List ℕ × RowParts) → slice_get rows i ≡ Some e →
+    find bytes_cmp e.0 (objective_rhs objective) ≡ None
 no_objective None rows apart i e is = refl
 no_objective (Some o) rows apart i e is =
     elim (o.rhs) as (λ r. find bytes_cmp e.0 (option_map_or (λ value. (o.name, value) ∷ []) r []) ≡ None) [
@@ -178,21 +192,26 @@ no_objective (Some o) rows apart i e is =
           ] refl
     ]
 
-pub rows_say : (sense : Option Sense) (constant : Option Number) (objective : Option ObjectiveParts) (rows : List (List ℕ × RowParts))
-    (columns : List (List ℕ × ColumnParts)) → IsInjective (name_of_row_key objective rows) → IsOnce (each_part definition_of rows)
-    → Each (SaysRow (draft_from sense constant objective rows columns)) rows
+pub rows_say : (sense : Option Sense) (constant : Option Number) (objective : Option ObjectiveParts)
+    (rows : List (List ℕ × RowParts)) (columns : List (List ℕ × ColumnParts)) →
+    IsInjective (name_of_row_key objective rows) → IsOnce (each_part definition_of rows) →
+    Each (SaysRow (draft_from sense constant objective rows columns)) rows
 rows_say sense constant objective rows columns apart once =
     Each-both (λ e. at_name (sorted_of bytes_cmp (objective_rhs objective ++ given_parts rhs_of rows)) e.0 ≡ e.1.rhs)
     (λ e. at_name (sorted_of bytes_cmp (given_parts range_of rows)) e.0 ≡ e.1.range)
     (SaysRow (draft_from sense constant objective rows columns)) (λ e a b. (a, b)) rows
-    (Each-both (λ e. find bytes_cmp e.0 (objective_rhs objective) ≡ None) (λ e. find bytes_cmp e.0 (given_parts rhs_of rows) ≡ e.1.rhs)
-    (λ e. at_name (sorted_of bytes_cmp (objective_rhs objective ++ given_parts rhs_of rows)) e.0 ≡ e.1.rhs) (λ e none own. find-sorted_of
-    bytes_cmp bytes_total e.0 (objective_rhs objective ++ given_parts rhs_of rows) ∙ find-two bytes_cmp e.0 (objective_rhs objective)
-    (given_parts rhs_of rows) ∙ ap (λ (o : Option Number). or_else o (find bytes_cmp e.0 (given_parts rhs_of rows))) none ∙ own) rows
-    (each-from_get (λ e. find bytes_cmp e.0 (objective_rhs objective) ≡ None) rows (no_objective objective rows apart))
-    (own_parts rhs_of definition_of rows once)) (Each-weaker (λ e. find bytes_cmp e.0 (given_parts range_of rows) ≡ e.1.range)
+    (Each-both (λ e. find bytes_cmp e.0 (objective_rhs objective) ≡ None)
+    (λ e. find bytes_cmp e.0 (given_parts rhs_of rows) ≡ e.1.rhs)
+    (λ e. at_name (sorted_of bytes_cmp (objective_rhs objective ++ given_parts rhs_of rows)) e.0 ≡ e.1.rhs)
+    (λ e none own. find-sorted_of bytes_cmp bytes_total e.0
+    (objective_rhs objective ++ given_parts rhs_of rows) ∙ find-two bytes_cmp e.0 (objective_rhs objective)
+    (given_parts rhs_of rows) ∙ ap (λ (o : Option Number). or_else o (find bytes_cmp e.0 (given_parts rhs_of rows)))
+    none ∙ own) rows (each-from_get (λ e. find bytes_cmp e.0 (objective_rhs objective) ≡ None) rows
+    (no_objective objective rows apart)) (own_parts rhs_of definition_of rows once))
+    (Each-weaker (λ e. find bytes_cmp e.0 (given_parts range_of rows) ≡ e.1.range)
     (λ e. at_name (sorted_of bytes_cmp (given_parts range_of rows)) e.0 ≡ e.1.range)
-    (λ e own. find-sorted_of bytes_cmp bytes_total e.0 (given_parts range_of rows) ∙ own) rows (own_parts range_of definition_of rows once))
+    (λ e own. find-sorted_of bytes_cmp bytes_total e.0 (given_parts range_of rows) ∙ own) rows
+    (own_parts range_of definition_of rows once))
 
 -- rows with the same parts as in the draft have the limits that are meant
 pub rows_meant : (d : Draft) (rows : List (List ℕ × RowParts)) → Each (SaysRow d) rows
@@ -209,23 +228,26 @@ is_part : (b : Bool) → is_some (as_part b) ≡ b
 is_part = grind arith
 
 module _ (columns : List (List ℕ × ColumnParts)) (once : IsOnce (each_part no_part columns)) where
-  says : {X : Type 0} (f : ColumnParts → Option X) → Each (λ e. f e.1 ≡ at_name (sorted_of bytes_cmp (given_parts f columns)) e.0) columns
-  says f = Each-weaker (λ e. find bytes_cmp e.0 (given_parts f columns) ≡ f e.1) (λ e. f e.1 ≡ at_name (sorted_of bytes_cmp (given_parts f columns)) e.0)
-      (λ e own. sym (find-sorted_of bytes_cmp bytes_total e.0 (given_parts f columns) ∙ own)) columns (own_parts f no_part columns once)
+  says : {X : Type 0} (f : ColumnParts → Option X) →
+      Each (λ e. f e.1 ≡ at_name (sorted_of bytes_cmp (given_parts f columns)) e.0) columns
+  says f = Each-weaker (λ e. find bytes_cmp e.0 (given_parts f columns) ≡ f e.1)
+      (λ e. f e.1 ≡ at_name (sorted_of bytes_cmp (given_parts f columns)) e.0)
+      (λ e own. sym (find-sorted_of bytes_cmp bytes_total e.0 (given_parts f columns) ∙ own)) columns
+      (own_parts f no_part columns once)
 
-  pub columns_say : (sense : Option Sense) (constant : Option Number) (objective : Option ObjectiveParts) (rows : List (List ℕ × RowParts))
-      → Each (SaysColumn (draft_from sense constant objective rows columns)) columns
+  pub columns_say : (sense : Option Sense) (constant : Option Number) (objective : Option ObjectiveParts)
+      (rows : List (List ℕ × RowParts)) → Each (SaysColumn (draft_from sense constant objective rows columns)) columns
   columns_say sense constant objective rows =
       let d = draft_from sense constant objective rows columns in
       let sides = Each-both (λ e. e.1.sides.lower ≡ at_name d.lowers e.0) (λ e. e.1.sides.upper ≡ at_name d.uppers e.0)
-      (λ e. (e.1.sides.lower ≡ at_name d.lowers e.0) × (e.1.sides.upper ≡ at_name d.uppers e.0)) (λ e a b. (a, b)) columns (says lower_of)
-      (says upper_of) in
+      (λ e. (e.1.sides.lower ≡ at_name d.lowers e.0) × (e.1.sides.upper ≡ at_name d.uppers e.0)) (λ e a b. (a, b))
+      columns (says lower_of) (says upper_of) in
       let whole = Each-both (λ e. mark_of e.1 ≡ at_name d.marked e.0) (λ e. integer_of e.1 ≡ at_name d.integers e.0)
-      (λ e. (mark_of e.1 ≡ at_name d.marked e.0) × (integer_of e.1 ≡ at_name d.integers e.0)) (λ e a b. (a, b)) columns (says mark_of)
-      (says integer_of) in
+      (λ e. (mark_of e.1 ≡ at_name d.marked e.0) × (integer_of e.1 ≡ at_name d.integers e.0)) (λ e a b. (a, b)) columns
+      (says mark_of) (says integer_of) in
       let kinds = Each-both (λ e. binary_of e.1 ≡ at_name d.binaries e.0) (λ e. semi_of e.1 ≡ at_name d.semis e.0)
-      (λ e. (binary_of e.1 ≡ at_name d.binaries e.0) × (semi_of e.1 ≡ at_name d.semis e.0)) (λ e a b. (a, b)) columns (says binary_of)
-      (says semi_of) in
+      (λ e. (binary_of e.1 ≡ at_name d.binaries e.0) × (semi_of e.1 ≡ at_name d.semis e.0)) (λ e a b. (a, b)) columns
+      (says binary_of) (says semi_of) in
       let flags = Each-both (λ e. (mark_of e.1 ≡ at_name d.marked e.0) × (integer_of e.1 ≡ at_name d.integers e.0))
       (λ e. (binary_of e.1 ≡ at_name d.binaries e.0) × (semi_of e.1 ≡ at_name d.semis e.0))
       (λ e. ((mark_of e.1 ≡ at_name d.marked e.0) × (integer_of e.1 ≡ at_name d.integers e.0))
@@ -254,10 +276,12 @@ columns_meant d (e ∷ columns) h = grind (arith, columns_meant d columns h.1)
 
 -- a name is that of a row, or of none
 row_named : (rows : List (List ℕ × RowParts)) (r : List ℕ)
-    → ((i : ℕ) × (option_map (λ e. e.0) (slice_get rows i) ≡ Some r)) ⊎ ((i : ℕ) → option_map (λ e. e.0) (slice_get rows i) ≡ Some r → ⊥)
+    → ((i : ℕ) × (option_map (λ e. e.0) (slice_get rows i) ≡ Some r)) ⊎ ((i : ℕ) →
+    option_map (λ e. e.0) (slice_get rows i) ≡ Some r → ⊥)
 row_named [] r = inr (λ i is. cc)
 row_named (e ∷ rows) r =
-    elim (eq_by_cmp bytes_cmp e.0 r) as (λ b. eq_by_cmp bytes_cmp e.0 r ≡ b → ((i : ℕ) × (option_map (λ e. e.0) (slice_get (e ∷ rows) i)
+    elim (eq_by_cmp bytes_cmp e.0 r) as (λ b. eq_by_cmp bytes_cmp e.0 r ≡ b →
+    ((i : ℕ) × (option_map (λ e. e.0) (slice_get (e ∷ rows) i)
     ≡ Some r)) ⊎ ((i : ℕ) → option_map (λ e. e.0) (slice_get (e ∷ rows) i) ≡ Some r → ⊥)) [
       | true ↦ λ tie. inl (zero, ap Some (name_same e.0 r tie))
       | false ↦ λ differ.
@@ -270,14 +294,16 @@ row_named (e ∷ rows) r =
   where
     by : (i : ℕ) → option_map (λ e. e.0) (slice_get (e ∷ rows) i) ≡ Some r → eq_by_cmp bytes_cmp e.0 r ≡ false
         → ((i : ℕ) → option_map (λ e. e.0) (slice_get rows i) ≡ Some r → ⊥) → ⊥
-    by zero is differ none = let same : e.0 ≡ r = cc in let tie : eq_by_cmp bytes_cmp e.0 r ≡ true = name_tied e.0 r same in cc
+    by zero is differ none = let same : e.0 ≡ r = cc in
+        let tie : eq_by_cmp bytes_cmp e.0 r ≡ true = name_tied e.0 r same in cc
     by (suc i) is differ none = none i is
 
 all_named_rows : (objective : Option ObjectiveParts) (rows : List (List ℕ × RowParts)) (r : List ℕ)
     → ((n : ℕ) × (name_of_row_key objective rows n ≡ Some r)) ⊎ ((n : ℕ) → name_of_row_key objective rows n ≡ Some r → ⊥)
 all_named_rows objective rows r =
     elim (row_named rows r)
-    as (λ _. ((n : ℕ) × (name_of_row_key objective rows n ≡ Some r)) ⊎ ((n : ℕ) → name_of_row_key objective rows n ≡ Some r → ⊥)) [
+    as (λ _. ((n : ℕ) × (name_of_row_key objective rows n ≡ Some r)) ⊎ ((n : ℕ) →
+    name_of_row_key objective rows n ≡ Some r → ⊥)) [
       | inl at ↦ inl (suc at.0, at.1)
       | inr none ↦
           elim (name_of_objective objective) as (λ o. name_of_objective objective ≡ o
@@ -285,16 +311,18 @@ all_named_rows objective rows r =
             | None ↦ λ is. inr (λ n named. no_name n (λ e. let t : None ≡ Some r = sym is ∙ e in cc) none named)
             | Some name ↦ λ is.
                 elim (eq_by_cmp bytes_cmp name r) as (λ b. eq_by_cmp bytes_cmp name r ≡ b
-                → ((n : ℕ) × (name_of_row_key objective rows n ≡ Some r)) ⊎ ((n : ℕ) → name_of_row_key objective rows n ≡ Some r → ⊥)) [
+                → ((n : ℕ) × (name_of_row_key objective rows n ≡ Some r)) ⊎ ((n : ℕ) →
+                name_of_row_key objective rows n ≡ Some r → ⊥)) [
                   | true ↦ λ tie. inl (zero, is ∙ ap Some (name_same name r tie))
-                  | false ↦ λ differ. inr (λ n named. no_name n (λ e. let t : Some name ≡ Some r = sym is ∙ e in let same : name ≡ r = cc in
+                  | false ↦ λ differ. inr (λ n named. no_name n (λ e. let t : Some name ≡ Some r = sym is ∙ e in
+                      let same : name ≡ r = cc in
                       let tie : eq_by_cmp bytes_cmp name r ≡ true = name_tied name r same in cc) none named)
                 ] refl
           ] refl
     ]
   where
-    no_name : (n : ℕ) → (name_of_objective objective ≡ Some r → ⊥) → ((i : ℕ) → option_map (λ e. e.0) (slice_get rows i) ≡ Some r → ⊥)
-        → name_of_row_key objective rows n ≡ Some r → ⊥
+    no_name : (n : ℕ) → (name_of_objective objective ≡ Some r → ⊥) →
+        ((i : ℕ) → option_map (λ e. e.0) (slice_get rows i) ≡ Some r → ⊥) → name_of_row_key objective rows n ≡ Some r → ⊥
     no_name zero first none is = first is
     no_name (suc n) first none is = none n is
 
@@ -311,8 +339,9 @@ module _ (objective : Option ObjectiveParts) (rows : List (List ℕ × RowParts)
 
   within-column : (cells : List (ℕ × Number)) → list_all (λ e. is_some (name_of_row_key objective rows e.0)) cells ≡ true
       → Each (λ e. e.0 < length rows + 1) cells
-  within-column cells h = Each-weaker (λ e. is_some (name_of_row_key objective rows e.0) ≡ true) (λ e. e.0 < length rows + 1) (λ e there.
-      (grind (arith, number-within))) cells (Each-from_list_all (λ e. is_some (name_of_row_key objective rows e.0)) cells h)
+  within-column cells h = Each-weaker (λ e. is_some (name_of_row_key objective rows e.0) ≡ true)
+      (λ e. e.0 < length rows + 1) (λ e there. (grind (arith, number-within))) cells
+      (Each-from_list_all (λ e. is_some (name_of_row_key objective rows e.0)) cells h)
 
   pub within-all : (cs : List (List ℕ × ColumnParts)) → all_named (name_of_row_key objective rows) (cells_by_name cs) ≡ true
       → Each (λ e. Each (λ cell. cell.0 < length rows + 1) (cells_of e.1)) cs
@@ -321,7 +350,8 @@ module _ (objective : Option ObjectiveParts) (rows : List (List ℕ × RowParts)
 
 -- ---- sorted tables
 
-pub record AreFinished (objective : Option ObjectiveParts) (rows : List (List ℕ × RowParts)) (columns : List (List ℕ × ColumnParts)) (m : ModelParts) : Type 0 where
+pub record AreFinished (objective : Option ObjectiveParts) (rows : List (List ℕ × RowParts))
+    (columns : List (List ℕ × ColumnParts)) (m : ModelParts) : Type 0 where
   pub row_order : List ℕ
   pub column_order : List ℕ
   pub ranks : List ℕ
@@ -340,26 +370,35 @@ part-get : {V X : Type 0} (f : V → X) (es : List (List ℕ × V)) (i : ℕ)
 part-get f (e ∷ es) (suc i) = part-get f es i
 part-get f _ _ = refl
 
-module _ (objective : Option ObjectiveParts) (rows : List (List ℕ × RowParts)) (columns : List (List ℕ × ColumnParts)) (m : ModelParts) (f : AreFinished objective rows columns m) where
+module _ (objective : Option ObjectiveParts) (rows : List (List ℕ × RowParts)) (columns : List (List ℕ × ColumnParts))
+    (m : ModelParts) (f : AreFinished objective rows columns m) where
   -- the names of the later numbers
   later-row : (k : ℕ) → parts.name_of_row_key m (suc k) ≡ option_map (λ e. e.0) (slice_get (entries_at rows f.row_order) k)
-  later-row k = (λ i. option_map (λ (e : List ℕ × Row). e.0) (slice_get (f.rows_are i) k)) ∙ part-get limits_in (entries_at rows f.row_order) k
+  later-row k = (λ i. option_map (λ (e : List ℕ × Row). e.0) (slice_get (f.rows_are i) k))
+      ∙ part-get limits_in (entries_at rows f.row_order) k
 
   later-at : (k : ℕ) → k < length f.row_order
       → parts.name_of_row_key m (suc k) ≡ name_of_row_key objective rows (suc (get_or f.row_order k 0))
   later-at = grind (arith, later-row, get-taken, order_within)
 
-  pub keeps : (n : ℕ) (r : List ℕ) → name_of_row_key objective rows n ≡ Some r → parts.name_of_row_key m (slice_index f.ranks n) ≡ Some r
+  pub keeps : (n : ℕ) (r : List ℕ) → name_of_row_key objective rows n ≡ Some r →
+      parts.name_of_row_key m (slice_index f.ranks n) ≡ Some r
   keeps zero r is = grind arith
-  keeps (suc i) r is = let at = rank_at (length rows) f.row_order f.ranks f.rows_permuted f.ranked i (named-row objective rows i r is) in
+  keeps (suc i) r is = let at = rank_at (length rows) f.row_order f.ranks f.rows_permuted f.ranked i
+      (named-row objective rows i r is) in
       ap (parts.name_of_row_key m) at.3 ∙ later-at at.0 at.1 ∙ ap (λ (k : ℕ). name_of_row_key objective rows (suc k)) at.2 ∙ is
 
   earlier : (k : ℕ) (r : List ℕ) → parts.name_of_row_key m k ≡ Some r
       → (n : ℕ) × (name_of_row_key objective rows n ≡ Some r) × (slice_index f.ranks n ≡ k)
   earlier zero r is = grind arith
   earlier (suc k) r is = let there : k < length f.row_order = placed (sym (later-row k) ∙ is) in
-      let place : suc (get_or f.row_order k 0) ≡ get_or f.row_order k 0 + 1 = omega arith in let next : k + 1 ≡ suc k = omega arith in
-      (suc (get_or f.row_order k 0), sym (later-at k there) ∙ is, ap (λ (n : ℕ). slice_index f.ranks n) place ∙ f.ranked.places k there ∙ next)
+      let place : suc (get_or f.row_order k 0) ≡ get_or f.row_order k 0 + 1 = omega arith in
+      let next : k + 1 ≡ suc k = omega arith in (
+        suc (get_or f.row_order k 0),
+        sym (later-at k there) ∙ is,
+        ap (λ (n : ℕ). slice_index f.ranks n) place
+            ∙ f.ranked.places k there ∙ next,
+      )
     where
       placed : option_map (λ e. e.0) (slice_get (entries_at rows f.row_order) k) ≡ Some r → k < length f.row_order
       placed named =
@@ -370,12 +409,17 @@ module _ (objective : Option ObjectiveParts) (rows : List (List ℕ × RowParts)
           ] refl named
 
   number-below : (n : ℕ) (r : List ℕ) → name_of_row_key objective rows n ≡ Some r → n < length f.ranks
-  number-below n r is = grind (arith, ranks_length (length rows) f.row_order f.ranks f.rows_permuted f.ranked, named-row objective rows)
+  number-below n r is = grind (
+    arith,
+    ranks_length (length rows) f.row_order f.ranks f.rows_permuted f.ranked,
+    named-row
+        objective rows,
+  )
 
   -- ---- coefficients
 
-  lookup-holds : (P : ColumnParts → Type 0) (t : List ℕ → Bool) (cs : List (List ℕ × ColumnParts)) (v : ColumnParts) → Each (λ e. P e.1) cs
-      → lookup t cs ≡ Some v → P v
+  lookup-holds : (P : ColumnParts → Type 0) (t : List ℕ → Bool) (cs : List (List ℕ × ColumnParts)) (v : ColumnParts) →
+      Each (λ e. P e.1) cs → lookup t cs ≡ Some v → P v
   lookup-holds P t [] v h is = cc
   lookup-holds P t (c ∷ cs) v h is = grind (arith, lookup-holds P t cs v h.1)
 
@@ -400,8 +444,9 @@ module _ (objective : Option ObjectiveParts) (rows : List (List ℕ × RowParts)
               find-moved (length f.ranks) (λ k. slice_index f.ranks k)
               (ranks_apart (length rows) f.row_order f.ranks f.rows_permuted f.ranked) k (cells_of v) (number-below k r is)
               (lookup-holds (λ v. Each (λ cell. cell.0 < length f.ranks) (cells_of v)) (λ k. same_bytes c k) columns v
-              (subst (λ (bound : ℕ). Each (λ e. Each (λ cell. cell.0 < bound) (cells_of e.1)) columns) (sym (ranks_length (length rows)
-              f.row_order f.ranks f.rows_permuted f.ranked)) (within-all objective rows columns n.named)) at)
+              (subst (λ (bound : ℕ). Each (λ e. Each (λ cell. cell.0 < bound) (cells_of e.1)) columns)
+              (sym (ranks_length (length rows) f.row_order f.ranks f.rows_permuted f.ranked))
+              (within-all objective rows columns n.named)) at)
         ] refl
         ∙ ap (λ o. unless_zero (option_and_then (find nat_cmp k) o)) (sym (find-each_part cells_of c columns))
 
@@ -413,7 +458,8 @@ module _ (objective : Option ObjectiveParts) (rows : List (List ℕ × RowParts)
         (parts.cells_by_name m)
         (record {
           apart = n.apart;
-          apart_later = λ a b r p q. let x = earlier a r p in let y = earlier b r q in sym x.2
+          apart_later = λ a b r p q. let x = earlier a r p in
+              let y = earlier b r q in sym x.2
               ∙ ap (λ (k : ℕ). slice_index f.ranks k) (n.apart x.0 y.0 r x.1 y.1) ∙ y.2;
           named = all_named_rows objective rows;
           keeps = keeps;
@@ -437,8 +483,9 @@ pub record AreOrdered {V : Type 0} (entries : List (List ℕ × V)) (order : Lis
 
 -- ---- numbers of cells
 
-pub cells_within : (objective : Option ObjectiveParts) (rows : List (List ℕ × RowParts)) (columns : List (List ℕ × ColumnParts)) (bound : ℕ)
-    → AreNumbered objective rows columns → bound ≡ length rows + 1 → All (λ column. All (λ cell. cell.0 < bound) column.1.cells) columns
+pub cells_within : (objective : Option ObjectiveParts) (rows : List (List ℕ × RowParts))
+    (columns : List (List ℕ × ColumnParts)) (bound : ℕ) → AreNumbered objective rows columns → bound ≡ length rows + 1 →
+    All (λ column. All (λ cell. cell.0 < bound) column.1.cells) columns
 cells_within objective rows columns bound n is = grind (arith, all-from_each, within-all objective rows columns n.named)
 
 -- ---- the right-hand side of the objective
@@ -446,7 +493,8 @@ cells_within objective rows columns bound n is = grind (arith, all-from_each, wi
 apart_rows : (o : ObjectiveParts) (rows : List (List ℕ × RowParts)) → ((i : ℕ) (e : List ℕ × RowParts) → slice_get rows i ≡ Some e
     → e.0 ≡ o.name → ⊥) → Each (λ e. eq_by_cmp bytes_cmp e.0 o.name ≡ false) rows
 apart_rows o [] h = tt
-apart_rows o (e ∷ rows) h = grind (arith, h zero e refl, name_same e.0 o.name, apart_rows o rows (λ i d is same. h (suc i) d is same))
+apart_rows o (e ∷ rows) h = grind
+    (arith, h zero e refl, name_same e.0 o.name, apart_rows o rows (λ i d is same. h (suc i) d is same))
 
 pub objective_says : (o : ObjectiveParts) (rows : List (List ℕ × RowParts)) → IsInjective (name_of_row_key (Some o) rows)
     → at_name (sorted_of bytes_cmp (objective_rhs (Some o) ++ given_parts rhs_of rows)) o.name ≡ o.rhs
@@ -454,13 +502,16 @@ objective_says o rows apart =
     let given = given_parts rhs_of rows in
     let none : find bytes_cmp o.name given ≡ None = no_part-found rhs_of o.name rows
     (apart_rows o rows (λ i e is same. let zero_is : zero
-    ≡ suc i = apart zero (suc i) o.name refl (ap (option_map (λ (e : List ℕ × RowParts). e.0)) is ∙ ap Some same) in absurd cc)) in
-    find-sorted_of bytes_cmp bytes_total o.name (objective_rhs (Some o) ++ given) ∙ find-two bytes_cmp o.name (objective_rhs (Some o)) given
-    ∙ (grind (arith, or_else, name_tied))
+    ≡ suc i = apart zero (suc i) o.name refl (ap (option_map (λ (e : List ℕ × RowParts). e.0)) is ∙ ap Some same) in
+    absurd cc)) in
+    find-sorted_of bytes_cmp bytes_total o.name (objective_rhs (Some o) ++ given)
+    ∙ find-two bytes_cmp o.name (objective_rhs (Some o)) given ∙ (grind (arith, or_else, name_tied))
 
-pub constant_is : (sense : Option Sense) (constant : Option Number) (objective : Option ObjectiveParts) (rows : List (List ℕ × RowParts))
-    (columns : List (List ℕ × ColumnParts)) → is_some objective ≡ true → IsInjective (name_of_row_key objective rows) → unwrap_or constant
-    (negated (unwrap_or (rhs_in objective) zero_number)) ≡ constant_of (draft_from sense constant objective rows columns)
+pub constant_is : (sense : Option Sense) (constant : Option Number) (objective : Option ObjectiveParts)
+    (rows : List (List ℕ × RowParts)) (columns : List (List ℕ × ColumnParts)) → is_some objective ≡ true →
+    IsInjective (name_of_row_key objective rows) →
+    unwrap_or constant (negated (unwrap_or (rhs_in objective) zero_number)) ≡ constant_of
+    (draft_from sense constant objective rows columns)
 constant_is = grind (arith, objective_says)
 
 -- ---- the order of entries, as the contracts state it
@@ -476,9 +527,10 @@ names_alike : {V W X : Type 0} (f : W → X) (g : V → X) (made : List (List �
 names_alike f g made entries same n = grind (arith, name_of_part f made n, name_of_part g entries n)
 
 -- the order of entries with the same parts
-pub ordered_alike : {V W X : Type 0} (f : W → X) (g : V → X) (made : List (List ℕ × W)) (entries : List (List ℕ × V)) (order : List ℕ)
-    → each_part f made ≡ each_part g entries → IsPermutation (range_with_len 0 (length made)) order
-    → IsSortedBy (λ n k. is_lt (bytes_cmp (name_at made n) (name_at made k))) order → AreOrdered entries order (entries_at entries order)
+pub ordered_alike : {V W X : Type 0} (f : W → X) (g : V → X) (made : List (List ℕ × W)) (entries : List (List ℕ × V))
+    (order : List ℕ) → each_part f made ≡ each_part g entries → IsPermutation (range_with_len 0 (length made)) order
+    → IsSortedBy (λ n k. is_lt (bytes_cmp (name_at made n) (name_at made k))) order →
+    AreOrdered entries order (entries_at entries order)
 ordered_alike = grind (arith, as_many, names_alike)
 
 -- entries are the whole parts of themselves
@@ -486,7 +538,8 @@ pub each_whole : {X : Type 0} (es : List (List ℕ × X)) → each_part itself e
 each_whole [] = refl
 each_whole {X} (e ∷ es) = grind (arith, each_whole es)
 
-module _ (rows : List (List ℕ × RowParts)) (order : List ℕ) (ordered : List (List ℕ × RowParts)) (o : AreOrdered rows order ordered) where
+module _ (rows : List (List ℕ × RowParts)) (order : List ℕ) (ordered : List (List ℕ × RowParts))
+    (o : AreOrdered rows order ordered) where
   pub few_of : length rows < 4294967295 → length order < 4294967295
   few_of few = search (rules, order_length)
 
@@ -509,7 +562,8 @@ pub record AreMeantParts (all : Draft) (m : ModelParts) : Type 0 where
   pub constant : m.constant ≡ constant_of all
   pub rows : m.rows.items ≡ map (row_entry all) all.rows
   pub columns : columns_in m ≡ map (λ column. (column.0, column_of all column.0)) all.columns
-  pub coefficients : sorted_of key_cmp (all_cells (parts.name_of_row_key m) (parts.cells_by_name m)) ≡ filter is_kept all.coefficients
+  pub coefficients : sorted_of key_cmp (all_cells (parts.name_of_row_key m) (parts.cells_by_name m)) ≡ filter is_kept
+      all.coefficients
 
 pub meant_model : (all : Draft) (m : ModelParts) → AreMeantParts all m → linear_model m ≡ model_of all
 meant_model = grind arith
@@ -519,8 +573,8 @@ pub record AreCells (m : ModelParts) : Type 0 where
   pub sorted : list_all (λ c. is_sorted nat_cmp c.1) (parts.cells_by_name m) ≡ true
   pub named : all_named (parts.name_of_row_key m) (parts.cells_by_name m) ≡ true
 
-pub meant_parts : (all : Draft) (m : ModelParts) → IsMade all → is_some all.objective ≡ true → file_fault all ≡ None → AreMeantParts all m
-    → AreCells m → AreModelParts m
+pub meant_parts : (all : Draft) (m : ModelParts) → IsMade all → is_some all.objective ≡ true → file_fault all ≡ None →
+    AreMeantParts all m → AreCells m → AreModelParts m
 meant_parts all m made there none p cells = grind (
   arith,
   sorted-from_made all made,
@@ -532,8 +586,8 @@ meant_parts all m made there none p cells = grind (
   meant-from_made all made there none,
 )
 
-pub meant_draft : (all : Draft) (m : ModelParts) → IsMade all → is_some all.objective ≡ true → file_fault all ≡ None → AreMeantParts all m
-    → DraftMeans all (linear_model m)
+pub meant_draft : (all : Draft) (m : ModelParts) → IsMade all → is_some all.objective ≡ true → file_fault all ≡ None →
+    AreMeantParts all m → DraftMeans all (linear_model m)
 meant_draft all m made there none p = subst (DraftMeans all) (sym (meant_model all m p)) (meant-from_made all made there none)
 
 -- ---- the cells of a column that are moved
@@ -550,7 +604,8 @@ module _ (P : ℕ → Type 0) where
 moved_sorted : (ranks : List ℕ) (cells : List (ℕ × Number)) → is_sorted nat_cmp (moved_cells ranks cells) ≡ true
 moved_sorted ranks cells = search (rules, is_sorted-filter, true_from, is_sorted-sorted_of)
 
-module _ (objective : Option ObjectiveParts) (rows : List (List ℕ × RowParts)) (columns : List (List ℕ × ColumnParts)) (m : ModelParts) (f : AreFinished objective rows columns m) where
+module _ (objective : Option ObjectiveParts) (rows : List (List ℕ × RowParts)) (columns : List (List ℕ × ColumnParts))
+    (m : ModelParts) (f : AreFinished objective rows columns m) where
   all_sorted : (cs : List (List ℕ × ColumnParts)) → list_all (λ c. is_sorted nat_cmp c.1) (each_part (moved_in f.ranks) cs) ≡ true
   all_sorted [] = refl
   all_sorted (c ∷ cs) = grind (arith, both_so, moved_sorted f.ranks, all_sorted cs)
@@ -560,9 +615,11 @@ module _ (objective : Option ObjectiveParts) (rows : List (List ℕ × RowParts)
   moved_named cells h = let P : ℕ → Type 0 = λ k. is_some (parts.name_of_row_key m k) ≡ true in
       let all = map (λ e. (slice_index f.ranks e.0, e.1)) cells in
       list_all-from_Each (λ e. is_some (parts.name_of_row_key m e.0)) (moved_cells f.ranks cells)
-      (each-kept (λ e. P e.0) (sorted_of nat_cmp all) (each-sorted_of P all (Each-map (λ e. P e.0) (λ e. (slice_index f.ranks e.0, e.1))
-      cells (Each-weaker (λ e. is_some (name_of_row_key objective rows e.0) ≡ true) (λ e. P (slice_index f.ranks e.0))
-      (λ e there. still_named e.0 there) cells (Each-from_list_all (λ e. is_some (name_of_row_key objective rows e.0)) cells h)))))
+      (each-kept (λ e. P e.0) (sorted_of nat_cmp all)
+      (each-sorted_of P all (Each-map (λ e. P e.0) (λ e. (slice_index f.ranks e.0, e.1)) cells
+      (Each-weaker (λ e. is_some (name_of_row_key objective rows e.0) ≡ true) (λ e. P (slice_index f.ranks e.0))
+      (λ e there. still_named e.0 there) cells (Each-from_list_all (λ e. is_some (name_of_row_key objective rows e.0))
+      cells h)))))
     where
       still_named : (k : ℕ) → is_some (name_of_row_key objective rows k) ≡ true
           → is_some (parts.name_of_row_key m (slice_index f.ranks k)) ≡ true
@@ -583,14 +640,16 @@ module _ (objective : Option ObjectiveParts) (rows : List (List ℕ × RowParts)
     sorted = ap (list_all (λ c. is_sorted nat_cmp c.1)) f.cells_are ∙ all_sorted (entries_at columns f.column_order);
     named = ap (all_named (parts.name_of_row_key m)) f.cells_are
         ∙ all_named-from (entries_at columns f.column_order)
-        (each-ordered (λ c. list_all (λ e. is_some (parts.name_of_row_key m e.0)) (moved_in f.ranks c.1) ≡ true) columns f.column_order
-        f.columns_permuted (each_named columns n.named));
+        (each-ordered (λ c. list_all (λ e. is_some (parts.name_of_row_key m e.0)) (moved_in f.ranks c.1) ≡ true) columns
+        f.column_order f.columns_permuted (each_named columns n.named));
   }
 
   -- what sorted tables become in the model
   pub finished_parts : (sense : Option Sense) (constant : Option Number) → AreNumbered objective rows columns
-      → IsOnce (each_part definition_of rows) → IsOnce (each_part no_part columns) → m.sense ≡ unwrap_or sense Minimize → m.constant
-      ≡ constant_of (draft_from sense constant objective rows columns) → AreMeantParts (draft_from sense constant objective rows columns) m
+      → IsOnce (each_part definition_of rows) → IsOnce (each_part no_part columns) →
+      m.sense ≡ unwrap_or sense Minimize →
+      m.constant ≡ constant_of (draft_from sense constant objective rows columns) →
+      AreMeantParts (draft_from sense constant objective rows columns) m
   finished_parts sense constant n rows_once columns_once is_sense is_constant =
       let d = draft_from sense constant objective rows columns in
       record {
@@ -602,7 +661,8 @@ module _ (objective : Option ObjectiveParts) (rows : List (List ℕ × RowParts)
             (rows_say sense constant objective rows columns n.apart rows_once))
             ∙ ap (map (row_entry d)) (ordered_parts definition_of rows f.row_order rows_once f.rows_permuted f.rows_sorted);
         columns = f.bounds_are
-            ∙ columns_meant d (entries_at columns f.column_order) (each-ordered (SaysColumn d) columns f.column_order f.columns_permuted
+            ∙ columns_meant d (entries_at columns f.column_order)
+            (each-ordered (SaysColumn d) columns f.column_order f.columns_permuted
             (columns_say columns columns_once sense constant objective rows))
             ∙ ap (map (λ column. (column.0, column_of d column.0)))
             (ordered_parts no_part columns f.column_order columns_once f.columns_permuted f.columns_sorted);

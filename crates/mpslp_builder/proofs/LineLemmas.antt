@@ -13,10 +13,13 @@ use Prelude.{refusals_in_turn, no_part, name_of_row_key, column_satisfies, entry
 use Prelude.{drop, get_or, not, inl, inr, ◌+◌, ◌≤◌, insert, Err, IfOk, ◌-◌, AllocError, list_any, flat_map, IsErrAnd, lookup, is_gt}
 use Prelude.{is_sorted, slice_get_read, flat_map-append, insert_end, list_any-append, same_bytes, bytes_cmp, OutOfMemory, UnknownRow}
 use Prelude.{DuplicateEntry, put-insert, found_nowhere, place_after, sorted-put, head_of, is_sorted-sorted_of, Answer, term_declared}
-use Prelude.{DeclaresInTurn, HasColumn, AreDeclaredUnless, have_infinite_side, is_legal, IsMade, Answers, those_of, DuplicateRow, InfiniteValue}
-use Rattle.mpslp_builder.specs.{Answer.AnswersTo, Calls.{AddsRow, HasNewRow}, LineTables.{HasPart, Starts}, Stopped.{HasFirstPart, IsStopped}}
+use Prelude.{DeclaresInTurn, HasColumn, AreDeclaredUnless, have_infinite_side, is_legal, IsMade, Answers, those_of}
+use Prelude.{DuplicateRow, InfiniteValue}
+use Rattle.mpslp_builder.specs.{Answer.AnswersTo, Calls.{AddsRow, HasNewRow}, LineTables.{HasPart, Starts}}
+use Rattle.mpslp_builder.specs.Stopped.{HasFirstPart, IsStopped}
 use Prelude.{append-nil, append_assoc, Declaration}
-use Rattle.mpslp_builder_parts.specs.{ColumnTable.{Inserts, number_inserted}, declared.column_table.Inserted.{Inserted, TheVariants.{New, There}}}
+use Rattle.mpslp_builder_parts.specs.ColumnTable.{Inserts, number_inserted}
+use Rattle.mpslp_builder_parts.specs.declared.column_table.Inserted.{Inserted, TheVariants.{New, There}}
 use Prelude.{find-sorted_of, each_part, first_refusal}
 use Rattle.mpslp_builder_parts.specs.Parts.{new_row}
 use Rattle.mpslp_builder.{specs.declared.tables.RowRef.TheVariants.Row, proofs.TableDrafts.{column_draft, column_numbered, kept_numbered}}
@@ -41,7 +44,8 @@ entry_named : {V : Type 0} (o : Option (List ℕ × V)) (k : List ℕ) (v : V) (
 entry_named = grind arith
 
 -- equal tables represent equal drafts
-pub same_tables : (sense : Option Sense) (constant : Option Number) (t u : Tables) → IsSameTables t u → draft sense constant u ≡ draft sense constant t
+pub same_tables : (sense : Option Sense) (constant : Option Number) (t u : Tables) → IsSameTables t u →
+    draft sense constant u ≡ draft sense constant t
 same_tables = grind arith
 
 pub same_numbered : (t u : Tables) → IsSameTables t u → IsNumbered t → IsNumbered u
@@ -56,47 +60,55 @@ row_turned : {P Q R S : Type 0} (there infinite : Bool) (answer : Answer) → in
     → Answers (those_of ((there, DuplicateRow) ∷ (infinite, InfiniteValue) ∷ [])) answer R S
 row_turned = grind arith
 
-row_either : {P Q R : Type 0} (there : Bool) (answer : Answer) → (P → R) → (Q → R) → Answers (those_of ((there, DuplicateRow) ∷ [])) answer P Q → R
+row_either : {P Q R : Type 0} (there : Bool) (answer : Answer) → (P → R) → (Q → R) →
+    Answers (those_of ((there, DuplicateRow) ∷ [])) answer P Q → R
 row_either = grind arith
 
-row_free : (there infinite : Bool) → there ≡ false → infinite ≡ false → those_of ((there, DuplicateRow) ∷ (infinite, InfiniteValue) ∷ []) ≡ []
+row_free : (there infinite : Bool) → there ≡ false → infinite ≡ false →
+    those_of ((there, DuplicateRow) ∷ (infinite, InfiniteValue) ∷ []) ≡ []
 row_free = grind arith
 
 -- a row by limits that no value meets is refused
-pub infinite_answered : (all : Draft) (name : List ℕ) (definition : RowDefinition) (answer : Answer) → have_infinite_side definition ≡ true
-    → answer ≡ first_refusal (refusals all (declare_row name definition)) → (P Q : Type 0) → Q
-    → Answers (refusals all (declare_row name definition)) answer P Q
+pub infinite_answered : (all : Draft) (name : List ℕ) (definition : RowDefinition) (answer : Answer) →
+    have_infinite_side definition ≡ true → answer ≡ first_refusal (refusals all (declare_row name definition)) →
+    (P Q : Type 0) → Q → Answers (refusals all (declare_row name definition)) answer P Q
 infinite_answered = grind arith
 
 module _ (sense : Option Sense) (constant : Option Number) (t u : Tables) where
   -- ---- a row
 
   pub row_added : (k : List ℕ) (definition : RowDefinition) → IsNumbered t
-      → HasRowAdded t k (record { definition = definition; rhs = None; range = None }) u → has_row (draft sense constant t) k ≡ false
-      → draft sense constant u ≡ with_declaration (draft sense constant t) (declare_row k definition)
+      → HasRowAdded t k (record { definition = definition; rhs = None; range = None }) u →
+      has_row (draft sense constant t) k ≡ false →
+      draft sense constant u ≡ with_declaration (draft sense constant t) (declare_row k definition)
   row_added k definition numbered h absent =
       (λ i. draft_from sense constant (h.objective i) (h.rows i) (h.columns i)) ∙ row_draft _ _ _ _ _ k _ numbered absent
 
   pub row_added_numbered : (k : List ℕ) (definition : RowDefinition) → IsNumbered t
       → HasRowAdded t k (record { definition = definition; rhs = None; range = None }) u → length t.rows.entries < 4294967294
       → has_row (draft sense constant t) k ≡ false → IsNumbered u
-  row_added_numbered k definition numbered h few absent = numbered_as _ _ (λ i. (h.objective i, h.rows i, h.columns i)) (row_numbered sense
-      constant t.objective t.rows.entries t.columns.entries k definition numbered few absent)
+  row_added_numbered k definition numbered h few absent =
+      numbered_as _ _ (λ i. (h.objective i, h.rows i, h.columns i))
+      (row_numbered sense constant t.objective t.rows.entries t.columns.entries k definition numbered few absent)
 
   -- a call that adds a row makes its declaration, or changes nothing
-  module _ (k : List ℕ) (given : RowDefinition) (parts : RowParts) (is : parts ≡ new_row given) (finite : have_infinite_side given ≡ false)
-      (numbered : IsNumbered t) (answer : Answer) (h : AddsRow t k parts answer u) where
+  module _ (k : List ℕ) (given : RowDefinition) (parts : RowParts) (is : parts ≡ new_row given)
+      (finite : have_infinite_side given ≡ false) (numbered : IsNumbered t) (answer : Answer)
+      (h : AddsRow t k parts answer u) where
     adds : AddsRow t k (new_row given) answer u
     adds = subst (λ (p : RowParts). AddsRow t k p answer u) is h
 
-    row_declared : HasNewRow t k (new_row given) u → draft sense constant u ≡ with_declaration (draft sense constant t) (declare_row k given)
+    row_declared : HasNewRow t k (new_row given) u →
+        draft sense constant u ≡ with_declaration (draft sense constant t) (declare_row k given)
     row_declared new = row_added k given numbered new.added new.absent
 
-    pub row_answered : (all : Draft) → draft sense constant t ≡ all → AnswersTo all (declare_row k given) answer (draft sense constant u)
+    pub row_answered : (all : Draft) → draft sense constant t ≡ all →
+        AnswersTo all (declare_row k given) answer (draft sense constant u)
     row_answered all seen = subst (λ before. AnswersTo before (declare_row k given) answer (draft sense constant u)) seen
         (row_turned _ _ answer finite row_declared (same_tables sense constant t u) adds)
 
-    pub row_kept : is_legal (declare_row k given) ≡ true → IsMade (draft sense constant t) → IsMade (draft sense constant u) × IsNumbered u
+    pub row_kept : is_legal (declare_row k given) ≡ true → IsMade (draft sense constant t) →
+        IsMade (draft sense constant u) × IsNumbered u
     row_kept legal made = row_either _ answer (λ new. (
       made_after (declare_row k given) (row_declared new) made legal
           (row_free _ _ new.absent finite) refl,
@@ -105,60 +117,70 @@ module _ (sense : Option Sense) (constant : Option Number) (t u : Tables) where
         (λ same. (subst IsMade (sym (same_tables sense constant t u same)) made, same_numbered t u same numbered)) adds
 
   module _ (change : RowParts → RowParts) (i : ℕ) (h : HasRowChanged t i change u) where
-    rows_written : draft sense constant u ≡ draft_from sense constant t.objective (set_value_at t.rows.entries i (change h.parts)) t.columns.entries
+    rows_written : draft sense constant u ≡ draft_from sense constant t.objective
+        (set_value_at t.rows.entries i (change h.parts)) t.columns.entries
     rows_written = λ j. draft_from sense constant (h.written.objective j) (h.written.rows j) (h.written.columns j)
 
     pub row_changed_numbered : IsNumbered t → IsNumbered u
-    row_changed_numbered numbered = numbered_as _ _ (λ j. (h.written.objective j, h.written.rows j, h.written.columns j)) (written_numbered
+    row_changed_numbered numbered =
+        numbered_as _ _ (λ j. (h.written.objective j, h.written.rows j, h.written.columns j)) (written_numbered
         sense constant t.objective t.rows.entries t.columns.entries i h.key h.parts (change h.parts) h.was numbered)
 
-  module _ (numbered : IsNumbered t) (once : IsOnceEach t) (i : ℕ) (r : List ℕ) (row : row_name t (suc i) ≡ Some r) (x : Number) where
+  module _ (numbered : IsNumbered t) (once : IsOnceEach t) (i : ℕ) (r : List ℕ) (row : row_name t (suc i) ≡ Some r)
+      (x : Number) where
     pub range_added : HasRowChanged t i (λ row. record row { range = Some x }) u
         → draft sense constant u ≡ with_declaration (draft sense constant t) (declare_range r x)
-    range_added h = rows_written (λ row. record row { range = Some x }) i h ∙ range_draft _ _ _ _ _ i _ _ _ h.was x numbered once.rows refl
-        ∙ ap (λ name. with_declaration (draft _ _ t) (declare_range name x)) (entry_named (slice_get t.rows.entries i) h.key h.parts r h.was
-        row)
+    range_added h = rows_written (λ row. record row { range = Some x }) i h ∙ range_draft _ _ _ _ _ i _ _ _ h.was x
+        numbered once.rows refl ∙ ap (λ name. with_declaration (draft _ _ t) (declare_range name x))
+        (entry_named (slice_get t.rows.entries i) h.key h.parts r h.was row)
 
     row_rhs_added : HasRowChanged t i (λ row. record row { rhs = Some x }) u
         → draft sense constant u ≡ with_declaration (draft sense constant t) (declare_rhs r x)
-    row_rhs_added h = rows_written (λ row. record row { rhs = Some x }) i h ∙ rhs_draft _ _ _ _ _ i _ _ _ h.was x numbered once.rows refl ∙
-        ap (λ name. with_declaration (draft _ _ t) (declare_rhs name x)) (entry_named (slice_get t.rows.entries i) h.key h.parts r h.was
-        row)
+    row_rhs_added h = rows_written (λ row. record row { rhs = Some x }) i h ∙ rhs_draft _ _ _ _ _ i _ _ _ h.was x
+        numbered once.rows refl ∙ ap (λ name. with_declaration (draft _ _ t) (declare_rhs name x))
+        (entry_named (slice_get t.rows.entries i) h.key h.parts r h.was row)
 
   -- ---- the objective
 
-  pub objective_named : (name : List ℕ) → IsNumbered t → t.objective ≡ None → HasObjective t (record { name = name; rhs = None }) u
-      → draft sense constant u ≡ with_declaration (draft sense constant t) (declare_objective name)
+  pub objective_named : (name : List ℕ) → IsNumbered t → t.objective ≡ None →
+      HasObjective t (record { name = name; rhs = None }) u →
+      draft sense constant u ≡ with_declaration (draft sense constant t) (declare_objective name)
   objective_named name numbered none h = (λ i. draft_from sense constant (h.objective i) (h.rows i) (h.columns i))
       ∙ objective_draft sense constant name t.rows.entries t.columns.entries
       (subst (λ (o : Option ObjectiveParts). AreNumbered o t.rows.entries t.columns.entries) none numbered)
-      ∙ ap (λ (o : Option ObjectiveParts). with_declaration (draft_from sense constant o t.rows.entries t.columns.entries) (declare_objective name)) (sym none)
+      ∙ ap (λ (o : Option ObjectiveParts). with_declaration
+      (draft_from sense constant o t.rows.entries t.columns.entries) (declare_objective name)) (sym none)
 
-  pub objective_named_numbered : (name : List ℕ) → IsNumbered t → t.objective ≡ None → HasObjective t (record { name = name; rhs = None }) u
-      → has_row (draft sense constant t) name ≡ false → IsNumbered u
-  objective_named_numbered name numbered none h absent = numbered_as _ _ (λ i. (h.objective i, h.rows i, h.columns i)) (objective_numbered
-      sense constant name t.rows.entries t.columns.entries (subst (λ (o : Option ObjectiveParts). AreNumbered o t.rows.entries
-      t.columns.entries) none numbered) (ap (λ (o : Option ObjectiveParts). has_row (draft_from sense constant o t.rows.entries
+  pub objective_named_numbered : (name : List ℕ) → IsNumbered t → t.objective ≡ None →
+      HasObjective t (record { name = name; rhs = None }) u → has_row (draft sense constant t) name ≡ false → IsNumbered u
+  objective_named_numbered name numbered none h absent =
+      numbered_as _ _ (λ i. (h.objective i, h.rows i, h.columns i))
+      (objective_numbered sense constant name t.rows.entries t.columns.entries
+      (subst (λ (o : Option ObjectiveParts). AreNumbered o t.rows.entries t.columns.entries) none numbered)
+      (ap (λ (o : Option ObjectiveParts). has_row (draft_from sense constant o t.rows.entries
       t.columns.entries) name) (sym none) ∙ absent))
 
   module _ (x : Number) (h : HasObjectiveChanged t (λ o. record o { rhs = Some x }) u) where
     objective_rhs_added : (r : List ℕ) → row_name t zero ≡ Some r → h.parts.rhs ≡ None
         → draft sense constant u ≡ with_declaration (draft sense constant t) (declare_rhs r x)
-    objective_rhs_added r is none = let name : h.parts.name ≡ r = let both = sym (ap name_of_objective h.was) ∙ is in cc in (λ i. draft_from
-        sense constant (h.written.objective i) (h.written.rows i) (h.written.columns i)) ∙ objective_rhs_draft _ _ _ x _ t.columns.entries
-        none ∙ (λ i. with_declaration (draft_from sense constant (sym h.was i) t.rows.entries t.columns.entries) (declare_rhs (name i) x))
+    objective_rhs_added r is none = let name : h.parts.name ≡ r = let both = sym (ap name_of_objective h.was) ∙ is in
+        cc in (λ i. draft_from sense constant (h.written.objective i) (h.written.rows i) (h.written.columns i))
+        ∙ objective_rhs_draft _ _ _ x _ t.columns.entries none
+        ∙ (λ i. with_declaration (draft_from sense constant (sym h.was i) t.rows.entries t.columns.entries)
+        (declare_rhs (name i) x))
 
     objective_rhs_numbered_too : IsNumbered t → IsNumbered u
     objective_rhs_numbered_too numbered = numbered_as _ _ (λ i. (h.written.objective i, h.written.rows i, h.written.columns i))
-        (objective_rhs_numbered sense constant h.parts x t.rows.entries t.columns.entries (subst (λ (o : Option ObjectiveParts). AreNumbered
-        o t.rows.entries t.columns.entries) h.was numbered))
+        (objective_rhs_numbered sense constant h.parts x t.rows.entries t.columns.entries
+        (subst (λ (o : Option ObjectiveParts). AreNumbered o t.rows.entries t.columns.entries) h.was numbered))
 
   no_rhs : (value : Option Number) (b : Bool) → (is_some value || b) ≡ false → value ≡ None
   no_rhs = grind arith
 
   -- a right-hand side that was not declared
-  pub rhs_added : IsNumbered t → IsOnceEach t → (p : RowRef) (r : List ℕ) (x : Number) (b : Bool) → row_name t (row_key_of p) ≡ Some r
-      → row_satisfies t p (λ o. is_some o.rhs || b) (λ row. is_some row.rhs || is_definition_by_limits row.definition) ≡ false
+  pub rhs_added : IsNumbered t → IsOnceEach t → (p : RowRef) (r : List ℕ) (x : Number) (b : Bool) →
+      row_name t (row_key_of p) ≡ Some r →
+      row_satisfies t p (λ o. is_some o.rhs || b) (λ row. is_some row.rhs || is_definition_by_limits row.definition) ≡ false
       → HasRhsPut t p x u → draft sense constant u ≡ with_declaration (draft sense constant t) (declare_rhs r x)
   rhs_added numbered once Objective r x b is absent h = grind (arith, no_rhs)
   rhs_added numbered once (Row i) r x b is absent h = row_rhs_added numbered once i r is x h
@@ -175,11 +197,13 @@ module _ (sense : Option Sense) (constant : Option Number) (t u : Tables) where
       (λ i. draft_from sense constant (h.objective i) (h.rows i) (h.columns i)) ∙ column_draft _ _ _ _ t.columns.entries k absent
 
   pub column_added_numbered : (k : List ℕ) → HasColumnAdded t k new_column u → IsNumbered t → IsNumbered u
-  column_added_numbered k h numbered = numbered_as _ _ (λ i. (h.objective i, h.rows i, h.columns i)) (column_numbered sense constant
-      t.objective t.rows.entries t.columns.entries k numbered)
+  column_added_numbered k h numbered =
+      numbered_as _ _ (λ i. (h.objective i, h.rows i, h.columns i))
+      (column_numbered sense constant t.objective t.rows.entries t.columns.entries k numbered)
 
   module _ (change : ColumnParts → ColumnParts) (i : ℕ) (h : HasColumnChanged t i change u) where
-    columns_written : draft sense constant u ≡ draft_from sense constant t.objective t.rows.entries (set_value_at t.columns.entries i (change h.parts))
+    columns_written : draft sense constant u ≡ draft_from sense constant t.objective t.rows.entries
+        (set_value_at t.columns.entries i (change h.parts))
     columns_written = λ j. draft_from sense constant (h.written.objective j) (h.written.rows j) (h.written.columns j)
 
     numbered_written : AreNumbered t.objective t.rows.entries (set_value_at t.columns.entries i (change h.parts)) → IsNumbered u
@@ -188,18 +212,22 @@ module _ (sense : Option Sense) (constant : Option Number) (t u : Tables) where
     -- a change that keeps the coefficients keeps their numbers
     pub column_changed_numbered : cells_of (change h.parts) ≡ cells_of h.parts → IsNumbered t → IsNumbered u
     column_changed_numbered kept numbered = numbered_written
-        (kept_numbered sense constant t.objective t.rows.entries t.columns.entries i h.key h.parts h.was (change h.parts) kept numbered)
+        (kept_numbered sense constant t.objective t.rows.entries t.columns.entries i h.key h.parts h.was
+        (change h.parts) kept numbered)
 
   module _ (once : IsOnceEach t) (i : ℕ) (c : List ℕ) (column : column_name t i ≡ Some c) where
     -- what is declared of the name of the entry is declared of the name of the number
-    by_name : (change : ColumnParts → ColumnParts) (h : HasColumnChanged t i change u) (after : List ℕ → Draft) → draft_from sense constant
-        t.objective t.rows.entries (set_value_at t.columns.entries i (change h.parts)) ≡ after h.key → draft sense constant u ≡ after c
-    by_name change h after is = columns_written _ i h ∙ is ∙ ap after (entry_named (slice_get t.columns.entries i) h.key h.parts c h.was column)
+    by_name : (change : ColumnParts → ColumnParts) (h : HasColumnChanged t i change u) (after : List ℕ → Draft) →
+        draft_from sense constant t.objective t.rows.entries (set_value_at t.columns.entries i (change h.parts)) ≡ after
+        h.key → draft sense constant u ≡ after c
+    by_name change h after is = columns_written _ i h ∙ is
+        ∙ ap after (entry_named (slice_get t.columns.entries i) h.key h.parts c h.was column)
 
     pub mark_added : HasColumnChanged t i (λ parts. record parts { marked = true }) u
         → draft sense constant u ≡ with_declaration (draft sense constant t) (declare_marked c)
-    mark_added h = by_name (λ parts. record parts { marked = true }) h (λ name. with_declaration _ (declare_marked name)) (mark_draft sense
-        constant t.objective t.rows.entries t.columns.entries i h.key h.parts h.was once.columns)
+    mark_added h = by_name (λ parts. record parts { marked = true }) h
+        (λ name. with_declaration _ (declare_marked name))
+        (mark_draft sense constant t.objective t.rows.entries t.columns.entries i h.key h.parts h.was once.columns)
 
     pub integer_added : HasColumnChanged t i (λ parts. record parts { integer = true }) u
         → draft sense constant u ≡ with_declaration (draft sense constant t) (declare_integer c)
@@ -208,38 +236,41 @@ module _ (sense : Option Sense) (constant : Option Number) (t u : Tables) where
 
     pub binary_added : HasColumnChanged t i (λ parts. record parts { binary = true }) u
         → draft sense constant u ≡ with_declaration (draft sense constant t) (declare_binary c)
-    binary_added h = by_name (λ parts. record parts { binary = true }) h (λ name. with_declaration _ (declare_binary name)) (binary_draft
-        sense constant t.objective t.rows.entries t.columns.entries i h.key h.parts h.was once.columns)
+    binary_added h = by_name (λ parts. record parts { binary = true }) h
+        (λ name. with_declaration _ (declare_binary name))
+        (binary_draft sense constant t.objective t.rows.entries t.columns.entries i h.key h.parts h.was once.columns)
 
     pub semi_added : HasColumnChanged t i (λ parts. record parts { semi = true }) u
         → draft sense constant u ≡ with_declaration (draft sense constant t) (declare_semi c)
-    semi_added h = by_name (λ parts. record parts { semi = true }) h (λ name. with_declaration _ (declare_semi name)) (semi_draft sense
-        constant t.objective t.rows.entries t.columns.entries i h.key h.parts h.was once.columns)
+    semi_added h = by_name (λ parts. record parts { semi = true }) h (λ name. with_declaration _ (declare_semi name))
+        (semi_draft sense constant t.objective t.rows.entries t.columns.entries i h.key h.parts h.was once.columns)
 
     pub sides_added : (lower upper : Option Limit) → HasColumnChanged t i (with_bounds lower upper) u
         → draft sense constant u ≡ with_declarations (draft sense constant t) (bounds_declared c lower upper)
-    sides_added lower upper h = by_name _ h (λ name. with_declarations _ (bounds_declared name lower upper)) (sides_draft sense constant
-        t.objective t.rows.entries t.columns.entries i h.key h.parts h.was lower upper once.columns)
+    sides_added lower upper h = by_name _ h (λ name. with_declarations _ (bounds_declared name lower upper))
+        (sides_draft sense constant t.objective t.rows.entries t.columns.entries i h.key h.parts h.was lower upper once.columns)
 
-    module _ (numbered : IsNumbered t) (n : ℕ) (r : List ℕ) (row : row_name t n ≡ Some r) (x : Number) (h : HasColumnChanged t i (with_cell n x) u) where
+    module _ (numbered : IsNumbered t) (n : ℕ) (r : List ℕ) (row : row_name t n ≡ Some r) (x : Number)
+        (h : HasColumnChanged t i (with_cell n x) u) where
       pub cell_added : find nat_cmp n (cells_at t i) ≡ None
           → draft sense constant u ≡ with_declaration (draft sense constant t) (declare_coefficient (at r c) x)
-      cell_added absent = by_name _ h (λ k. with_declaration _ (declare_coefficient (at r k) x)) (cell_draft sense constant t.objective
-          t.rows.entries t.columns.entries i h.key h.parts h.was numbered n r row x once.columns (ap (λ (k : List ℕ). has_coefficient (draft
-          sense constant t) (at r k)) (entry_named (slice_get t.columns.entries i) h.key h.parts c h.was column) ∙ cell_at sense constant t
+      cell_added absent = by_name _ h (λ k. with_declaration _ (declare_coefficient (at r k) x))
+          (cell_draft sense constant t.objective t.rows.entries t.columns.entries i h.key h.parts h.was numbered n r row
+          x once.columns (ap (λ (k : List ℕ). has_coefficient (draft sense constant t) (at r k))
+          (entry_named (slice_get t.columns.entries i) h.key h.parts c h.was column) ∙ cell_at sense constant t
           once i c (entry_at t.columns.entries i c column) n r numbered row ∙ ap is_some absent))
 
       pub cell_added_numbered : IsNumbered u
-      cell_added_numbered = numbered_written _ i h (cell_numbered sense constant t.objective t.rows.entries t.columns.entries i h.key
-          h.parts h.was numbered n r row x)
+      cell_added_numbered = numbered_written _ i h
+          (cell_numbered sense constant t.objective t.rows.entries t.columns.entries i h.key h.parts h.was numbered n r row x)
 
 -- ---- lines of a column by number: what each step declares, and what is still known after it
 
 -- ---- entries by number
 
 -- and is there
-written_there : {V X : Type 0} (f : V → X) (d : X) (es : List (List ℕ × V)) (i : ℕ) (k : List ℕ) (v w : V) → slice_get es i ≡ Some (k, v)
-    → option_map_or (λ e. f e.1) (slice_get (set_value_at es i w) i) d ≡ f w
+written_there : {V X : Type 0} (f : V → X) (d : X) (es : List (List ℕ × V)) (i : ℕ) (k : List ℕ) (v w : V) →
+    slice_get es i ≡ Some (k, v) → option_map_or (λ e. f e.1) (slice_get (set_value_at es i w) i) d ≡ f w
 written_there f d [] i k v w h = cc
 written_there f d (e ∷ es) zero k v w h = refl
 written_there f d (e ∷ es) (suc i) k v w h = written_there f d es i k v w h
@@ -300,7 +331,8 @@ laid_then t u v ds es a b = record {
 }
 
 laid_same : (t u v : Tables) (ds : Declarations) → AreDeclared t ds u → IsSameTables u v → AreDeclared t ds v
-laid_same t u v ds laid same = record { free = laid.free; declared = λ sense constant. same_tables sense constant u v same ∙ laid.declared sense constant }
+laid_same t u v ds laid same =
+    record { free = laid.free; declared = λ sense constant. same_tables sense constant u v same ∙ laid.declared sense constant }
 
 -- ---- a first part of declarations
 
@@ -340,8 +372,9 @@ first_part sense constant t u ds part = record {
 }
 
 -- a column that is declared may be declared again
-pub part_next : (earlier later : Draft) (column : List ℕ) (more : Declarations) → with_declaration earlier (declare_column column) ≡ earlier
-    → HasFirstPart earlier more later → HasFirstPart earlier (declare_column column ∷ more) later
+pub part_next : (earlier later : Draft) (column : List ℕ) (more : Declarations) →
+    with_declaration earlier (declare_column column) ≡ earlier → HasFirstPart earlier more later →
+    HasFirstPart earlier (declare_column column ∷ more) later
 part_next earlier later column more again part = record {
   made = declare_column column ∷ part.made;
   left = part.left;
@@ -377,10 +410,12 @@ module _ (t u : Tables) (numbered : IsNumbered t) where
   module _ (once : IsOnceEach t) (i : ℕ) where
     -- ---- the mark
 
-    module _ (h : HasColumnChanged t i (λ parts. record parts { marked = true }) u) (semi : column_satisfies t i (λ parts. parts.semi) ≡ false) where
+    module _ (h : HasColumnChanged t i (λ parts. record parts { marked = true }) u)
+        (semi : column_satisfies t i (λ parts. parts.semi) ≡ false) where
       mark_free : (c : List ℕ) → column_name t i ≡ Some c → (sense : Option Sense) (constant : Option Number)
           → refusals (draft sense constant t) (declare_marked c) ≡ []
-      mark_free c is sense constant = integer_stated constant t once i c is (number_there no_part t.columns.entries i c is) _ (sym semi)
+      mark_free c is sense constant =
+          integer_stated constant t once i c is (number_there no_part t.columns.entries i c is) _ (sym semi)
 
       mark_draft_line : (c : List ℕ) → column_name t i ≡ Some c → (sense : Option Sense) (constant : Option Number)
           → draft sense constant u ≡ with_declaration (draft sense constant t) (declare_marked c)
@@ -403,15 +438,17 @@ module _ (t u : Tables) (numbered : IsNumbered t) where
 
       pub mark_cells : cells_at u i ≡ cells_at t i
       mark_cells =
-          let change : ColumnParts → ColumnParts = λ parts. record parts { marked = true } in cells_are _ i h ∙ sym (cells_were change i h)
+          let change : ColumnParts → ColumnParts = λ parts. record parts { marked = true } in
+          cells_are _ i h ∙ sym (cells_were change i h)
 
     -- ---- a coefficient
 
-    module _ (n : ℕ) (r : List ℕ) (row : row_name t n ≡ Some r) (x : Number) (h : HasColumnChanged t i (with_cell n x) u) (absent : find nat_cmp n (cells_at t i) ≡ None) where
+    module _ (n : ℕ) (r : List ℕ) (row : row_name t n ≡ Some r) (x : Number)
+        (h : HasColumnChanged t i (with_cell n x) u) (absent : find nat_cmp n (cells_at t i) ≡ None) where
       cell_free : (c : List ℕ) → column_name t i ≡ Some c → (sense : Option Sense) (constant : Option Number)
           → refusals (draft sense constant t) (declare_coefficient (at r c) x) ≡ []
-      cell_free c is sense constant = cell_stated constant t once i c is (number_there no_part t.columns.entries i c is) n r _ numbered row
-          (row_there None constant t n r row) (sym (ap is_some absent))
+      cell_free c is sense constant = cell_stated constant t once i c is (number_there no_part t.columns.entries i c is)
+          n r _ numbered row (row_there None constant t n r row) (sym (ap is_some absent))
 
       cell_draft_line : (c : List ℕ) → column_name t i ≡ Some c → (sense : Option Sense) (constant : Option Number)
           → draft sense constant u ≡ with_declaration (draft sense constant t) (declare_coefficient (at r c) x)
@@ -425,15 +462,16 @@ module _ (t u : Tables) (numbered : IsNumbered t) where
           let c = h.key in
           let is = own_name _ i h in record {
             numbered = cell_added_numbered None None t u once i c is numbered n r row x h;
-            made = λ sense constant made. made_after (declare_coefficient (at r c) x) (cell_draft_line c is sense constant) made decimal
-                (cell_free c is sense constant) refl;
+            made = λ sense constant made. made_after (declare_coefficient (at r c) x)
+                (cell_draft_line c is sense constant) made decimal (cell_free c is sense constant) refl;
             rows = rows_same _ i h;
             columns = columns_same _ i h;
           }
 
       pub cell_others : (m : ℕ) → m ≢ n → find nat_cmp m (cells_at u i) ≡ find nat_cmp m (cells_at t i)
-      cell_others m other = ap (find nat_cmp m) (cells_are (with_cell n x) i h) ∙ find-put _ nat_cmp_total m n x _ ∙ ap (λ b. cond b (Some
-          x) (find nat_cmp m (cells_of h.parts))) (apart (nat_cmp m n) refl) ∙ ap (find nat_cmp m) (sym (cells_were (with_cell n x) i h))
+      cell_others m other = ap (find nat_cmp m) (cells_are (with_cell n x) i h) ∙ find-put _ nat_cmp_total m n x _
+          ∙ ap (λ b. cond b (Some x) (find nat_cmp m (cells_of h.parts))) (apart (nat_cmp m n) refl)
+          ∙ ap (find nat_cmp m) (sym (cells_were (with_cell n x) i h))
         where
           apart : (o : Ordering) → nat_cmp m n ≡ o → is_eq o ≡ false
           apart Less is = refl
@@ -469,8 +507,8 @@ module _ (t u : Tables) (numbered : IsNumbered t) where
         }
 
 -- a column that is inserted
-module _ (t u : Tables) (numbered : IsNumbered t) (name : List ℕ) (legal : is_mps_name name ≡ true) (objective : u.objective ≡ t.objective)
-    (rows : u.rows.entries ≡ t.rows.entries) where
+module _ (t u : Tables) (numbered : IsNumbered t) (name : List ℕ) (legal : is_mps_name name ≡ true)
+    (objective : u.objective ≡ t.objective) (rows : u.rows.entries ≡ t.rows.entries) where
   pub inserted : (r : Result Inserted AllocError) → Inserts t.columns name r u.columns → Follows t u × Starts t name r u
   inserted (Ok (New n)) h =
       let absent = ap is_some (find-sorted_of bytes_cmp bytes_total name (each_part no_part t.columns.entries) ∙ h.0) in
@@ -478,8 +516,10 @@ module _ (t u : Tables) (numbered : IsNumbered t) (name : List ℕ) (legal : is_
         start_follows t u numbered name added absent legal,
         (absent, subst (λ n. HasStarted t name n u) (sym h.1) (started t u numbered name added absent)),
       )
-  inserted (Ok (There n)) h = let same : IsSameTables t u = record { objective = objective; rows = rows; columns = h.2 } in (follows_same t u numbered same, (h.1, same))
-  inserted (Err e) h = let same : IsSameTables t u = record { objective = objective; rows = rows; columns = h } in (follows_same t u numbered same, same)
+  inserted (Ok (There n)) h = let same : IsSameTables t u =
+      record { objective = objective; rows = rows; columns = h.2 } in (follows_same t u numbered same, (h.1, same))
+  inserted (Err e) h = let same : IsSameTables t u = record { objective = objective; rows = rows; columns = h } in
+      (follows_same t u numbered same, same)
 
 -- a column that is declared may be declared again
 pub taken_next : (earlier later : Draft) (column : List ℕ) (more : Declarations)
@@ -500,24 +540,29 @@ pub above_absent : (name : List ℕ) (terms : Terms) → is_sorted bytes_cmp ter
 above_absent = grind (arith, place_after, bytes_total, found_nowhere, arith)
 
 -- and comes after all
-pub above_sorted : (name : List ℕ) (value : Number) (terms : Terms) → is_sorted bytes_cmp terms ≡ true → option_map_or (λ last. is_gt
-    (bytes_cmp name last.0)) (slice_get terms (length terms - 1)) true ≡ true → is_sorted bytes_cmp (terms ++ (name, value) ∷ []) ≡ true
+pub above_sorted : (name : List ℕ) (value : Number) (terms : Terms) → is_sorted bytes_cmp terms ≡ true →
+    option_map_or (λ last. is_gt (bytes_cmp name last.0)) (slice_get terms (length terms - 1)) true ≡ true →
+    is_sorted bytes_cmp (terms ++ (name, value) ∷ []) ≡ true
 above_sorted name value terms sorted above = let following = place_after bytes_cmp bytes_total name terms sorted above in
     ap (is_sorted bytes_cmp) (sym (insert_end terms (name, value)) ∙ ap (λ (i : ℕ). insert terms i (name, value)) following
-    ∙ sym (put-insert bytes_cmp name value terms (above_absent name terms sorted above))) ∙ sorted-put bytes_cmp bytes_total name value terms sorted
+    ∙ sym (put-insert bytes_cmp name value terms (above_absent name terms sorted above)))
+    ∙ sorted-put bytes_cmp bytes_total name value terms sorted
 
 -- a name is among those of terms if it is found
-pub any-found : (name : List ℕ) (terms : Terms) → list_any (λ term. same_bytes name term.0) terms ≡ is_some (find bytes_cmp name terms)
+pub any-found : (name : List ℕ) (terms : Terms) →
+    list_any (λ term. same_bytes name term.0) terms ≡ is_some (find bytes_cmp name terms)
 any-found name terms = sym (any-name name terms) ∙ one_of-names name terms
 
-pub any-looked_up : (name : List ℕ) (terms : Terms) → list_any (λ term. same_bytes name term.0) terms ≡ is_some (lookup (same_bytes name) terms)
+pub any-looked_up : (name : List ℕ) (terms : Terms) →
+    list_any (λ term. same_bytes name term.0) terms ≡ is_some (lookup (same_bytes name) terms)
 any-looked_up name [] = refl
 any-looked_up name (term ∷ terms) = grind (arith, any-looked_up name terms)
 
 -- in two lists one after the other
 pub any-both : (name : List ℕ) (first more : Terms) (b : Bool) → list_any (λ term. same_bytes name term.0) first ≡ false
     → list_any (λ term. same_bytes name term.0) more ≡ b → list_any (λ term. same_bytes name term.0) (first ++ more) ≡ b
-any-both name first more b absent is = grind (arith, list_any-append (λ (term : List ℕ × Number). same_bytes name term.0) first more)
+any-both name first more b absent is =
+    grind (arith, list_any-append (λ (term : List ℕ × Number). same_bytes name term.0) first more)
 
 pub any-none : (name : List ℕ) (terms : Terms) → length terms ≡ 0 → list_any (λ term. same_bytes name term.0) terms ≡ false
 any-none name [] h = refl
@@ -525,8 +570,9 @@ any-none name (term ∷ terms) h = absurd (omega arith)
 
 -- a name that is not in the first list
 pub any-more : (name key : List ℕ) (first more all : Terms) (r : Result Bool AllocError) → first ++ more ≡ all → key ≡ name
-    → list_any (λ term. same_bytes name term.0) first ≡ false → IfOk r (λ is_new. list_any (λ term. same_bytes key term.0) more ≡ not is_new)
-    → IfOk r (λ is_new. list_any (λ term. same_bytes name term.0) all ≡ not is_new)
+    → list_any (λ term. same_bytes name term.0) first ≡ false →
+    IfOk r (λ is_new. list_any (λ term. same_bytes key term.0) more ≡ not is_new) →
+    IfOk r (λ is_new. list_any (λ term. same_bytes name term.0) all ≡ not is_new)
 any-more = grind (arith, any-both)
 
 -- ---- steps
@@ -554,25 +600,27 @@ unless_then t u v ds es (Err fault) a (inl before) = inl (record {
   made = ds ++ before.made;
   rejected = before.rejected;
   left = before.left;
-  parts = ap (λ (more : Declarations). ds ++ more) before.parts ∙ sym (append_assoc ds before.made (before.rejected ∷ before.left));
+  parts = ap (λ (more : Declarations). ds ++ more) before.parts
+      ∙ sym (append_assoc ds before.made (before.rejected ∷ before.left));
   declared = laid_then t u v ds before.made a before.declared;
   error = before.error;
 })
 unless_then t u v ds es (Err fault) a (inr none) = inr (none.0, part_then t u v ds es a none.1)
 
 -- there is no memory
-pub unless_memory : (t u : Tables) (ds : Declarations) (answer : Answer) → IsErrAnd answer (λ fault. fault ≡ OutOfMemory) → HasPart t ds u
-    → AreDeclaredUnless t ds answer u
+pub unless_memory : (t u : Tables) (ds : Declarations) (answer : Answer) →
+    IsErrAnd answer (λ fault. fault ≡ OutOfMemory) → HasPart t ds u → AreDeclaredUnless t ds answer u
 unless_memory t u ds (Ok x) none part = absurd none
 unless_memory t u ds (Err fault) none part = inr (none, part)
 
 -- the error that is reported
-pub unless_reported : (t u : Tables) (ds : Declarations) (answer : Answer) (fault : BuildFault) → IsErrAnd answer (λ stated. stated ≡ fault)
-    → AreDeclaredUnless t ds (Err fault) u → AreDeclaredUnless t ds answer u
+pub unless_reported : (t u : Tables) (ds : Declarations) (answer : Answer) (fault : BuildFault) →
+    IsErrAnd answer (λ stated. stated ≡ fault) → AreDeclaredUnless t ds (Err fault) u → AreDeclaredUnless t ds answer u
 unless_reported t u ds (Ok x) fault stated h = absurd stated
 unless_reported t u ds (Err other) fault stated h = subst (λ (f : BuildFault). AreDeclaredUnless t ds (Err f) u) (sym stated) h
 
-head-first : (faults more : List BuildFault) (fault : BuildFault) → head_of faults ≡ Some fault → head_of (faults ++ more) ≡ Some fault
+head-first : (faults more : List BuildFault) (fault : BuildFault) → head_of faults ≡ Some fault →
+    head_of (faults ++ more) ≡ Some fault
 head-first = grind arith
 
 -- an error of the first declarations is that of all
@@ -589,8 +637,9 @@ unless_err t u ds es fault (inl before) = inl (record {
 unless_err t u ds es fault (inr none) = inr (none.0, part_more t u ds es none.1)
 
 -- the coefficient is declared already
-pub taken_place : (t : Tables) (once : IsOnceEach t) (numbered : IsNumbered t) (n i : ℕ) (r c : List ℕ) (x : Number) → column_name t i ≡ Some c
-    → row_name t n ≡ Some r → true ≡ is_some (find nat_cmp n (cells_at t i)) → AreDeclaredUnless t (entry_declared c (r, x)) (Err DuplicateEntry) t
+pub taken_place : (t : Tables) (once : IsOnceEach t) (numbered : IsNumbered t) (n i : ℕ) (r c : List ℕ) (x : Number) →
+    column_name t i ≡ Some c → row_name t n ≡ Some r → true ≡ is_some (find nat_cmp n (cells_at t i)) →
+    AreDeclaredUnless t (entry_declared c (r, x)) (Err DuplicateEntry) t
 taken_place t once numbered n i r c x column row stated = inl (record {
   made = [];
   rejected = declare_coefficient (at r c) x;
@@ -598,7 +647,8 @@ taken_place t once numbered n i r c x column row stated = inl (record {
   parts = refl;
   declared = laid_none t;
   error = λ sense constant. ap head_of
-      (cell_stated constant t once i c column (number_there no_part t.columns.entries i c column) n r true numbered row (row_there None constant t n r row) stated);
+      (cell_stated constant t once i c column (number_there no_part t.columns.entries i c column) n r true numbered row
+      (row_there None constant t n r row) stated);
 })
 
 -- a coefficient of any row that there is
@@ -616,7 +666,8 @@ pub cell_others_there : (t u : Tables) → IsNumbered t → IsOnceEach t → (i 
     → find nat_cmp m (cells_at u i) ≡ find nat_cmp m (cells_at t i)
 cell_others_there t u numbered once i n row x h absent m other = by _ refl row
   where
-    by : (name : Option (List ℕ)) → row_name t n ≡ name → is_some name ≡ true → find nat_cmp m (cells_at u i) ≡ find nat_cmp m (cells_at t i)
+    by : (name : Option (List ℕ)) → row_name t n ≡ name → is_some name ≡ true →
+        find nat_cmp m (cells_at u i) ≡ find nat_cmp m (cells_at t i)
     by None is there = cc
     by (Some name) is there = cell_others t u numbered once i n _ is x h absent m other
 
@@ -632,12 +683,14 @@ rest_at f (y ∷ xs) (suc k) x h = rest_at f xs k x h
 abbrev pub Decides : Tables → Declarations → Tables → Declarations → Type 0
 Decides u left t all = (answer : Answer) (v : Tables) → AreDeclaredUnless u left answer v → AreDeclaredUnless t all answer v
 
-pub decides_next : (t u v : Tables) (first left all : Declarations) → AreDeclared u first v → Decides u (first ++ left) t all → Decides v left t all
+pub decides_next : (t u v : Tables) (first left all : Declarations) → AreDeclared u first v →
+    Decides u (first ++ left) t all → Decides v left t all
 decides_next = grind (arith, unless_then)
 
 -- an error of the next of these declarations decides
-pub decides_err : (t u v : Tables) (first left all : Declarations) (answer : Answer) (fault : BuildFault) → IsErrAnd answer (λ stated.
-    stated ≡ fault) → AreDeclaredUnless u first (Err fault) v → Decides u (first ++ left) t all → AreDeclaredUnless t all answer v
+pub decides_err : (t u v : Tables) (first left all : Declarations) (answer : Answer) (fault : BuildFault) →
+    IsErrAnd answer (λ stated. stated ≡ fault) → AreDeclaredUnless u first (Err fault) v →
+    Decides u (first ++ left) t all → AreDeclaredUnless t all answer v
 decides_err t u v first left all answer fault stated refused before =
     before _ v (unless_reported u v (first ++ left) answer fault stated (unless_err u v first left fault refused))
 
@@ -646,8 +699,8 @@ pub decides_all : (t u : Tables) (all : Declarations) → Decides u [] t all →
 decides_all t u all before = before (Ok tt) u (laid_none u)
 
 -- the error is the first one of the declarations
-first_of_all : (all : Draft) (made left : Declarations) (rejected : Declaration) (fault : BuildFault) → refusals_in_turn all made ≡ []
-    → head_of (refusals (with_declarations all made) rejected) ≡ Some fault
+first_of_all : (all : Draft) (made left : Declarations) (rejected : Declaration) (fault : BuildFault) →
+    refusals_in_turn all made ≡ [] → head_of (refusals (with_declarations all made) rejected) ≡ Some fault
     → head_of (refusals_in_turn all (made ++ rejected ∷ left)) ≡ Some fault
 first_of_all all made left rejected fault free is =
     ap head_of (
@@ -663,7 +716,8 @@ in_turn sense constant t u ds (Ok x) laid = (laid.free sense constant, laid.decl
 in_turn sense constant t u ds (Err fault) (inl before) =
     inr (ap (λ (all : Declarations). head_of (refusals_in_turn (draft sense constant t) all)) before.parts
     ∙ first_of_all (draft sense constant t) before.made before.left before.rejected fault (before.declared.free sense constant)
-    (ap (λ (d : Draft). head_of (refusals d before.rejected)) (sym (before.declared.declared sense constant)) ∙ before.error sense constant))
+    (ap (λ (d : Draft). head_of (refusals d before.rejected)) (sym (before.declared.declared sense constant))
+    ∙ before.error sense constant))
 in_turn sense constant t u ds (Err fault) (inr none) = inl none.0
 
 -- and what is declared after an error
@@ -709,7 +763,8 @@ drop_none zero (x ∷ xs) h = absurd (omega arith)
 drop_none (suc k) (x ∷ xs) h = drop_none k xs (omega arith)
 drop_none _ _ h = refl
 
-module _ (t u v : Tables) (name column : List ℕ) (term : List ℕ × Number) (rest left all : Declarations) (named : column ≡ term.0) (split : left ≡ term_declared name term ++ rest) (before : Decides u left t all) where
+module _ (t u v : Tables) (name column : List ℕ) (term : List ℕ × Number) (rest left all : Declarations)
+    (named : column ≡ term.0) (split : left ≡ term_declared name term ++ rest) (before : Decides u left t all) where
   decides : Decides u (term_declared name (column, term.1) ++ rest) t all
   decides = grind arith
 
@@ -719,4 +774,5 @@ module _ (t u v : Tables) (name column : List ℕ) (term : List ℕ × Number) (
 
   pub term_refused : (answer : Answer) (fault : BuildFault) → IsErrAnd answer (λ stated. stated ≡ fault)
       → AreDeclaredUnless u (term_declared name (column, term.1)) (Err fault) v → AreDeclaredUnless t all answer v
-  term_refused answer fault stated refused = decides_err t u v (term_declared name (column, term.1)) _ all _ _ stated refused decides
+  term_refused answer fault stated refused =
+      decides_err t u v (term_declared name (column, term.1)) _ all _ _ stated refused decides

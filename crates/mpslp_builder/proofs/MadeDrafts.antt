@@ -31,7 +31,8 @@ with_declarations-append (x ∷ xs) ys before = with_declarations-append xs ys _
 pub refusals_in_turn-append : (xs ys : Declarations) (before : Draft)
     → refusals_in_turn before (xs ++ ys) ≡ refusals_in_turn before xs ++ refusals_in_turn (with_declarations before xs) ys
 refusals_in_turn-append [] ys before = refl
-refusals_in_turn-append (x ∷ xs) ys before = grind (arith, append_assoc, refusals_in_turn-append xs ys (with_declaration before x))
+refusals_in_turn-append (x ∷ xs) ys before =
+    grind (arith, append_assoc, refusals_in_turn-append xs ys (with_declaration before x))
 
 -- ---- right-hand sides of rows of type N
 
@@ -50,8 +51,8 @@ free_rhs-side : (all : Draft) (name : List ℕ) (value : Number) → is_free_row
     → HasNoFreeRhs (with_declaration all (declare_rhs name value))
 free_rhs-side all name value limited none = search (rules, has-put, same_name)
 
-free_rhs-kept : (all : Draft) (d : Declaration) → HasDeclaredNames all → refusals all d ≡ [] → is_free_rhs all d ≡ false → HasNoFreeRhs all
-    → HasNoFreeRhs (with_declaration all d)
+free_rhs-kept : (all : Draft) (d : Declaration) → HasDeclaredNames all → refusals all d ≡ [] →
+    is_free_rhs all d ≡ false → HasNoFreeRhs all → HasNoFreeRhs (with_declaration all d)
 free_rhs-kept = grind (arith, free_rhs-row, first_none, free_rhs-side)
 
 -- ---- what makes a draft that a builder can hold
@@ -61,10 +62,17 @@ pub declared_names-from_made : (all : Draft) → IsMade all → HasDeclaredNames
 declared_names-from_made all made = grind (arith, none-fine made.declarations, empty_declared_names, empty_kinds_apart)
 
 -- several legal declarations, none of them rejected
-made-with_declarations : (all : Draft) (more : Declarations) → IsMade all → list_all is_legal more ≡ true → refusals_in_turn all more ≡ []
-    → HasNoFreeRhs (with_declarations all more) → IsMade (with_declarations all more)
-made-with_declarations all more made legal unrefused no_free_rhs = grind
-    (arith, list_all-append, both_so, refusals_in_turn-append made.declarations, join_none, with_declarations-append made.declarations)
+made-with_declarations : (all : Draft) (more : Declarations) → IsMade all → list_all is_legal more ≡ true →
+    refusals_in_turn all more ≡ [] → HasNoFreeRhs (with_declarations all more) → IsMade (with_declarations all more)
+made-with_declarations all more made legal unrefused no_free_rhs = grind (
+  arith,
+  list_all-append,
+  both_so,
+  refusals_in_turn-append made.declarations,
+  join_none,
+  with_declarations-append
+      made.declarations,
+)
 
 -- one legal declaration that is not rejected and is no right-hand side of a row of type N
 pub made-with_declaration : (all : Draft) (d : Declaration) → IsMade all → is_legal d ≡ true → refusals all d ≡ []
@@ -86,10 +94,11 @@ legal_bounds : (column : List ℕ) (lower upper : Option Limit) → option_map_o
 legal_bounds = grind arith
 
 -- the bounds that one call gives
-pub made-bounds : (all : Draft) (column : List ℕ) (lower upper : Option Limit) → IsMade all → option_map_or is_given lower true ≡ true
-    → option_map_or is_given upper true ≡ true → bounds_refusals all column lower upper ≡ []
-    → IsMade (with_declarations all (bounds_declared column lower upper))
-made-bounds all column lower upper made h k unrefused = grind (arith, made-with_declarations all, legal_bounds, bounds-in_turn all)
+pub made-bounds : (all : Draft) (column : List ℕ) (lower upper : Option Limit) → IsMade all →
+    option_map_or is_given lower true ≡ true → option_map_or is_given upper true ≡ true →
+    bounds_refusals all column lower upper ≡ [] → IsMade (with_declarations all (bounds_declared column lower upper))
+made-bounds all column lower upper made h k unrefused =
+    grind (arith, made-with_declarations all, legal_bounds, bounds-in_turn all)
 
 -- ---- properties of such a draft
 
@@ -111,8 +120,9 @@ free_rhs-passes all row value made free = grind (arith, not_both, declared_names
 -- each entry of it is valid, also before the objective is named
 pub good-from_made : (all : Draft) → IsMade all → IsGood all all
 good-from_made all made = let drafted = draft_of made.declarations in
-    let fine = none-fine made.declarations _ empty_declared_names empty_kinds_apart refl made.unrefused in subst (λ draft. IsGood draft
-    draft) (sym made.draft) (good-with_declarations _ made.declarations _ (empty_good drafted) made.legal fine.known fine.allowed)
+    let fine = none-fine made.declarations _ empty_declared_names empty_kinds_apart refl made.unrefused in
+    subst (λ draft. IsGood draft draft) (sym made.draft)
+    (good-with_declarations _ made.declarations _ (empty_good drafted) made.legal fine.known fine.allowed)
 
 -- with an objective, it is well-formed
 pub well_formed-from_made : (all : Draft) → IsMade all → is_some all.objective ≡ true → IsWellFormed all
@@ -121,11 +131,13 @@ well_formed-from_made = grind (arith, well_formed-from_consistent, consistent-fr
 -- ---- the end: a model is meant if and only if there is no whole-file error
 
 -- no error is reported: the model of the draft is meant
-pub meant-from_made : (all : Draft) → IsMade all → is_some all.objective ≡ true → file_fault all ≡ None → DraftMeans all (model_of all)
+pub meant-from_made : (all : Draft) → IsMade all → is_some all.objective ≡ true → file_fault all ≡ None →
+    DraftMeans all (model_of all)
 meant-from_made all made there none = meant-from_no_fault all (well_formed-from_made all made there) none
 
 -- a model is meant: no error is reported
-pub no_fault-from_made : (all : Draft) (m : LinearModel) → IsMade all → is_some all.objective ≡ true → DraftMeans all m → file_fault all ≡ None
+pub no_fault-from_made : (all : Draft) (m : LinearModel) → IsMade all → is_some all.objective ≡ true →
+    DraftMeans all m → file_fault all ≡ None
 no_fault-from_made all m made there meant = no_fault-from_meant all m (well_formed-from_made all made there) meant
 
 -- ---- a result that meets the contract of `finish` is the model that the declarations mean
@@ -133,7 +145,11 @@ no_fault-from_made all m made there meant = no_fault-from_meant all m (well_form
 module _ (all : Draft) (made : IsMade all) (there : is_some all.objective ≡ true) where
   -- the draft means what its declarations mean
   means : (m : LinearModel) → DraftMeans all m → Means made.declarations m
-  means m meant = record { consistent = consistent-from_made all made there; meant = subst (λ draft. DraftMeans draft m) made.draft meant }
+  means m meant = record {
+    consistent = consistent-from_made all made there;
+    meant =
+        subst (λ draft. DraftMeans draft m) made.draft meant;
+  }
 
   draft_means : (m : LinearModel) → Means made.declarations m → DraftMeans all m
   draft_means = grind arith
@@ -141,7 +157,8 @@ module _ (all : Draft) (made : IsMade all) (there : is_some all.objective ≡ tr
   no_fault : (m : LinearModel) → Means made.declarations m → file_fault all ≡ None
   no_fault m meant = no_fault-from_made all m made there (draft_means m meant)
 
-  only_if_meant : (answer : Result LinearModel ReadFault) → Finishes all answer → IfOk answer (λ model. Means made.declarations model)
+  only_if_meant : (answer : Result LinearModel ReadFault) → Finishes all answer →
+      IfOk answer (λ model. Means made.declarations model)
   only_if_meant = grind (arith, means)
 
   a_fault : (fault : Fault) → file_fault all ≡ None → file_fault all ≡ Some fault → ⊥
@@ -166,15 +183,16 @@ pub handed_on : (faults : List BuildFault) (answer : Answer) (fault : BuildFault
 handed_on faults answer fault P Q stated first q = grind arith
 
 -- if there is no error, none is returned
-pub none_reported : {X : Type 0} (faults : List BuildFault) (fault : BuildFault) → faults ≡ [] → Err fault ≡ first_refusal faults → X
+pub none_reported : {X : Type 0} (faults : List BuildFault) (fault : BuildFault) → faults ≡ [] →
+    Err fault ≡ first_refusal faults → X
 none_reported = grind arith
 
 -- there is no error, and the declaration is made
 pub declared : (faults : List BuildFault) (P Q : Type 0) → faults ≡ [] → P → Answers faults (Ok tt) P Q
 declared faults P Q h p = grind arith
 
-pub want_of_memory : (faults : List BuildFault) (answer : Answer) (P Q : Type 0) → IsErrAnd answer (λ stated. stated ≡ OutOfMemory_answer)
-    → faults ≡ [] → Q → Answers faults answer P Q
+pub want_of_memory : (faults : List BuildFault) (answer : Answer) (P Q : Type 0) →
+    IsErrAnd answer (λ stated. stated ≡ OutOfMemory_answer) → faults ≡ [] → Q → Answers faults answer P Q
 want_of_memory faults answer P Q stated none q = grind arith
 
 -- ---- what is known if a call has no error
@@ -190,8 +208,8 @@ pub made_after : {inner later : Draft} (d : Declaration) → later ≡ with_decl
 made_after = grind (arith, made_next)
 
 -- which proves the contract of the call
-pub answered : {inner all later : Draft} (d : Declaration) → inner ≡ all → later ≡ with_declaration inner d → refusals inner d ≡ []
-    → Answers (refusals all d) (Ok tt) (later ≡ with_declaration all d) (later ≡ all)
+pub answered : {inner all later : Draft} (d : Declaration) → inner ≡ all → later ≡ with_declaration inner d →
+    refusals inner d ≡ [] → Answers (refusals all d) (Ok tt) (later ≡ with_declaration all d) (later ≡ all)
 answered {inner} {all} {later} d seen after none = grind arith
 
 -- a property of all names is one of each
@@ -240,19 +258,20 @@ given = grind arith
 
 -- the bounds of one call are declared
 pub made_sides : {inner all : Draft} (column : List ℕ) (lower upper : Option Limit) → inner ≡ all → IsMade inner
-    → ForSome lower (λ s. IsTrue (is_given s)) → ForSome upper (λ s. IsTrue (is_given s)) → bounds_refusals all column lower upper ≡ []
-    → IsMade (with_declarations inner (bounds_declared column lower upper))
+    → ForSome lower (λ s. IsTrue (is_given s)) → ForSome upper (λ s. IsTrue (is_given s)) →
+    bounds_refusals all column lower upper ≡ [] → IsMade (with_declarations inner (bounds_declared column lower upper))
 made_sides {inner} {all} column lower upper seen made l u none = grind (arith, made-bounds, given)
 
 -- ---- coefficients
 
 -- a property of all keys is one of each
-keyed_so : (p : CoefficientKey → Bool) (key : CoefficientKey) (es : List (CoefficientKey × Number)) → list_all (λ e. p e.0) es ≡ true
-    → is_some (find key_cmp key es) ≡ true → p key ≡ true
+keyed_so : (p : CoefficientKey → Bool) (key : CoefficientKey) (es : List (CoefficientKey × Number)) →
+    list_all (λ e. p e.0) es ≡ true → is_some (find key_cmp key es) ≡ true → p key ≡ true
 keyed_so p key [] all h = cc
 keyed_so p key (e ∷ es) all h = grind (arith, same_key key e.0, equal_from, keyed_so p key es)
 
 -- the row (or objective) and the column of a declared coefficient are declared
 pub coefficients_known : (all : Draft) → IsMade all → CoefficientsAreKnown all
 coefficients_known all made key there = keyed_so (λ key. has_row all _ && has_column all _)
-    key _ (imp_all _ (λ e. has_row all _ && has_column all _) _ (λ e h. second_so _ _ h) (good-from_made all made).coefficients) there
+    key _ (imp_all _ (λ e. has_row all _ && has_column all _) _ (λ e h. second_so _ _ h)
+    (good-from_made all made).coefficients) there

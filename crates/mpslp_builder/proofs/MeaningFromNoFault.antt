@@ -67,7 +67,8 @@ fault_of all kind = option_map (reported kind) (head_of (names_with all kind))
 abbrev faults_from : Draft → List FaultKind → List Fault
 faults_from all kinds = filter_map (fault_of all) kinds
 
-here : (all : Draft) (kind : FaultKind) (more : List FaultKind) → head_of (faults_from all (kind ∷ more)) ≡ None → names_with all kind ≡ []
+here : (all : Draft) (kind : FaultKind) (more : List FaultKind) → head_of (faults_from all (kind ∷ more)) ≡ None →
+    names_with all kind ≡ []
 here = grind arith
 
 later : (all : Draft) (kind : FaultKind) (more : List FaultKind) → head_of (faults_from all (kind ∷ more)) ≡ None
@@ -78,7 +79,8 @@ add : (all : Draft) (kind : FaultKind) (more : List FaultKind) → names_with al
     → head_of (faults_from all (kind ∷ more)) ≡ None
 add = grind arith
 
-rows_pass : (all : Draft) (test : RowDefinition → Number → Option Number → Bool) → rows_where all test ≡ [] → passes_rows all test ≡ true
+rows_pass : (all : Draft) (test : RowDefinition → Number → Option Number → Bool) → rows_where all test ≡ [] →
+    passes_rows all test ≡ true
 rows_pass all test h = none_filtered _ all.rows (none_mapped _ _ h)
 
 test_of : {X : Type 0} (b : Bool) (x : X) (o : Option X) → cond b o (Some x) ≡ None → b ≡ true
@@ -127,7 +129,8 @@ none-from_no_fault = grind (arith, add, filtered_none)
 pub found_all : {X : Type 0} (p : X → Bool) (name : List ℕ) (es : List (List ℕ × X)) → list_all (λ e. p e.1) es ≡ true
     → option_map_or p (at_name es name) true ≡ true
 found_all p name [] h = refl
-found_all {X} p name (e ∷ es) h = grind (arith, found_all p name es (second_so (p e.1) (list_all (λ (e : List ℕ × X). p e.1) es) h))
+found_all {X} p name (e ∷ es) h =
+    grind (arith, found_all p name es (second_so (p e.1) (list_all (λ (e : List ℕ × X). p e.1) es) h))
 
 -- ---- a row has no whole-file error if and only if its limits are well-formed
 
@@ -175,7 +178,8 @@ abbrev may_have_sides : Option Row → Bool
 may_have_sides None = true
 may_have_sides (Some row) = may_be_lower row.lower && may_be_upper row.upper
 
-sides_of : (a b : Option Number) → option_map_or is_decimal a true ≡ true → option_map_or is_decimal b true ≡ true → may_have_sides (sides a b) ≡ true
+sides_of : (a b : Option Number) → option_map_or is_decimal a true ≡ true → option_map_or is_decimal b true ≡ true →
+    may_have_sides (sides a b) ≡ true
 sides_of = grind arith
 
 computed : (d : Number) → option_map_or is_decimal (decimal_of d) true ≡ true
@@ -190,8 +194,8 @@ lower_limit : (inf neg : Bool) (b : Number) → is_decimal b ≡ true → (inf &
     → may_be_lower (cond inf (cond neg MinusInf PlusInf) (Finite b)) ≡ true
 lower_limit = grind arith
 
-sides-of_form : (definition : RowDefinition) (b : Number) (r : Option Number) → is_legal_form definition ≡ true → is_decimal b ≡ true
-    → has_infinite_rhs definition b r ≡ false → may_have_sides (limits_of definition b r) ≡ true
+sides-of_form : (definition : RowDefinition) (b : Number) (r : Option Number) → is_legal_form definition ≡ true →
+    is_decimal b ≡ true → has_infinite_rhs definition b r ≡ false → may_have_sides (limits_of definition b r) ≡ true
 sides-of_form (by_type Free) b None f h k = refl
 sides-of_form (by_type Free) b (Some r) f h k = refl
 sides-of_form (by_type AtMost) b None f h k = grind arith
@@ -228,7 +232,8 @@ sound-from_no_fault definition b r f h k = from_limits _ (sides-of_form definiti
 named_objective : (o : Option (List ℕ)) → is_some o ≡ true → option_map_or (same_bytes (unwrap_or o [])) o false ≡ true
 named_objective = grind (arith, itself_named)
 
-legal_objective : (o : Option (List ℕ)) → is_some o ≡ true → option_map_or is_mps_name o true ≡ true → is_mps_name (unwrap_or o []) ≡ true
+legal_objective : (o : Option (List ℕ)) → is_some o ≡ true → option_map_or is_mps_name o true ≡ true →
+    is_mps_name (unwrap_or o []) ≡ true
 legal_objective = grind arith
 
 named_row : (o : Option (List ℕ)) (q : List ℕ) (r s : Bool) → r ≡ s → (option_map_or (same_bytes q) o false || s) ≡ true
@@ -252,7 +257,8 @@ pub sorted-mapped : {X Y : Type 0} (g : List ℕ × X → Y) (es : List (List �
 sorted-mapped g [] = refl
 sorted-mapped g (e ∷ es) = λ i. below-mapped g e.0 es i && sorted-mapped g es i
 
-pub names-mapped : {X Y : Type 0} (g : List ℕ × X → Y) (es : List (List ℕ × X)) → names_in (map (λ e. (e.0, g e)) es) ≡ names_in es
+pub names-mapped : {X Y : Type 0} (g : List ℕ × X → Y) (es : List (List ℕ × X)) →
+    names_in (map (λ e. (e.0, g e)) es) ≡ names_in es
 names-mapped g [] = refl
 names-mapped g (e ∷ es) = grind (arith, names-mapped g es)
 
@@ -274,8 +280,15 @@ below-filtered {X} p x (e ∷ es) h =
 pub sorted-filtered : {X : Type 0} (p : CoefficientKey × X → Bool) (es : List (CoefficientKey × X)) → T (is_sorted key_cmp es)
     → T (is_sorted key_cmp (filter p es))
 sorted-filtered p [] h = tt
-sorted-filtered {X} p (e ∷ es) h = grind
-    (arith, t_second, t_both, below-filtered, t_first, sorted-filtered p es (t_second (below_all key_cmp e.0 es) (is_sorted key_cmp es) h))
+sorted-filtered {X} p (e ∷ es) h = grind (
+  arith,
+  t_second,
+  t_both,
+  below-filtered,
+  t_first,
+  sorted-filtered p es
+      (t_second (below_all key_cmp e.0 es) (is_sorted key_cmp es) h),
+)
 
 filter_all : {X : Type 0} (p q : X → Bool) (xs : List X) → list_all q xs ≡ true → list_all (λ x. q x && p x) (filter p xs) ≡ true
 filter_all p q [] h = refl
@@ -308,23 +321,35 @@ some_limits : (limits : Option Row) → IsSoundForm limits → is_some limits �
 some_limits limits s = ap is_some s.is
 
 abbrev row_tests : Draft → List ℕ × RowDefinition → Bool
-row_tests all row = let b = rhs_or_zero all row.0 in let r = at_name all.ranges row.0 in
+row_tests all row =
+    let b = rhs_or_zero all row.0 in
+    let r = at_name all.ranges row.0 in
     (is_mps_name row.0 && (are_given row.1 && not (have_infinite_side row.1))) && (not (has_infinite_rhs row.1 b r)
-    && (not (is_inexact (limits_of row.1 b r)) && (not (is_too_large (limits_of row.1 b r)) && not (is_crossed (limits_of row.1 b r)))))
+    && (not (is_inexact (limits_of row.1 b r)) &&
+    (not (is_too_large (limits_of row.1 b r)) && not (is_crossed (limits_of row.1 b r)))))
 
-sound_row : (all : Draft) (row : List ℕ × RowDefinition) → list_all (λ e. is_decimal e.1) all.rhs_values ≡ true → row_tests all row ≡ true
-    → IsSoundForm (row_limits all row)
-sound_row all row sides h = let b = rhs_or_zero all _ in let r = at_name _ row.0 in let limits = limits_of row.1 b r in
-    let legal = are_given row.1 && not (have_infinite_side row.1) in let a1 = is_mps_name row.0 && legal in
-    let t4 = not (is_crossed limits) in let t3 = not (is_too_large limits) in let t2 = not (is_inexact limits) in
-    let t1 = not (has_infinite_rhs _ b r) in let h1 = second_so a1 (t1 && (t2 && (t3 && t4))) h in
-    let h2 = second_so t1 (t2 && (t3 && t4)) h1 in let h3 = second_so t2 (t3 && t4) h2 in sound-from_no_fault _ b r (definition-legal row.1
+sound_row : (all : Draft) (row : List ℕ × RowDefinition) → list_all (λ e. is_decimal e.1) all.rhs_values ≡ true →
+    row_tests all row ≡ true → IsSoundForm (row_limits all row)
+sound_row all row sides h =
+    let b = rhs_or_zero all _ in
+    let r = at_name _ row.0 in
+    let limits = limits_of row.1 b r in
+    let legal = are_given row.1 && not (have_infinite_side row.1) in
+    let a1 = is_mps_name row.0 && legal in
+    let t4 = not (is_crossed limits) in
+    let t3 = not (is_too_large limits) in
+    let t2 = not (is_inexact limits) in
+    let t1 = not (has_infinite_rhs _ b r) in
+    let h1 = second_so a1 (t1 && (t2 && (t3 && t4))) h in
+    let h2 = second_so t1 (t2 && (t3 && t4)) h1 in
+    let h3 = second_so t2 (t3 && t4) h2 in sound-from_no_fault _ b r (definition-legal row.1
     (second_so _ legal (first_so a1 _ h))) (or_zero (at_name all.rhs_values row.0) (found_all _ row.0 all.rhs_values sides))
     (not_so _ (first_so t1 _ h1)) (not_so _ (first_so t2 _ h2)) (not_so _ (first_so t3 t4 h3)) (not_so _ (second_so t3 t4 h3))
 
 rows_pass_meaning : (all : Draft) → IsGood all all → HasNoFault all → list_all (row_tests all) all.rows ≡ true
 rows_pass_meaning all g f =
-    and_all _ _ all.rows g.rows (and_all _ _ all.rows f.rhs_values (and_all _ _ all.rows f.exact (and_all _ _ all.rows f.small f.straight)))
+    and_all _ _ all.rows g.rows (and_all _ _ all.rows f.rhs_values
+    (and_all _ _ all.rows f.exact (and_all _ _ all.rows f.small f.straight)))
 
 -- ---- columns
 
@@ -346,8 +371,12 @@ sound_column = grind (arith, both_so, lower_or, found_all, upper_or, straight)
 abbrev column_tests : Draft → List ℕ → Bool
 column_tests all name = is_mps_name name && (not (has_crossed_bounds all name) && not (has_semi_bounds all name))
 
-tested_column : (all : Draft) (name : List ℕ) → IsGood all all → column_tests all name ≡ true → is_sound_column (name, column_of all name) ≡ true
-tested_column all name g h = let crossed = not _ in let semi = not _ in let rest = second_so _ _ h in sound_column all _ g (first_so
+tested_column : (all : Draft) (name : List ℕ) → IsGood all all → column_tests all name ≡ true →
+    is_sound_column (name, column_of all name) ≡ true
+tested_column all name g h =
+    let crossed = not _ in
+    let semi = not _ in
+    let rest = second_so _ _ h in sound_column all _ g (first_so
     (is_mps_name name) (crossed && semi) h) (first_so crossed semi rest) (second_so _ _ rest)
 
 some_columns : {X Y : Type 0} (f : X → Y) (xs : List X) → is_nonempty xs ≡ true → 0 < length (map f xs)
@@ -356,10 +385,11 @@ some_columns = grind arith
 -- ---- the entries of the model of a draft
 
 pub rows_are : (all : Draft) → IsGood all all → maps.entries (model_of all).rows ≡ map (row_entry all) all.rows
-rows_are all g = maps.entries-from_sorted _ _ (subst T (sym (sorted-mapped (λ row. unwrap_or (row_limits all row) (plain_limits Free
-    zero_number)) all.rows)) g.rows_sorted)
+rows_are all g = maps.entries-from_sorted _ _
+    (subst T (sym (sorted-mapped (λ row. unwrap_or (row_limits all row) (plain_limits Free zero_number)) all.rows)) g.rows_sorted)
 
-pub columns_are : (all : Draft) → IsGood all all → maps.entries (model_of all).columns ≡ map (λ column. (column.0, column_of all column.0)) all.columns
+pub columns_are : (all : Draft) → IsGood all all →
+    maps.entries (model_of all).columns ≡ map (λ column. (column.0, column_of all column.0)) all.columns
 columns_are all g =
     maps.entries-from_sorted _ _ (subst T (sym (sorted-mapped (λ column. column_of all column.0) all.columns)) g.columns_sorted)
 
@@ -382,7 +412,8 @@ meant-from_no_fault all w none =
     record {
       finite_rhs_values = f.rhs_values;
       exact_limits =
-          imp_all _ (λ row. is_some (row_limits all row)) all.rows (λ row h. some_limits _ (sound_row all row g.rhs_values h)) rows;
+          imp_all _ (λ row. is_some (row_limits all row)) all.rows
+          (λ row h. some_limits _ (sound_row all row g.rhs_values h)) rows;
       model = refl;
       sound = record {
         objective = legal_objective _ w.named g.objective;
@@ -395,9 +426,10 @@ meant-from_no_fault all w none =
             ∙ imp_all _ (λ row. is_sound_row (row_entry all row)) all.rows
             (λ row h. sound_entry row.0 _ (name_of all row h) (sound_row all row g.rhs_values h)) rows;
         columns = ap (list_all is_sound_column) (columns_are all g) ∙ sym (map_all _ is_sound_column all.columns)
-            ∙ imp_all _ (λ column. is_sound_column (column.0, column_of all _)) all.columns (λ column h. tested_column all column.0 g h)
-            (and_all _ (λ column. not (has_crossed_bounds all column.0) && not (has_semi_bounds all column.0)) all.columns g.columns
-            (and_all _ (λ column. not (has_semi_bounds all column.0)) all.columns
+            ∙ imp_all _ (λ column. is_sound_column (column.0, column_of all _)) all.columns
+            (λ column h. tested_column all column.0 g h)
+            (and_all _ (λ column. not (has_crossed_bounds all column.0) && not (has_semi_bounds all column.0))
+            all.columns g.columns (and_all _ (λ column. not (has_semi_bounds all column.0)) all.columns
             (map_all _ (λ name. not (has_crossed_bounds all name)) all.columns ∙ f.bounds)
             (map_all _ (λ name. not (has_semi_bounds all name)) all.columns ∙ f.semi)));
         coefficients = ap (list_all (is_sound_coefficient m)) kept_are
@@ -414,9 +446,12 @@ meant-from_no_fault all w none =
 
     sound_coefficient : (all : Draft) (m : LinearModel) (e : CoefficientKey × Number) → maps.keys m.rows ≡ names_in all.rows
         → maps.keys m.columns ≡ names_in all.columns → m.objective ≡ objective_name all
-        → ((is_decimal e.1 && (has_row all e.0.row && has_column all e.0.column)) && not (is_zero e.1)) ≡ true → is_sound_coefficient m e ≡ true
-    sound_coefficient all m e rows columns objective h = let key = e.0 in let known = has_row all _ && has_column all key.column in
-        let a = first_so _ _ h in let k = second_so (is_decimal e.1) known a in
+        → ((is_decimal e.1 && (has_row all e.0.row && has_column all e.0.column)) && not (is_zero e.1)) ≡ true →
+        is_sound_coefficient m e ≡ true
+    sound_coefficient all m e rows columns objective h = let key = e.0 in
+        let known = has_row all _ && has_column all key.column in
+        let a = first_so _ _ h in
+        let k = second_so (is_decimal e.1) known a in
         let column : is_one_of (maps.keys m.columns) key.column ≡ true = ap (λ names. is_one_of names key.column) columns
         ∙ one_of-names key.column all.columns ∙ second_so (has_row all key.row) (has_column all key.column) k in
         let row : is_one_of (m.objective ∷ maps.keys m.rows) key.row ≡ true = (λ i. is_one_of (objective i ∷ rows i) key.row)
@@ -438,10 +473,12 @@ abbrev sides_hold : Option Row → Bool
 sides_hold None = false
 sides_hold (Some row) = are_sides row.lower row.upper
 
-no_inf_upper : (inf neg : Bool) (b : Number) → is_upper_side (cond inf (cond neg MinusInf PlusInf) (Finite b)) ≡ true → (inf && neg) ≡ false
+no_inf_upper : (inf neg : Bool) (b : Number) → is_upper_side (cond inf (cond neg MinusInf PlusInf) (Finite b)) ≡ true →
+    (inf && neg) ≡ false
 no_inf_upper = grind arith
 
-no_inf_lower : (inf neg : Bool) (b : Number) → is_lower_side (cond inf (cond neg MinusInf PlusInf) (Finite b)) ≡ true → (inf && not neg) ≡ false
+no_inf_lower : (inf neg : Bool) (b : Number) → is_lower_side (cond inf (cond neg MinusInf PlusInf) (Finite b)) ≡ true →
+    (inf && not neg) ≡ false
 no_inf_lower = grind arith
 
 no_inf : (inf neg : Bool) (b : Number) → is_lower_side (cond inf (cond neg MinusInf PlusInf) (Finite b)) ≡ true
@@ -470,7 +507,8 @@ exact_distance : (o : Option Number) → option_map_or is_bounded_decimal o fals
 exact_distance = grind arith
 
 near : (l u : Limit) → is_lower_side l ≡ true → is_upper_side u ≡ true → has_bounded_distance l u ≡ true
-    → (is_inexact (Some (record { lower = l; upper = u })) ≡ false) × (is_too_large (Some (record { lower = l; upper = u })) ≡ false)
+    → (is_inexact (Some (record { lower = l; upper = u })) ≡ false)
+    × (is_too_large (Some (record { lower = l; upper = u })) ≡ false)
 near (Finite a) (Finite b) h k d = search (rules, exact_distance, both_false, finite_size a h, finite_size b k)
 near (Finite a) PlusInf h k d = grind arith
 near MinusInf MinusInf h k d = (refl, refl)
@@ -485,8 +523,9 @@ pub record PassesTests (definition : RowDefinition) (b : Number) (r : Option Num
   pub small : not (is_too_large (limits_of definition b r)) ≡ true
   pub straight : not (is_crossed (limits_of definition b r)) ≡ true
 
-tests_of : (definition : RowDefinition) (b : Number) (r : Option Number) (name : List ℕ) (o : Option Row) → limits_of definition b r ≡ o
-    → is_some o ≡ true → is_sound_row (name, unwrap_or o (plain_limits Free zero_number)) ≡ true → PassesTests definition b r
+tests_of : (definition : RowDefinition) (b : Number) (r : Option Number) (name : List ℕ) (o : Option Row) →
+    limits_of definition b r ≡ o → is_some o ≡ true →
+    is_sound_row (name, unwrap_or o (plain_limits Free zero_number)) ≡ true → PassesTests definition b r
 tests_of definition b r name None is there h = absurd cc
 tests_of definition b r name (Some row) is there h =
     let rest = second_so _ _ h in
@@ -499,18 +538,24 @@ tests_of definition b r name (Some row) is there h =
       straight = so_not _ (ap is_crossed is ∙ ap not (straight_of _ row.upper s));
     }
 
-row_tested : (all : Draft) (row : List ℕ × RowDefinition) → (is_sound_row (row_entry all row) && is_some (row_limits all row)) ≡ true
-    → PassesTests row.1 (rhs_or_zero all row.0) (at_name all.ranges row.0)
+row_tested : (all : Draft) (row : List ℕ × RowDefinition) →
+    (is_sound_row (row_entry all row) && is_some (row_limits all row)) ≡ true →
+    PassesTests row.1 (rhs_or_zero all row.0) (at_name all.ranges row.0)
 row_tested all row h = tests_of _ _ _ row.0 _ refl (second_so _ (is_some _) h) (first_so _ (is_some _) h)
 
 not_not : (b : Bool) → b ≡ true → not (not b) ≡ true
 not_not = grind arith
 
-column_straight : (all : Draft) (name : List ℕ) → is_sound_column (name, column_of all name) ≡ true → not (has_crossed_bounds all name) ≡ true
-column_straight all name h = let l = lower_bound all _ in let u = upper_bound all _ in let suited = suits _ l u in not_not _ (straight_of l
+column_straight : (all : Draft) (name : List ℕ) → is_sound_column (name, column_of all name) ≡ true →
+    not (has_crossed_bounds all name) ≡ true
+column_straight all name h =
+    let l = lower_bound all _ in
+    let u = upper_bound all _ in
+    let suited = suits _ l u in not_not _ (straight_of l
     u (first_so _ suited (second_so _ _ h)))
 
-column_suited : (all : Draft) (name : List ℕ) → is_sound_column (name, column_of all name) ≡ true → not (has_semi_bounds all name) ≡ true
+column_suited : (all : Draft) (name : List ℕ) → is_sound_column (name, column_of all name) ≡ true →
+    not (has_semi_bounds all name) ≡ true
 column_suited all name h = let sides = are_sides (lower_bound all name) (upper_bound all _) in
     let suited = suits _ (lower_bound all name) _ in not_not suited (second_so sides _ (second_so (is_mps_name name) _ h))
 
@@ -541,17 +586,17 @@ no_fault-from_meant all m w meant =
           (λ row h. let p = row_tested all row h in p.straight) rows;
       no_negative_upper = meant.no_negative_upper;
       bounds = sym (map_all (λ e. e.0) (λ name. not (has_crossed_bounds all _)) all.columns)
-          ∙ imp_all (λ column. is_sound_column (column.0, column_of all column.0)) (λ column. not (has_crossed_bounds all _)) all.columns
-          (λ column h. column_straight all _ h) columns;
+          ∙ imp_all (λ column. is_sound_column (column.0, column_of all column.0))
+          (λ column. not (has_crossed_bounds all _)) all.columns (λ column h. column_straight all _ h) columns;
       binary = meant.binary_within;
       semi = sym (map_all (λ e. e.0) (λ name. not (has_semi_bounds all _)) all.columns)
-          ∙ imp_all (λ column. is_sound_column (column.0, column_of all column.0)) (λ column. not (has_semi_bounds all _)) all.columns
-          (λ column h. column_suited all _ h) columns;
+          ∙ imp_all (λ column. is_sound_column (column.0, column_of all column.0))
+          (λ column. not (has_semi_bounds all _)) all.columns (λ column h. column_suited all _ h) columns;
     })
 
 -- Legal declarations that mean a model have no whole-file error.
-pub no_fault-from_means : (declarations : Declarations) (m : LinearModel) → Means declarations m → list_all is_legal declarations ≡ true
-    → file_fault (draft_of declarations) ≡ None
+pub no_fault-from_means : (declarations : Declarations) (m : LinearModel) → Means declarations m →
+    list_all is_legal declarations ≡ true → file_fault (draft_of declarations) ≡ None
 no_fault-from_means = grind (arith, no_fault-from_meant, well_formed-from_consistent)
 
 -- ---- the three lemmas together, as both readers use them

@@ -50,8 +50,8 @@ pub within : {V : Type 0} (es : List (List ℕ × V)) (i : ℕ) (name : List ℕ
 within es i name s = slice_get_within es i _ s.at
 
 -- the entry at the number
-pub own_parts : {V : Type 0} (es : List (List ℕ × V)) (i : ℕ) (name : List ℕ) (s : HasEntryAt es i name) (key : List ℕ) (parts : V)
-    → slice_get es i ≡ Some (key, parts) → (key ≡ name) × (parts ≡ s.parts)
+pub own_parts : {V : Type 0} (es : List (List ℕ × V)) (i : ℕ) (name : List ℕ) (s : HasEntryAt es i name) (key : List ℕ)
+    (parts : V) → slice_get es i ≡ Some (key, parts) → (key ≡ name) × (parts ≡ s.parts)
 own_parts {V} es i name s key parts is = grind arith
 
 or_nothing : (a b : Bool) → (a || (b || false)) ≡ (a || b)
@@ -68,9 +68,10 @@ module _ (sense : Option Sense) (constant : Option Number) (t : Tables) (once : 
 
   module _ (i : ℕ) (c : List ℕ) (s : HasEntryAt t.columns.entries i c) where
     -- a part of the column is what is found by its name
-    pub given_at : {X : Type 0} (f : ColumnParts → Option X) → at_name (sorted_of bytes_cmp (given_parts f t.columns.entries)) c ≡ f s.parts
-    given_at f = find-sorted_of _ bytes_total c _ ∙ ap (λ name. find bytes_cmp name (given_parts f _)) (sym s.named) ∙ find_given_own _ f _
-        i _ _ once.columns s.at
+    pub given_at : {X : Type 0} (f : ColumnParts → Option X) →
+        at_name (sorted_of bytes_cmp (given_parts f t.columns.entries)) c ≡ f s.parts
+    given_at f = find-sorted_of _ bytes_total c _ ∙ ap (λ name. find bytes_cmp name (given_parts f _)) (sym s.named)
+        ∙ find_given_own _ f _ i _ _ once.columns s.at
 
     pub stated_at : (f : ColumnParts → Bool) → column_satisfies t i f ≡ f s.parts
     stated_at f = ap (λ o. option_map_or (λ e. f e.1) o false) s.at
@@ -85,9 +86,11 @@ module _ (sense : Option Sense) (constant : Option Number) (t : Tables) (once : 
         → has_name (sorted_of bytes_cmp (given_parts (λ parts. as_part (f parts)) t.columns.entries)) c ≡ column_satisfies t i f
     flag_at f = ap is_some (given_at (λ parts. as_part (f parts))) ∙ part_there _ ∙ sym (stated_at f)
 
-    pub integer_at : is_integer (draft sense constant t) c ≡ column_satisfies t i (λ parts. parts.marked || (parts.integer || parts.binary))
-    integer_at = (λ j. (flag_at (λ parts. parts.marked) ∙ stated_at (λ parts. parts.marked)) j || ((flag_at (λ parts. parts.integer)
-        ∙ stated_at (λ parts. parts.integer)) j || (flag_at (λ parts. parts.binary) ∙ stated_at (λ parts. parts.binary)) j))
+    pub integer_at : is_integer (draft sense constant t) c ≡ column_satisfies t i
+        (λ parts. parts.marked || (parts.integer || parts.binary))
+    integer_at = (λ j. (flag_at (λ parts. parts.marked) ∙ stated_at (λ parts. parts.marked)) j ||
+        ((flag_at (λ parts. parts.integer) ∙ stated_at (λ parts. parts.integer)) j ||
+        (flag_at (λ parts. parts.binary) ∙ stated_at (λ parts. parts.binary)) j))
         ∙ sym (stated_at (λ parts. parts.marked || (parts.integer || parts.binary)))
 
     pub own_cells : cells_at t i ≡ cells_of s.parts
@@ -97,30 +100,33 @@ module _ (sense : Option Sense) (constant : Option Number) (t : Tables) (once : 
     pub cell_at : (n : ℕ) (r : List ℕ) → IsNumbered t → row_name t n ≡ Some r
         → has_coefficient (draft sense constant t) (at r c) ≡ is_some (find nat_cmp n (cells_at t i))
     cell_at n r numbered row = sym (ap (λ (es : List (ℕ × Number)). is_some (find nat_cmp n es)) own_cells
-        ∙ cell_found sense constant t.objective t.rows.entries t.columns.entries i s.key s.parts s.at numbered n r row once.columns
-        ∙ ap (λ (name : List ℕ). has_coefficient (draft sense constant t) (at r name)) s.named)
+        ∙ cell_found sense constant t.objective t.rows.entries t.columns.entries i s.key s.parts s.at numbered n r row
+        once.columns ∙ ap (λ (name : List ℕ). has_coefficient (draft sense constant t) (at r name)) s.named)
 
   -- ---- rows
 
   module _ (numbered : IsNumbered t) where
     module _ (i : ℕ) (r : List ℕ) (s : HasEntryAt t.rows.entries i r) where
-      row_stated : (f : RowParts → Bool) → option_map_or (λ (e : List ℕ × RowParts). f e.1) (slice_get t.rows.entries i) false ≡ f s.parts
+      row_stated : (f : RowParts → Bool) →
+          option_map_or (λ (e : List ℕ × RowParts). f e.1) (slice_get t.rows.entries i) false ≡ f s.parts
       row_stated f = ap (λ o. option_map_or (λ e. f e.1) o false) s.at
 
       form_at : at_name (draft sense constant t).rows r ≡ Some (definition_of s.parts)
-      form_at = find-sorted_of _ bytes_total r _ ∙ ap (λ name. find bytes_cmp name (each_part definition_of _)) (sym s.named) ∙ find_own _ _
-          i _ _ once.rows s.at
+      form_at = find-sorted_of _ bytes_total r _ ∙ ap (λ name. find bytes_cmp name (each_part definition_of _))
+          (sym s.named) ∙ find_own _ _ i _ _ once.rows s.at
 
       pub range_at : at_name (draft sense constant t).ranges r ≡ range_of s.parts
-      range_at = find-sorted_of _ bytes_total r _ ∙ ap (λ name. find bytes_cmp name (given_parts range_of t.rows.entries)) (sym s.named) ∙
-          find_given_own _ _ _ i _ _ once.rows s.at
+      range_at = find-sorted_of _ bytes_total r _
+          ∙ ap (λ name. find bytes_cmp name (given_parts range_of t.rows.entries)) (sym s.named)
+          ∙ find_given_own _ _ _ i _ _ once.rows s.at
 
       pub rhs_at : at_name (draft sense constant t).rhs_values r ≡ rhs_of s.parts
       rhs_at = find-sorted_of _ bytes_total r _ ∙ ap (λ name. find bytes_cmp name (objective_rhs t.objective ++ given_parts rhs_of
-          t.rows.entries)) (sym s.named) ∙ find-two bytes_cmp s.key (objective_rhs t.objective) (given_parts rhs_of t.rows.entries) ∙ ap (λ
-          (o : Option Number). or_else o (find bytes_cmp s.key (given_parts rhs_of t.rows.entries))) (other_rhs sense constant t.objective
-          t.rows.entries t.columns.entries i s.key s.parts s.parts s.at numbered) ∙ find_given_own definition_of rhs_of t.rows.entries i
-          s.key s.parts once.rows s.at
+          t.rows.entries)) (sym s.named) ∙ find-two bytes_cmp s.key (objective_rhs t.objective)
+          (given_parts rhs_of t.rows.entries)
+          ∙ ap (λ (o : Option Number). or_else o (find bytes_cmp s.key (given_parts rhs_of t.rows.entries)))
+          (other_rhs sense constant t.objective t.rows.entries t.columns.entries i s.key s.parts s.parts
+          s.at numbered) ∙ find_given_own definition_of rhs_of t.rows.entries i s.key s.parts once.rows s.at
 
       no_objective : is_objective (draft sense constant t) r ≡ false
       no_objective =
@@ -130,7 +136,8 @@ module _ (sense : Option Sense) (constant : Option Number) (t : Tables) (once : 
                 elim (same_bytes r _) as (λ b. same_bytes r name ≡ b → b ≡ false) [
                   | true ↦ λ tie.
                       let same = (bytes_decides r _).0 tie in
-                      let here : row_name t (suc i) ≡ Some r = ap (option_map (λ (e : List ℕ × RowParts). e.0)) s.at ∙ ap Some s.named in
+                      let here : row_name t (suc i) ≡ Some r = ap (option_map (λ (e : List ℕ × RowParts). e.0)) s.at
+                      ∙ ap Some s.named in
                       let no : zero ≡ suc i = numbered.apart zero (suc i) r (there ∙ ap Some (sym same)) here in
                       cc
                   | false ↦ λ _. refl
@@ -156,8 +163,8 @@ module _ (sense : Option Sense) (constant : Option Number) (t : Tables) (once : 
       no_form = find-sorted_of _ bytes_total _ (each_part definition_of t.rows.entries) ∙ no_such_row definition_of
 
       no_range : at_name (draft sense constant t).ranges o.name ≡ None
-      no_range = find-sorted_of _ bytes_total o.name (given_parts range_of t.rows.entries) ∙ none_given definition_of range_of o.name
-          t.rows.entries (no_such_row definition_of)
+      no_range = find-sorted_of _ bytes_total o.name (given_parts range_of t.rows.entries)
+          ∙ none_given definition_of range_of o.name t.rows.entries (no_such_row definition_of)
 
       own_rhs : (value : Option Number) → find bytes_cmp o.name (option_map_or (λ x. (o.name, x) ∷ []) value []) ≡ value
       own_rhs None = refl
@@ -167,20 +174,25 @@ module _ (sense : Option Sense) (constant : Option Number) (t : Tables) (once : 
           own_tie name = sym (texts_ties name name) ∙ nat_list_eq_equiv.refl name
 
       objective_rhs_at : at_name (draft sense constant t).rhs_values o.name ≡ o.rhs
-      objective_rhs_at = find-sorted_of _ bytes_total _ (objective_rhs t.objective ++ given_parts rhs_of t.rows.entries) ∙ ap (λ (parts :
-          Option ObjectiveParts). find bytes_cmp o.name (objective_rhs parts ++ given_parts rhs_of t.rows.entries)) there ∙ find-two
-          bytes_cmp o.name (objective_rhs (Some o)) (given_parts rhs_of t.rows.entries) ∙ (λ j. or_else (own_rhs o.rhs j) (none_given
-          definition_of rhs_of o.name t.rows.entries (no_such_row definition_of) j)) ∙ found_first o.rhs
+      objective_rhs_at = find-sorted_of _ bytes_total _ (objective_rhs t.objective ++ given_parts rhs_of t.rows.entries)
+          ∙ ap (λ (parts :
+          Option ObjectiveParts). find bytes_cmp o.name (objective_rhs parts ++ given_parts rhs_of t.rows.entries))
+          there ∙ find-two bytes_cmp o.name (objective_rhs (Some o)) (given_parts rhs_of t.rows.entries)
+          ∙ (λ j. or_else (own_rhs o.rhs j)
+          (none_given definition_of rhs_of o.name t.rows.entries (no_such_row definition_of) j)) ∙ found_first o.rhs
 
       own_name : is_objective (draft sense constant t) o.name ≡ true
-      own_name = ap (λ parts. option_map_or (same_bytes o.name) (name_of_objective parts) false) there ∙ nat_list_eq_equiv.refl o.name
+      own_name = ap (λ parts. option_map_or (same_bytes o.name) (name_of_objective parts) false) there
+          ∙ nat_list_eq_equiv.refl o.name
 
     -- the objective has a right-hand side
     pub has_objective_rhs_at : has_objective_rhs (draft sense constant t) ≡ option_map_or (λ o. is_some o.rhs) t.objective false
     has_objective_rhs_at =
         let all = draft sense constant t in
-        let of_parts : Option ObjectiveParts → Bool = λ parts. option_map_or (has_name all.rhs_values) (name_of_objective parts) false in
-        elim t.objective as (λ parts. t.objective ≡ parts → has_objective_rhs all ≡ option_map_or (λ o. is_some o.rhs) parts false) [
+        let of_parts : Option ObjectiveParts →
+        Bool = λ parts. option_map_or (has_name all.rhs_values) (name_of_objective parts) false in
+        elim t.objective as (λ parts. t.objective ≡ parts →
+        has_objective_rhs all ≡ option_map_or (λ o. is_some o.rhs) parts false) [
           | None ↦ λ none. ap of_parts none
           | Some o ↦ λ there. ap of_parts there ∙ ap is_some (objective_rhs_at o there)
         ] refl
@@ -193,17 +205,22 @@ module _ (sense : Option Sense) (constant : Option Number) (t : Tables) (once : 
     objective_there (Some o) r h = (o, (refl, cc))
 
     -- the objective has parts, with the name
-    objective_stated : (o : ObjectiveParts) → t.objective ≡ Some o → (f : ObjectiveParts → Bool) → option_map_or f t.objective false ≡ f o
+    objective_stated : (o : ObjectiveParts) → t.objective ≡ Some o → (f : ObjectiveParts → Bool) →
+        option_map_or f t.objective false ≡ f o
     objective_stated o there f = ap (λ parts. option_map_or f parts false) there
 
     pub free_at : (p : RowRef) (r : List ℕ) → row_name t (row_key_of p) ≡ Some r
         → is_free_row (draft sense constant t) r ≡ row_satisfies t p (λ o. false) (λ row. is_free_definition row.definition)
-    free_at Objective r is = let o = objective_there _ r is in ap (λ name. is_free_row (draft sense constant t) name) (sym o.1.1) ∙ ap (λ
-        definition. option_map_or is_free_definition definition false) (no_form o.0 o.1.0) ∙ sym (objective_stated o.0 o.1.0 (λ o. false))
-    free_at (Row i) r is = let s = entry_at _ i r is in ap (λ definition. option_map_or is_free_definition definition false) (form_at i r s)
+    free_at Objective r is = let o = objective_there _ r is in
+        ap (λ name. is_free_row (draft sense constant t) name) (sym o.1.1)
+        ∙ ap (λ definition. option_map_or is_free_definition definition false) (no_form o.0 o.1.0)
+        ∙ sym (objective_stated o.0 o.1.0 (λ o. false))
+    free_at (Row i) r is = let s = entry_at _ i r is in
+        ap (λ definition. option_map_or is_free_definition definition false) (form_at i r s)
         ∙ sym (row_stated i r s (λ row. is_free_definition row.definition))
 
-    pub objective_at : (p : RowRef) (r : List ℕ) → row_name t (row_key_of p) ≡ Some r → is_objective (draft sense constant t) r ≡ is_objective_ref p
+    pub objective_at : (p : RowRef) (r : List ℕ) → row_name t (row_key_of p) ≡ Some r →
+        is_objective (draft sense constant t) r ≡ is_objective_ref p
     objective_at Objective r is =
         let o = objective_there _ r is in ap (λ name. is_objective (draft sense constant t) name) (sym o.1.1) ∙ own_name o.0 o.1.0
     objective_at (Row i) r is = no_objective i r (entry_at t.rows.entries i r is)
@@ -214,19 +231,23 @@ module _ (sense : Option Sense) (constant : Option Number) (t : Tables) (once : 
     has_range_at Objective r is = let o = objective_there _ r is in ap (λ name. has_name (draft sense constant t).ranges name ||
         is_row_by_limits (draft sense constant t) name) (sym o.1.1) ∙ (λ j. is_some (no_range o.0 o.1.0 j) || option_map_or
         is_definition_by_limits (no_form o.0 o.1.0 j) false) ∙ sym (objective_stated o.0 o.1.0 (λ o. false))
-    has_range_at (Row i) r is = let s = entry_at _ i r is in (λ j. is_some (range_at i r s j) || option_map_or is_definition_by_limits
-        (form_at i r s j) false) ∙ sym (row_stated i r s (λ row. is_some row.range || is_definition_by_limits row.definition))
+    has_range_at (Row i) r is = let s = entry_at _ i r is in
+        (λ j. is_some (range_at i r s j) || option_map_or is_definition_by_limits (form_at i r s j) false)
+        ∙ sym (row_stated i r s (λ row. is_some row.range || is_definition_by_limits row.definition))
 
     pub has_rhs_at : (b : Bool) (p : RowRef) (r : List ℕ) → row_name t (row_key_of p) ≡ Some r → (has_name (draft sense constant
         t).rhs_values r || (is_row_by_limits (draft sense constant t) r || (is_objective (draft sense constant t) r && b)))
         ≡ row_satisfies t p (λ o. is_some o.rhs || b) (λ row. is_some row.rhs || is_definition_by_limits row.definition)
     has_rhs_at b Objective r is = let o = objective_there _ r is in ap (λ name. has_name (draft sense constant
-        t).rhs_values name || (is_row_by_limits (draft sense constant t) name || (is_objective (draft sense constant t) name && b)))
-        (sym o.1.1) ∙ (λ j. is_some (objective_rhs_at o.0 o.1.0 j) || (option_map_or is_definition_by_limits (no_form o.0 o.1.0 j) false
+        t).rhs_values name || (is_row_by_limits (draft sense constant t) name ||
+        (is_objective (draft sense constant t) name && b))) (sym o.1.1)
+        ∙ (λ j. is_some (objective_rhs_at o.0 o.1.0 j) ||
+        (option_map_or is_definition_by_limits (no_form o.0 o.1.0 j) false
         || (own_name o.0 o.1.0 j && b))) ∙ sym (objective_stated o.0 o.1.0 (λ o. is_some o.rhs || b))
-    has_rhs_at b (Row i) r is = let s = entry_at _ i r is in (λ j. is_some (rhs_at i r s j) || (option_map_or is_definition_by_limits
-        (form_at i r s j) false || (no_objective i r s j && b))) ∙ or_nothing _ _ ∙ sym (row_stated i r s (λ row. is_some row.rhs ||
-        is_definition_by_limits row.definition))
+    has_rhs_at b (Row i) r is = let s = entry_at _ i r is in
+        (λ j. is_some (rhs_at i r s j) ||
+        (option_map_or is_definition_by_limits (form_at i r s j) false || (no_objective i r s j && b)))
+        ∙ or_nothing _ _ ∙ sym (row_stated i r s (λ row. is_some row.rhs || is_definition_by_limits row.definition))
 
     -- ---- numbers
 
@@ -240,17 +261,21 @@ module _ (sense : Option Sense) (constant : Option Number) (t : Tables) (once : 
 
 module _ (sense : Option Sense) (constant : Option Number) (t : Tables) (once : IsOnceEach t) where
   -- a test of a row's definition, right-hand side and range
-  pub row_parts_at : IsNumbered t → (i : ℕ) (k : List ℕ) (row : RowParts) → slice_get t.rows.entries i ≡ Some (k, row) → {X : Type 0}
-      (ask : RowDefinition → Option Number → Option Number → X) → ask (definition_of row) (at_name (draft sense constant t).rhs_values k)
+  pub row_parts_at : IsNumbered t → (i : ℕ) (k : List ℕ) (row : RowParts) → slice_get t.rows.entries i ≡ Some (k, row) →
+      {X : Type 0} (ask : RowDefinition → Option Number → Option Number → X) →
+      ask (definition_of row) (at_name (draft sense constant t).rhs_values k)
       (at_name (draft sense constant t).ranges k) ≡ ask (definition_of row) (rhs_of row) (range_of row)
-  row_parts_at numbered i k row is ask = let s : HasEntryAt t.rows.entries i k = record { key = k; parts = row; at = is; named = refl } in
-      λ j. ask (definition_of row) (rhs_at sense constant t once numbered i k s j) (range_at sense constant t once numbered i k s j)
+  row_parts_at numbered i k row is ask = let s : HasEntryAt t.rows.entries i k =
+      record { key = k; parts = row; at = is; named = refl } in
+      λ j. ask (definition_of row) (rhs_at sense constant t once numbered i k s j)
+      (range_at sense constant t once numbered i k s j)
 
   pub column_parts_at : (i : ℕ) (k : List ℕ) (column : ColumnParts) → slice_get t.columns.entries i ≡ Some (k, column)
       → declared_of (draft sense constant t) k ≡ declared_in column
   column_parts_at i k column is =
       let s : HasEntryAt t.columns.entries i k = record { key = k; parts = column; at = is; named = refl } in
-      let flag : (f : ColumnParts → Bool) → _ = λ f. flag_at sense constant t once i k s f ∙ stated_at sense constant t once i k s f in
+      let flag : (f : ColumnParts → Bool) →
+      _ = λ f. flag_at sense constant t once i k s f ∙ stated_at sense constant t once i k s f in
       λ j. record {
         lower = given_at sense constant t once i k s lower_of j;
         upper = given_at sense constant t once i k s upper_of j;
@@ -275,10 +300,17 @@ module _ {X : Type 0} (p : List ℕ × X → Bool) where
   below_first k (e ∷ es) h = grind (arith, below_first k es (second_so (is_lt (bytes_cmp k e.0)) (below_all bytes_cmp k es) h))
 
   -- a name below another one is below all names that are above that one
-  below_through : (k m : List ℕ) (es : List (List ℕ × X)) → bytes_cmp k m ≡ Less → below_all bytes_cmp m es ≡ true → below_all bytes_cmp k es ≡ true
+  below_through : (k m : List ℕ) (es : List (List ℕ × X)) → bytes_cmp k m ≡ Less → below_all bytes_cmp m es ≡ true →
+      below_all bytes_cmp k es ≡ true
   below_through k m [] less h = refl
-  below_through k m (e ∷ es) less h = grind
-      (arith, less_from, both_so, bytes_total, below_through k m es less (second_so (is_lt (bytes_cmp m e.0)) (below_all bytes_cmp m es) h))
+  below_through k m (e ∷ es) less h = grind (
+    arith,
+    less_from,
+    both_so,
+    bytes_total,
+    below_through k m es less
+        (second_so (is_lt (bytes_cmp m e.0)) (below_all bytes_cmp m es) h),
+  )
 
   greater_no : (a b : List ℕ) → bytes_cmp a b ≡ Greater → is_lt (bytes_cmp a b) ≡ false
   greater_no a b h = ap is_lt h
@@ -299,12 +331,15 @@ module _ {X : Type 0} (p : List ℕ × X → Bool) where
 
 -- The least of entries with distinct names is the first of their map.
 module _ {V X : Type 0} (f : V → X) (p : List ℕ × X → Bool) (test : V → Bool) where
-  pub least_is_first : (es : List (List ℕ × V)) → IsOnce (each_part f es) → ((i : ℕ) (k : List ℕ) (v : V) → slice_get es i ≡ Some (k, v)
-      → p (k, f v) ≡ test v) → head_of (names_in (filter p (sorted_of bytes_cmp (each_part f es)))) ≡ least_name test es
+  pub least_is_first : (es : List (List ℕ × V)) → IsOnce (each_part f es) →
+      ((i : ℕ) (k : List ℕ) (v : V) → slice_get es i ≡ Some (k, v) → p (k, f v) ≡ test v) →
+      head_of (names_in (filter p (sorted_of bytes_cmp (each_part f es)))) ≡ least_name test es
   least_is_first [] once own = refl
-  least_is_first (e ∷ es) once own = let rest = each_part f es in let more = least_is_first es once.1 (λ i k v is. own (suc i) k v is) in
-      first_put p e.0 _ _ (is_sorted-sorted_of bytes_cmp bytes_total rest) (find-sorted_of bytes_cmp bytes_total e.0 rest ∙ once.0) ∙ (λ i.
-      cond (own zero e.0 e.1 refl i) (Some (lesser e.0 (more i))) (more i))
+  least_is_first (e ∷ es) once own = let rest = each_part f es in
+      let more = least_is_first es once.1 (λ i k v is. own (suc i) k v is) in
+      first_put p e.0 _ _ (is_sorted-sorted_of bytes_cmp bytes_total rest)
+      (find-sorted_of bytes_cmp bytes_total e.0 rest ∙ once.0)
+      ∙ (λ i. cond (own zero e.0 e.1 refl i) (Some (lesser e.0 (more i))) (more i))
 
 -- ---- the loop
 
@@ -349,7 +384,8 @@ there (e ∷ es) (suc i) h none = there es i (omega (arith, h)) none
 pub before : (n : ℕ) → 0 < n → n ≡ suc (n - 1)
 before n h = omega (arith, h)
 
-module _ {V : Type 0} (test : V → Bool) (es : List (List ℕ × V)) (i : ℕ) (k : List ℕ) (v : V) (is : slice_get es i ≡ Some (k, v)) (o : Option (List ℕ)) (so_far : o ≡ least_name test (drop (suc i) es)) where
+module _ {V : Type 0} (test : V → Bool) (es : List (List ℕ × V)) (i : ℕ) (k : List ℕ) (v : V)
+    (is : slice_get es i ≡ Some (k, v)) (o : Option (List ℕ)) (so_far : o ≡ least_name test (drop (suc i) es)) where
   with_entry : least_name test (drop i es) ≡ cond (test v) (Some (lesser k o)) o
   with_entry = ap (least_name test) (drop_at test es i (k, v) is) ∙ ap (λ m. cond (test v) (Some (lesser k m)) m) (sym so_far)
 
@@ -371,19 +407,23 @@ pub faultless_row : (fault : RowFault) (row : RowParts) → is_wrong_row row ≡
 faultless_row fault row h = grind arith
 
 of_row : (all : Draft) (fault : RowFault) → named_fault all (kind_of_row_fault fault) ≡ option_map
-    (λ name. whole_fault (kind_of_row_fault fault) (Some name)) (head_of (names_in (filter (row_passes all (row_test fault)) all.rows)))
+    (λ name. whole_fault (kind_of_row_fault fault) (Some name))
+    (head_of (names_in (filter (row_passes all (row_test fault)) all.rows)))
 of_row = grind arith
 
-pub row_named : (t : Tables) → IsNumbered t → IsOnceEach t → (fault : RowFault) → named_fault (draft None None t) (kind_of_row_fault fault)
-    ≡ option_map (λ name. whole_fault (kind_of_row_fault fault) (Some name)) (least_name (row_fails fault) t.rows.entries)
+pub row_named : (t : Tables) → IsNumbered t → IsOnceEach t → (fault : RowFault) →
+    named_fault (draft None None t) (kind_of_row_fault fault) ≡ option_map
+    (λ name. whole_fault (kind_of_row_fault fault) (Some name)) (least_name (row_fails fault) t.rows.entries)
 row_named t numbered once fault = let all = draft None None t in of_row all fault
     ∙ ap (option_map (λ (name : List ℕ). whole_fault (kind_of_row_fault fault) (Some name)))
-    (least_is_first definition_of (row_passes all (row_test fault)) (row_fails fault) t.rows.entries once.rows (λ i k row is. row_parts_at
-    None None t once numbered i k row is (λ definition rhs range. row_test fault definition (unwrap_or rhs zero_number) range)))
+    (least_is_first definition_of (row_passes all (row_test fault)) (row_fails fault) t.rows.entries once.rows
+    (λ i k row is. row_parts_at None None t once numbered i k row is
+    (λ definition rhs range. row_test fault definition (unwrap_or rhs zero_number) range)))
 
 -- ---- columns
 
-pub faultless_column : (fault : ColumnFault) (column : ColumnParts) → is_wrong_column column ≡ false → column_fails fault column ≡ false
+pub faultless_column : (fault : ColumnFault) (column : ColumnParts) → is_wrong_column column ≡ false →
+    column_fails fault column ≡ false
 faultless_column fault column h = grind arith
 
 filter-map : {X Y : Type 0} (p : Y → Bool) (f : X → Y) (xs : List X) → filter p (map f xs) ≡ map f (filter (λ x. p (f x)) xs)
@@ -402,12 +442,13 @@ of_column all columns.BinaryBounds = grind
 of_column all columns.SemiBounds = grind
     (arith, filter-map (λ name. bounds_test columns.SemiBounds (declared_of all name)) (λ column. column.0) all.columns)
 
-pub column_named : (t : Tables) → IsOnceEach t → (fault : ColumnFault) → named_fault (draft None None t) (kind_of_column_fault fault)
-    ≡ option_map (λ name. whole_fault (kind_of_column_fault fault) (Some name)) (least_name (column_fails fault) t.columns.entries)
+pub column_named : (t : Tables) → IsOnceEach t → (fault : ColumnFault) →
+    named_fault (draft None None t) (kind_of_column_fault fault) ≡ option_map
+    (λ name. whole_fault (kind_of_column_fault fault) (Some name)) (least_name (column_fails fault) t.columns.entries)
 column_named t once fault = let all = draft None None t in of_column all _ ∙ ap (option_map (λ (name : List ℕ). whole_fault
     (kind_of_column_fault fault) (Some name))) (least_is_first no_part (λ column. bounds_test fault (declared_of all column.0))
-    (column_fails fault) t.columns.entries (column_once t once) (λ i k column is. ap (bounds_test fault) (column_parts_at None None t once i
-    k column is)))
+    (column_fails fault) t.columns.entries (column_once t once)
+    (λ i k column is. ap (bounds_test fault) (column_parts_at None None t once i k column is)))
   where
     column_once : (t : Tables) → IsOnceEach t → IsOnce (each_part no_part t.columns.entries)
     column_once = grind (arith, once_too)
@@ -451,16 +492,21 @@ some_column (e ∷ es) = nonempty_put bytes_cmp e.0 tt _
 pub nonempty_from : {X : Type 0} (es : List X) → (length es ≡ 0 → ⊥) → is_nonempty es ≡ true
 nonempty_from = grind arith
 
-pub of_the_whole : (all : Draft) → is_nonempty all.columns ≡ true → file_fault all ≡ or_else (head_of (filter_map (λ fault. named_fault all
-    (kind_of_row_fault fault)) (rows.InfiniteLimit ∷ rows.RangeInexact ∷ rows.LimitTooLarge ∷ rows.LimitsCrossed ∷ [])))
-    (head_of (filter_map (λ fault. named_fault all (kind_of_column_fault fault)) (columns.NegativeUpper ∷ columns.BoundsCrossed ∷ columns.BinaryBounds ∷ columns.SemiBounds ∷ [])))
+pub of_the_whole : (all : Draft) → is_nonempty all.columns ≡ true →
+    file_fault all ≡ or_else (head_of
+    (filter_map (λ fault. named_fault all (kind_of_row_fault fault))
+    (rows.InfiniteLimit ∷ rows.RangeInexact ∷ rows.LimitTooLarge ∷ rows.LimitsCrossed ∷ [])))
+    (head_of (filter_map (λ fault. named_fault all (kind_of_column_fault fault))
+    (columns.NegativeUpper ∷ columns.BoundsCrossed ∷ columns.BinaryBounds ∷ columns.SemiBounds ∷ [])))
 of_the_whole = grind arith
 
 -- the first is there and is the result; or it is not, and the result is that of the others
-pub first_decides : {X Y : Type 0} (f : X → Y) (o : Option X) (a b : Option Y) → option_map f o ≡ a → true ≡ is_some o → option_map f o ≡ or_else a b
+pub first_decides : {X Y : Type 0} (f : X → Y) (o : Option X) (a b : Option Y) → option_map f o ≡ a → true ≡ is_some o →
+    option_map f o ≡ or_else a b
 first_decides = grind arith
 
-pub later_decides : {X Y : Type 0} (f : X → Y) (o : Option X) (a b : Option Y) → option_map f o ≡ a → false ≡ is_some o → b ≡ or_else a b
+pub later_decides : {X Y : Type 0} (f : X → Y) (o : Option X) (a b : Option Y) → option_map f o ≡ a →
+    false ≡ is_some o → b ≡ or_else a b
 later_decides = grind arith
 
 -- ---- the result of a query of tables is the first error of the declaration
@@ -485,12 +531,14 @@ module _ (constant : Option Number) (t : Tables) (once : IsOnceEach t) where
         → infinite ≡ (option_map_or is_plus_infinite lower false || option_map_or is_minus_infinite upper false)
         → bounds_refusals (draft None constant t) c lower upper ≡ those_of ((b, DuplicateBound) ∷ (infinite, InfiniteValue) ∷ [])
     sides_stated lower upper b infinite stated end = let s = entry_at _ i c is in
-        let lowers = part_at None constant t once i c s _ in let uppers = part_at None constant t once i c s _ in
-        (λ j. those_of ((not (sym there j), UnknownColumn) ∷ ((is_some lower && lowers j) || (is_some upper && uppers j), DuplicateBound) ∷ (sym end j, InfiniteValue) ∷ []))
+        let lowers = part_at None constant t once i c s _ in
+        let uppers = part_at None constant t once i c s _ in
+        (λ j. those_of ((not (sym there j), UnknownColumn) ∷
+        ((is_some lower && lowers j) || (is_some upper && uppers j), DuplicateBound) ∷ (sym end j, InfiniteValue) ∷ []))
         ∙ ap (λ duplicate. those_of ((duplicate, DuplicateBound) ∷ (infinite, InfiniteValue) ∷ [])) (sym stated)
 
-    pub cell_stated : (n : ℕ) (r : List ℕ) (b : Bool) → IsNumbered t → row_name t n ≡ Some r → true ≡ has_row (draft None constant t) r
-        → b ≡ is_some (find nat_cmp n (cells_at t i))
+    pub cell_stated : (n : ℕ) (r : List ℕ) (b : Bool) → IsNumbered t → row_name t n ≡ Some r →
+        true ≡ has_row (draft None constant t) r → b ≡ is_some (find nat_cmp n (cells_at t i))
         → those_of (coefficient_tests (draft None constant t) (at r c)) ≡ those_of ((b, DuplicateEntry) ∷ [])
     cell_stated n r b numbered row row_there stated =
         let entry = cell_at None constant t once i c (entry_at t.columns.entries i c is) n r numbered row ∙ sym stated in
@@ -498,9 +546,11 @@ module _ (constant : Option Number) (t : Tables) (once : IsOnceEach t) where
 
   -- ---- rows
 
-  module _ (numbered : IsNumbered t) (p : RowRef) (r : List ℕ) (is : row_name t (row_key_of p) ≡ Some r) (there : true ≡ has_row (draft None constant t) r) where
+  module _ (numbered : IsNumbered t) (p : RowRef) (r : List ℕ) (is : row_name t (row_key_of p) ≡ Some r)
+      (there : true ≡ has_row (draft None constant t) r) where
     pub rhs_stated : (b : Bool) → b ≡ row_satisfies t p (λ o. is_some o.rhs || is_some constant) (λ row. is_some row.rhs
-        || is_definition_by_limits row.definition) → those_of (rhs_tests (draft None constant t) r) ≡ those_of ((b, DuplicateRhs) ∷ [])
+        || is_definition_by_limits row.definition) →
+        those_of (rhs_tests (draft None constant t) r) ≡ those_of ((b, DuplicateRhs) ∷ [])
     rhs_stated b stated = let duplicate = has_rhs_at None constant t once numbered _ p r is ∙ sym stated in λ j. those_of ((
       not (sym there
           j),
@@ -508,12 +558,16 @@ module _ (constant : Option Number) (t : Tables) (once : IsOnceEach t) where
     ) ∷ (duplicate j, DuplicateRhs) ∷ [])
 
     pub range_stated : (value : Number) (b free : Bool)
-        → b ≡ row_satisfies t p (λ o. false) (λ row. is_some row.range || is_definition_by_limits row.definition) → (is_objective_ref p
+        → b ≡ row_satisfies t p (λ o. false) (λ row. is_some row.range || is_definition_by_limits row.definition) →
+        (is_objective_ref p
         || row_satisfies t p (λ o. false) (λ row. is_free_definition row.definition)) ≡ free → refusals (draft None constant t)
-        (declare_range r value) ≡ those_of ((b, DuplicateRange) ∷ (free, RangeOnFree) ∷ (is_infinite_size value, InfiniteValue) ∷ [])
+        (declare_range r value) ≡ those_of
+        ((b, DuplicateRange) ∷ (free, RangeOnFree) ∷ (is_infinite_size value, InfiniteValue) ∷ [])
     range_stated value b free stated is_free = let duplicate = has_range_at None constant t once numbered p r is ∙ sym stated in
-        let no_sides = (λ j. objective_at None constant t once numbered p r is j || free_at None constant t once numbered p r is j) ∙ is_free in
-        λ j. those_of ((not (sym there j), UnknownRow) ∷ (duplicate j, DuplicateRange) ∷ (no_sides j, RangeOnFree) ∷ (is_infinite_size value, InfiniteValue) ∷ [])
+        let no_sides = (λ j. objective_at None constant t once numbered p r is j || free_at None constant t once
+        numbered p r is j) ∙ is_free in
+        λ j. those_of ((not (sym there j), UnknownRow) ∷ (duplicate j, DuplicateRange) ∷ (no_sides j, RangeOnFree) ∷
+        (is_infinite_size value, InfiniteValue) ∷ [])
 
 -- ---- rows by type
 
@@ -535,8 +589,10 @@ IsFreeEntry all column row = (has_row all row ≡ true) × (has_coefficient all 
 
 -- and a second one, of another row
 abbrev AreFreeEntries : Draft → List ℕ → Entry → Option Entry → Type 0
-AreFreeEntries all column first second = (has_row all first.row.now ≡ true) × (has_coefficient all (at first.row.now column) ≡ false)
-    × ForSome second (λ entry. (has_row all entry.row.now ≡ true) × (has_coefficient all (at entry.row.now column) ≡ false) × (entry.row.now ≢ first.row.now))
+AreFreeEntries all column first second =
+    (has_row all first.row.now ≡ true) × (has_coefficient all (at first.row.now column) ≡ false) × ForSome second
+    (λ entry. (has_row all entry.row.now ≡ true) × (has_coefficient all (at entry.row.now column) ≡ false)
+    × (entry.row.now ≢ first.row.now))
 
 entry_free : (all : Draft) (row column : List ℕ) (value : Number) → refusals all (declare_coefficient (at row column) value) ≡ []
     → IsFreeEntry all column row
@@ -578,14 +634,15 @@ module _ (sense : Option Sense) (constant : Option Number) (t : Tables) (is_mark
     mark_allowed = ap (λ b. is_marked && b) (sym (flag_at sense constant t once i _ (entry_at _ i _ is) _)) ∙ line_parts.0
 
     -- and its places are free
-    pub places_free : IsNumbered t → (rows : RowNumbers) → AreRows t entries rows → (entries.second ≡ None → rows.second ≡ rows.first)
-        → AreFree t i rows
+    pub places_free : IsNumbered t → (rows : RowNumbers) → AreRows t entries rows →
+        (entries.second ≡ None → rows.second ≡ rows.first) → AreFree t i rows
     places_free numbered rows are single = record { first = first_free; second = by _ refl }
       where
         no_cell : (n : ℕ) (r : List ℕ) → row_name t n ≡ Some r → has_coefficient (draft sense constant t) (at r column) ≡ false
             → find nat_cmp n (cells_at t i) ≡ None
         no_cell n r row none =
-            none_there _ (sym (cell_at sense constant t once i column (entry_at t.columns.entries i column is) n r numbered row) ∙ none)
+            none_there _ (sym (cell_at sense constant t once i column (entry_at t.columns.entries i column is) n r
+            numbered row) ∙ none)
 
         first_free : find nat_cmp rows.first (cells_at t i) ≡ None
         first_free = no_cell _ _ are.first line_parts.1.1

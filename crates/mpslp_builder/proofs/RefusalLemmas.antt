@@ -48,9 +48,24 @@ declared_names-with_declaration all (declare_row name definition) w h k = search
   has_row-after all (with_declaration all (declare_row name definition)),
 )
 declared_names-with_declaration all (declare_rhs row v) w h k =
-    record { apart = w.apart; rhs_values = λ q there. more_named (has_row all) q row v _ k (w.rhs_values q) there; ranges = w.ranges; integers = w.integers; semis = w.semis }
+    record {
+      apart = w.apart;
+      rhs_values =
+          λ q there. more_named (has_row all) q row v _ k (w.rhs_values q) there;
+      ranges = w.ranges;
+      integers =
+          w.integers;
+      semis = w.semis;
+    }
 declared_names-with_declaration all (declare_range row v) w h k =
-    record { apart = w.apart; rhs_values = w.rhs_values; ranges = λ q there. more_named (has_row all) q row v _ k (w.ranges q) there; integers = w.integers; semis = w.semis }
+    record {
+      apart = w.apart;
+      rhs_values = w.rhs_values;
+      ranges =
+          λ q there. more_named (has_row all) q row v _ k (w.ranges q) there;
+      integers = w.integers;
+      semis = w.semis;
+    }
 declared_names-with_declaration all (declare_column name) w h k = grind (arith, more_entries)
 declared_names-with_declaration all (declare_marked c) w h k = record {
   apart = w.apart;
@@ -94,11 +109,8 @@ declared_names-with_declaration all _ w h k = grind arith
 abbrev pub HasKindsApart : Draft → Type 0
 HasKindsApart all = (name : List ℕ) → is_semi all name ≡ true → is_integer all name ≡ false
 
--- a semi-continuous column has another name than one that is not
-kinds_differ : (all : Draft) (q c : List ℕ) → is_semi all q ≡ true → not (is_semi all c) ≡ true → same_bytes q c ≡ false
-kinds_differ all q c is none = search (rules, back, same_name, not_so)
-
-kinds_apart-with_declaration : (all : Draft) (d : Declaration) → HasKindsApart all → is_allowed all d ≡ true → HasKindsApart (with_declaration all d)
+kinds_apart-with_declaration : (all : Draft) (d : Declaration) → HasKindsApart all → is_allowed all d ≡ true →
+    HasKindsApart (with_declaration all d)
 kinds_apart-with_declaration all d w h = search (rules, same_name, not_so, has-put)
 
 -- ---- a declaration that is not rejected
@@ -109,7 +121,8 @@ first_none = grind arith
 pub rest_none : (b : Bool) (x : BuildFault) (more : List (Bool × BuildFault)) → those_of ((b, x) ∷ more) ≡ [] → those_of more ≡ []
 rest_none = grind arith
 
-pub pass : (b : Bool) (x : BuildFault) (more : List (Bool × BuildFault)) → b ≡ false → those_of more ≡ [] → those_of ((b, x) ∷ more) ≡ []
+pub pass : (b : Bool) (x : BuildFault) (more : List (Bool × BuildFault)) → b ≡ false → those_of more ≡ [] →
+    those_of ((b, x) ∷ more) ≡ []
 pass = grind arith
 
 one_slot_of : (b : Bool) → (not b && true) ≡ true → b ≡ false
@@ -170,9 +183,10 @@ one-with_declaration all (declare_rhs row v) w one h = grind (arith, nor, first_
 one-with_declaration all _ w one h = one
 
 one-before : (before after : Draft) → Extends before after → has_one_constant after ≡ true → has_one_constant before ≡ true
-one-before before after e one = so_not _ (back (is_some _ && has_objective_rhs before) (is_some _ && has_objective_rhs after) (λ h. both_so
-    (is_some _) _ (e.constant (first_so (is_some _) _ h)) (side_after (second_so (is_some _) _ h))) (not_so (is_some _ && has_objective_rhs
-    after) one))
+one-before before after e one =
+    so_not _ (back (is_some _ && has_objective_rhs before) (is_some _ && has_objective_rhs after) (λ h. both_so
+    (is_some _) _ (e.constant (first_so (is_some _) _ h)) (side_after (second_so (is_some _) _ h)))
+    (not_so (is_some _ && has_objective_rhs after) one))
   where
     side_from : (o : Option (List ℕ)) → before.objective ≡ o → option_map_or (has_name before.rhs_values) o false ≡ true
         → has_objective_rhs after ≡ true
@@ -187,10 +201,8 @@ free_of_constant : (all : Draft) (row : List ℕ) (v : Number) → has_one_const
     → (is_objective all row && is_some all.constant) ≡ false
 free_of_constant all row v one = search (rules, has-put)
 
-not_before : (a b : Bool) → (a ≡ true → b ≡ true) → not b ≡ true → not a ≡ true
-not_before a b f h = so_not a (back a b f (not_so b h))
-
-pub allowed-before : (before after : Draft) (d : Declaration) → Extends before after → is_allowed after d ≡ true → is_allowed before d ≡ true
+pub allowed-before : (before after : Draft) (d : Declaration) → Extends before after → is_allowed after d ≡ true →
+    is_allowed before d ≡ true
 allowed-before before after (declare_range row v) e h = grind arith
 allowed-before before after (declare_row name definition) e h = h
 allowed-before before after (declare_lower c l) e h = h
@@ -201,7 +213,8 @@ allowed-before before after (declare_binary c) e h = grind arith
 allowed-before before after (declare_semi c) e h = grind arith
 allowed-before before after _ e h = refl
 
-pub none-from_fine : (all : Draft) (d : Declaration) → IsFine all d → has_one_constant (with_declaration all d) ≡ true → refusals all d ≡ []
+pub none-from_fine : (all : Draft) (d : Declaration) → IsFine all d → has_one_constant (with_declaration all d) ≡ true →
+    refusals all d ≡ []
 none-from_fine all (declare_row name definition) f one = grind (arith, pass, not_so)
 none-from_fine all (declare_rhs row v) f one = grind (arith, nor, one_slot_of, pass, both_false, free_of_constant)
 none-from_fine all (declare_column name) f one = refl
@@ -241,7 +254,8 @@ said all (declare_binary c) = or_right _ _ (or_right _ _ (put_there c all.binari
 said all (declare_semi c) = put_there c _
 said all _ = refl
 
-said-after : (before after : Draft) (d : Declaration) → Extends before after → says_kind before d ≡ true → says_kind after d ≡ true
+said-after : (before after : Draft) (d : Declaration) → Extends before after → says_kind before d ≡ true →
+    says_kind after d ≡ true
 said-after before after (declare_marked c) e h = e.integer c h
 said-after before after (declare_integer c) e h = e.integer c h
 said-after before after (declare_binary c) e h = e.integer c h
@@ -303,8 +317,9 @@ consistent-from_none declarations objective h = grind
     (arith, none-fine declarations, empty_declared_names, empty_kinds_apart, fresh_in_turn-is declarations)
 
 pub none-from_fine_in_turn : (declarations : Declarations) (before : Draft) → are_fresh_in_turn before declarations ≡ true
-    → are_known_in_turn before declarations ≡ true → list_all (is_allowed (with_declarations before declarations)) declarations ≡ true
-    → has_one_constant (with_declarations before declarations) ≡ true → refusals_in_turn before declarations ≡ []
+    → are_known_in_turn before declarations ≡ true →
+    list_all (is_allowed (with_declarations before declarations)) declarations ≡ true →
+    has_one_constant (with_declarations before declarations) ≡ true → refusals_in_turn before declarations ≡ []
 none-from_fine_in_turn [] before fresh known allowed one = refl
 none-from_fine_in_turn (d ∷ more) before fresh known allowed one =
     let after = with_declarations _ more in
@@ -321,8 +336,8 @@ none-from_fine_in_turn (d ∷ more) before fresh known allowed one =
     (none-from_fine_in_turn more (with_declaration _ d) fresh_then (second_so _ _ known) (second_so _ _ allowed) one)
 
 -- Consistent declarations are not rejected in turn, if each name is used after its declaration.
-pub none-from_consistent : (declarations : Declarations) → AreConsistent declarations → are_known_in_turn empty_draft declarations ≡ true
-    → refusals_in_turn empty_draft declarations ≡ []
+pub none-from_consistent : (declarations : Declarations) → AreConsistent declarations →
+    are_known_in_turn empty_draft declarations ≡ true → refusals_in_turn empty_draft declarations ≡ []
 none-from_consistent = grind (arith, none-from_fine_in_turn, fresh_in_turn-is, both_so, are_fresh, all_fresh)
 
 -- ---- the draft of consistent, legal declarations is well-formed
@@ -344,13 +359,24 @@ has_objective-drafted (d ∷ more) b h = has_objective-drafted more _ h
 abbrev IsApart : Draft → Type 0
 IsApart all = (name : List ℕ) → is_objective all name ≡ true → has_name all.rows name ≡ false
 
-apart-with_declaration : (all : Draft) (d : Declaration) → IsApart all → are_fresh all (slots_of d) ≡ true → IsApart (with_declaration all d)
+apart-with_declaration : (all : Draft) (d : Declaration) → IsApart all → are_fresh all (slots_of d) ≡ true →
+    IsApart (with_declaration all d)
 apart-with_declaration all d w h = search (rules, not_so, same_name, back, or_right, has-put, or_left)
 
 apart-in_turn : (declarations : Declarations) (b : Draft) → IsApart b → are_fresh_in_turn b declarations ≡ true
     → IsApart (with_declarations b declarations)
 apart-in_turn [] b w h = w
-apart-in_turn (d ∷ more) b w h = grind (arith, apart-with_declaration, are_fresh, are_fresh_in_turn, apart-in_turn more (with_declaration b d) (apart-with_declaration b d w (first_so (are_fresh b (slots_of d)) (are_fresh_in_turn (with_declaration b d) more) h)) (second_so (are_fresh b (slots_of d)) (are_fresh_in_turn (with_declaration b d) more) h))
+apart-in_turn (d ∷ more) b w h =
+    grind (
+      arith,
+      apart-with_declaration,
+      are_fresh,
+      are_fresh_in_turn,
+      apart-in_turn more (with_declaration b d)
+          (apart-with_declaration b d w (first_so (are_fresh b (slots_of d))
+          (are_fresh_in_turn (with_declaration b d) more) h))
+          (second_so (are_fresh b (slots_of d)) (are_fresh_in_turn (with_declaration b d) more) h),
+    )
 
 pub fresh-from_once : (declarations : Declarations) → are_distinct same_slot (all_slots declarations) ≡ true
     → are_fresh_in_turn empty_draft declarations ≡ true
@@ -364,7 +390,7 @@ pub record IsWellFormed (all : Draft) : Type 0 where
   pub apart : IsApart all
   pub good : IsGood all all
 
-pub well_formed-from_consistent : (declarations : Declarations) → AreConsistent declarations → list_all is_legal declarations ≡ true
-    → IsWellFormed (draft_of declarations)
+pub well_formed-from_consistent : (declarations : Declarations) → AreConsistent declarations →
+    list_all is_legal declarations ≡ true → IsWellFormed (draft_of declarations)
 well_formed-from_consistent declarations c legal =
     search (rules, has_objective-drafted, apart-in_turn, fresh-from_once, good-with_declarations, empty_good)

@@ -8,7 +8,7 @@ use Prelude.{declare_column, declare_coefficient, declare_lower, declare_upper, 
 use Prelude.{declare_semi, Declarations, Draft, with_declaration, at_name, has_name, has_row, has_coefficient, is_definition_by_limits}
 use Prelude.{is_row_by_limits, are_distinct, Slot, sense_slot, objective_slot, constant_slot, row_slot, rhs_slot, range_slot}
 use Prelude.{coefficient_slot, lower_slot, upper_slot, same_slot, slots_of, all_slots, or_end, all_true, mixed, mixed_more, IsTotalOrder}
-use Prelude.{Ordering, Less, Equal, is_sorted, same_entries, is_sorted-put, T, IsPermutation, if◌then◌else◌, nat_list_eq_equiv}
+use Prelude.{Ordering, Less, Equal, is_sorted, same_entries, is_sorted-put, T, IsPermutation, nat_list_eq_equiv}
 use Prelude.{LinearModel, empty_draft, with_declarations, draft_of, is_known, AreConsistent}
 use Prelude.{Means, along_permutation, flat_map, flat_map-append, Each, first_so, second_so, has_column, is_objective, is_integer, is_semi}
 use Prelude.{or_right, either_more, not_so}
@@ -19,19 +19,22 @@ use Prelude.{or_right, either_more, not_so}
 
 pub at-put : {X : Type 0} (q k : List ℕ) (v : X) (es : List (List ℕ × X))
     → at_name (put bytes_cmp k v es) q ≡ cond (same_bytes q k) (Some v) (at_name es q)
-at-put {X} q k v es = find-put _ nat_list_cmp_total q k v es ∙ ap (λ b. cond b (Some v) (find bytes_cmp q es)) (sym (texts_ties q k))
+at-put {X} q k v es = find-put _ nat_list_cmp_total q k v es ∙ ap (λ b. cond b (Some v) (find bytes_cmp q es))
+    (sym (texts_ties q k))
 
 is_some-cond : {X : Type 0} (b : Bool) (v : X) (o : Option X) → is_some (cond b (Some v) o) ≡ (b || is_some o)
 is_some-cond = grind arith
 
-pub has-put : {X : Type 0} (q k : List ℕ) (v : X) (es : List (List ℕ × X)) → has_name (put bytes_cmp k v es) q ≡ (same_bytes q k || has_name es q)
+pub has-put : {X : Type 0} (q k : List ℕ) (v : X) (es : List (List ℕ × X)) →
+    has_name (put bytes_cmp k v es) q ≡ (same_bytes q k || has_name es q)
 has-put q k v es = ap is_some (at-put q k v es) ∙ is_some-cond _ v _
 
 pub key_ties : (a b : CoefficientKey) → (same_bytes a.row b.row && same_bytes a.column b.column) ≡ eq_by_cmp key_cmp a b
 key_ties a b = and_comm _ (same_bytes _ b.column) ∙ both_tied _ _ _ _ (texts_ties a.column _) (texts_ties a.row _)
 
 pub has-put_key : {X : Type 0} (q k : CoefficientKey) (v : X) (es : List (CoefficientKey × X)) → is_some
-    (find key_cmp q (put key_cmp k v es)) ≡ ((same_bytes q.row k.row && same_bytes q.column k.column) || is_some (find key_cmp q es))
+    (find key_cmp q (put key_cmp k v es)) ≡ ((same_bytes q.row k.row && same_bytes q.column k.column) || is_some
+    (find key_cmp q es))
 has-put_key q k v es = ap is_some (find-put _ key_total q k v es)
     ∙ is_some-cond _ v _ ∙ ap (λ b. b || is_some (find key_cmp q es)) (sym (key_ties q k))
 
@@ -66,7 +69,8 @@ after_or : (s a r l : Bool) → ((s || r) || l) ≡ ((s || false) || (r || l))
 after_or = grind arith
 
 limits_of_cond : (b : Bool) (definition : RowDefinition) (o : Option RowDefinition) → option_map_or is_definition_by_limits
-    (cond b (Some definition) o) false ≡ cond b (is_definition_by_limits definition) (option_map_or is_definition_by_limits o false)
+    (cond b (Some definition) o) false ≡ cond b (is_definition_by_limits definition)
+    (option_map_or is_definition_by_limits o false)
 limits_of_cond = grind arith
 
 pub fresh_row : (a b : Bool) (rest : Bool) → (not (a || b) && rest) ≡ true → b ≡ false
@@ -96,15 +100,18 @@ pub filled-with_declaration : (all : Draft) (d : Declaration) (slot : Slot) → 
 filled-with_declaration all (declare_objective name) (row_slot n) h = grind (arith, row_by_objective)
 filled-with_declaration all (declare_row name (by_type type)) (row_slot n) h = grind (arith, has-put, in_row)
 filled-with_declaration all (declare_row name (by_limits l u)) (row_slot n) h = grind (arith, has-put, in_row)
-filled-with_declaration all (declare_row name (by_type type)) (rhs_slot n) h = grind (arith, limits_at, by_type_after, was_no_limits)
-filled-with_declaration all (declare_row name (by_type type)) (range_slot n) h = grind (arith, limits_at, by_type_after, was_no_limits)
+filled-with_declaration all (declare_row name (by_type type)) (rhs_slot n) h =
+    grind (arith, limits_at, by_type_after, was_no_limits)
+filled-with_declaration all (declare_row name (by_type type)) (range_slot n) h =
+    grind (arith, limits_at, by_type_after, was_no_limits)
 filled-with_declaration all (declare_row name (by_limits l u)) (rhs_slot n) h = grind (arith, limits_at, by_limits_after)
 filled-with_declaration all (declare_row name (by_limits l u)) (range_slot n) h = grind (arith, limits_at, by_limits_after)
 filled-with_declaration all (declare_row name (by_type type)) _ h = refl
 filled-with_declaration all (declare_row name (by_limits l u)) _ h = refl
 filled-with_declaration all (declare_rhs row v) (rhs_slot n) h = grind (arith, has-put, after_or)
 filled-with_declaration all (declare_range row v) (range_slot n) h = grind (arith, has-put, after_or)
-filled-with_declaration all (declare_coefficient key v) (coefficient_slot p) h = grind (arith, has-put_key p key v all.coefficients, or_end)
+filled-with_declaration all (declare_coefficient key v) (coefficient_slot p) h =
+    grind (arith, has-put_key p key v all.coefficients, or_end)
 filled-with_declaration all (declare_lower name v) (lower_slot n) h = has-put n _ v _ ∙ or_end _ (has_name _ n)
 filled-with_declaration all (declare_upper name v) (upper_slot n) h = has-put n _ v _ ∙ or_end _ (has_name _ n)
 filled-with_declaration all (declare_sense x) sense_slot h = refl
@@ -122,7 +129,8 @@ filled-with_declaration all _ _ h = refl
 abbrev pub are_apart : List Slot → List Slot → Bool
 are_apart earlier later = list_all (λ slot. not (list_any (same_slot slot) earlier)) later
 
-pub apart-cons : (x : Slot) (xs later : List Slot) → are_apart (x ∷ xs) later ≡ (not (list_any (λ slot. same_slot slot x) later) && are_apart xs later)
+pub apart-cons : (x : Slot) (xs later : List Slot) →
+    are_apart (x ∷ xs) later ≡ (not (list_any (λ slot. same_slot slot x) later) && are_apart xs later)
 apart-cons x xs [] = refl
 apart-cons x xs (y ∷ later) = grind (arith, apart-cons x xs later)
 
@@ -137,7 +145,8 @@ distinct_own = grind arith
 fresh-with_declaration : (all : Draft) (d : Declaration) (later : List Slot) → are_fresh all (slots_of d) ≡ true
     → are_fresh (with_declaration all d) later ≡ (are_apart (slots_of d) later && are_fresh all later)
 fresh-with_declaration all d [] h = refl
-fresh-with_declaration all d (slot ∷ later) h = grind (arith, filled-with_declaration, mixed, fresh-with_declaration all d later h)
+fresh-with_declaration all d (slot ∷ later) h =
+    grind (arith, filled-with_declaration, mixed, fresh-with_declaration all d later h)
 
 -- ---- in turn
 
@@ -148,7 +157,8 @@ are_fresh_in_turn before (d ∷ more) = are_fresh before (slots_of d) && are_fre
 
 -- So no slot was filled before, and none is filled twice, in any order.
 pub fresh_in_turn-is : (declarations : Declarations) (before : Draft)
-    → are_fresh_in_turn before declarations ≡ (are_fresh before (all_slots declarations) && are_distinct same_slot (all_slots declarations))
+    → are_fresh_in_turn before declarations ≡ (are_fresh before (all_slots declarations) && are_distinct same_slot
+    (all_slots declarations))
 fresh_in_turn-is [] before = refl
 fresh_in_turn-is (d ∷ more) before = search (
   rules,
@@ -169,12 +179,13 @@ module _ {K X : Type 0} (R : K → K → Ordering) (o : IsTotalOrder R) where
   put_below j k w v below (e ∷ es) = grind (arith, put_below j k w v below es)
 
   -- at different keys, in either order
-  pub put-put : (j k : K) (w v : X) (es : List (K × X)) → eq_by_cmp R j k ≡ false → put R k v (put R j w es) ≡ put R j w (put R k v es)
+  pub put-put : (j k : K) (w v : X) (es : List (K × X)) → eq_by_cmp R j k ≡ false →
+      put R k v (put R j w es) ≡ put R j w (put R k v es)
   put-put = grind (arith, put_below)
 
   -- an entry that is in sorted entries
-  pub put-again : (k : K) (v : X) (es : List (K × X)) → ((x y : K) → R x y ≡ Equal → x ≡ y) → T (is_sorted R es) → find R k es ≡ Some v
-      → put R k v es ≡ es
+  pub put-again : (k : K) (v : X) (es : List (K × X)) → ((x y : K) → R x y ≡ Equal → x ≡ y) → T (is_sorted R es) →
+      find R k es ≡ Some v → put R k v es ≡ es
   put-again k v es same sorted there =
       same_entries R o same _ es (is_sorted-put R o k v es sorted) sorted (λ q. find-put R o q k v es ∙ by q _ refl)
     where
@@ -190,7 +201,8 @@ names_turn : {X : Type 0} (j k : List ℕ) (w v : X) (es : List (List ℕ × X))
 names_turn j k w v es apart = sym (put-put _ nat_list_cmp_total k j v w es (sym (texts_ties k j) ∙ apart))
 
 -- the same value at either name
-units_turn : (j k : List ℕ) (es : List (List ℕ × Unit {0})) → put bytes_cmp k tt (put bytes_cmp j tt es) ≡ put bytes_cmp j tt (put bytes_cmp k tt es)
+units_turn : (j k : List ℕ) (es : List (List ℕ × Unit {0})) →
+    put bytes_cmp k tt (put bytes_cmp j tt es) ≡ put bytes_cmp j tt (put bytes_cmp k tt es)
 units_turn j k es = search (rules, same_name, names_turn)
 
 keys_turn : {X : Type 0} (j k : CoefficientKey) (w v : X) (es : List (CoefficientKey × X)) → (same_bytes k.row j.row
@@ -202,9 +214,6 @@ keys_turn j k w v es apart = sym (put-put _ key_total k j v w es (sym (key_ties 
 heads_apart : (a b : Slot) (more others : List Slot) → are_apart (a ∷ more) (b ∷ others) ≡ true → same_slot b a ≡ false
 heads_apart = grind arith
 
-abbrev limit_slots : List ℕ → RowDefinition → List Slot
-limit_slots name definition = if is_definition_by_limits definition then rhs_slot name ∷ range_slot name ∷ [] else []
-
 -- Two declarations that share no slot make the same draft in either order.
 pub with_declaration-with_declaration : (all : Draft) (x y : Declaration) → are_apart (slots_of x) (slots_of y) ≡ true
     → with_declaration (with_declaration all x) y ≡ with_declaration (with_declaration all y) x
@@ -214,14 +223,20 @@ with_declaration-with_declaration all (declare_constant a) (declare_constant b) 
 with_declaration-with_declaration all (declare_row j w) (declare_row k v) h = grind (arith, names_turn, heads_apart)
 with_declaration-with_declaration all (declare_rhs j w) (declare_rhs k v) h = grind (arith, names_turn, heads_apart)
 with_declaration-with_declaration all (declare_range j w) (declare_range k v) h = grind (arith, names_turn, heads_apart)
-with_declaration-with_declaration all (declare_column j) (declare_column k) h = ap (λ columns. record all { columns = columns }) (units_turn j k _)
-with_declaration-with_declaration all (declare_coefficient j w) (declare_coefficient k v) h = grind (arith, keys_turn, heads_apart)
+with_declaration-with_declaration all (declare_column j) (declare_column k) h =
+    ap (λ columns. record all { columns = columns }) (units_turn j k _)
+with_declaration-with_declaration all (declare_coefficient j w) (declare_coefficient k v) h =
+    grind (arith, keys_turn, heads_apart)
 with_declaration-with_declaration all (declare_lower j w) (declare_lower k v) h = grind (arith, names_turn, heads_apart)
 with_declaration-with_declaration all (declare_upper j w) (declare_upper k v) h = grind (arith, names_turn, heads_apart)
-with_declaration-with_declaration all (declare_marked j) (declare_marked k) h = ap (λ marked. record all { marked = marked }) (units_turn j k _)
-with_declaration-with_declaration all (declare_integer j) (declare_integer k) h = ap (λ integers. record all { integers = integers }) (units_turn j k _)
-with_declaration-with_declaration all (declare_binary j) (declare_binary k) h = ap (λ binaries. record all { binaries = binaries }) (units_turn j k _)
-with_declaration-with_declaration all (declare_semi j) (declare_semi k) h = ap (λ semis. record all { semis = semis }) (units_turn j k _)
+with_declaration-with_declaration all (declare_marked j) (declare_marked k) h =
+    ap (λ marked. record all { marked = marked }) (units_turn j k _)
+with_declaration-with_declaration all (declare_integer j) (declare_integer k) h =
+    ap (λ integers. record all { integers = integers }) (units_turn j k _)
+with_declaration-with_declaration all (declare_binary j) (declare_binary k) h =
+    ap (λ binaries. record all { binaries = binaries }) (units_turn j k _)
+with_declaration-with_declaration all (declare_semi j) (declare_semi k) h =
+    ap (λ semis. record all { semis = semis }) (units_turn j k _)
 with_declaration-with_declaration all _ _ h = refl
 
 -- ---- slots, in either order
@@ -230,7 +245,8 @@ same_slot_turn : (a b : Slot) → same_slot a b ≡ same_slot b a
 same_slot_turn (row_slot a) (row_slot b) = nat_list_eq_equiv.symm a b
 same_slot_turn (rhs_slot a) (rhs_slot b) = nat_list_eq_equiv.symm a b
 same_slot_turn (range_slot a) (range_slot b) = nat_list_eq_equiv.symm a b
-same_slot_turn (coefficient_slot a) (coefficient_slot b) = λ i. nat_list_eq_equiv.symm a.row b.row i && nat_list_eq_equiv.symm a.column b.column i
+same_slot_turn (coefficient_slot a) (coefficient_slot b) =
+    λ i. nat_list_eq_equiv.symm a.row b.row i && nat_list_eq_equiv.symm a.column b.column i
 same_slot_turn (lower_slot a) (lower_slot b) = nat_list_eq_equiv.symm a b
 same_slot_turn (upper_slot a) (upper_slot b) = nat_list_eq_equiv.symm a b
 same_slot_turn sense_slot sense_slot = refl
@@ -267,7 +283,8 @@ record Reorders (xs ys : Declarations) : Type 0 where
   pub all : (p : Declaration → Bool) → list_all p xs ≡ list_all p ys
   pub slots : (p : Slot → Bool) → list_all p (all_slots xs) ≡ list_all p (all_slots ys)
   pub distinct : are_distinct same_slot (all_slots xs) ≡ are_distinct same_slot (all_slots ys)
-  pub draft : are_distinct same_slot (all_slots xs) ≡ true → (before : Draft) → with_declarations before xs ≡ with_declarations before ys
+  pub draft : are_distinct same_slot (all_slots xs) ≡ true → (before : Draft) →
+      with_declarations before xs ≡ with_declarations before ys
 
 reorders_same : (xs : Declarations) → Reorders xs xs
 reorders_same = grind arith
@@ -276,7 +293,16 @@ reorders_skip : (x : Declaration) (xs ys : Declarations) → Reorders xs ys → 
 reorders_skip = grind (arith, list_all-append, are_distinct-append, are_apart)
 
 reorders_turn : (x y : Declaration) (xs : Declarations) → Reorders (x ∷ y ∷ xs) (y ∷ x ∷ xs)
-reorders_turn = grind (arith, or_turn, and_turn, list_all-append, distinct_turn, are_apart, distinct_three, with_declaration-with_declaration)
+reorders_turn = grind (
+  arith,
+  or_turn,
+  and_turn,
+  list_all-append,
+  distinct_turn,
+  are_apart,
+  distinct_three,
+  with_declaration-with_declaration,
+)
 
 reorders_chain : (xs ys zs : Declarations) → Reorders xs ys → Reorders ys zs → Reorders xs zs
 reorders_chain = grind arith
@@ -338,8 +364,9 @@ stays-all part value [] h all is = is
 stays-all part value (d ∷ ds) h all is = stays-all _ _ ds h.1 _ (h.0 all is)
 
 -- a part that no declaration changes
-pub kept-all : {X : Type 0} (part : Draft → X) (ds : Declarations) → Each (λ d. (all : Draft) → part (with_declaration all d) ≡ part all) ds
-    → (all : Draft) → part (with_declarations all ds) ≡ part all
+pub kept-all : {X : Type 0} (part : Draft → X) (ds : Declarations) →
+    Each (λ d. (all : Draft) → part (with_declaration all d) ≡ part all) ds → (all : Draft) →
+    part (with_declarations all ds) ≡ part all
 kept-all part [] h all = refl
 kept-all part (d ∷ ds) h all = kept-all part ds h.1 _ ∙ h.0 all
 
@@ -352,7 +379,8 @@ pub record Extends (before after : Draft) : Type 0 where
   pub objective : (name : List ℕ) → before.objective ≡ Some name → after.objective ≡ Some name
   pub constant : is_some before.constant ≡ true → is_some after.constant ≡ true
   pub right_side : (name : List ℕ) → has_name before.rhs_values name ≡ true → has_name after.rhs_values name ≡ true
-  pub row : (name : List ℕ) (definition : RowDefinition) → at_name before.rows name ≡ Some definition → at_name after.rows name ≡ Some definition
+  pub row : (name : List ℕ) (definition : RowDefinition) → at_name before.rows name ≡ Some definition →
+      at_name after.rows name ≡ Some definition
   pub column : (name : List ℕ) → has_column before name ≡ true → has_column after name ≡ true
   pub integer : (name : List ℕ) → is_integer before name ≡ true → is_integer after name ≡ true
   pub semi : (name : List ℕ) → is_semi before name ≡ true → is_semi after name ≡ true
@@ -371,19 +399,21 @@ then_on a b c f g = record {
   semi = λ n h. g.semi n (f.semi n h);
 }
 
-pub more_entries : {X : Type 0} (q k : List ℕ) (v : X) (es : List (List ℕ × X)) → has_name es q ≡ true → has_name (put bytes_cmp k v es) q ≡ true
+pub more_entries : {X : Type 0} (q k : List ℕ) (v : X) (es : List (List ℕ × X)) → has_name es q ≡ true →
+    has_name (put bytes_cmp k v es) q ≡ true
 more_entries = grind (arith, has-put, or_right)
 
 -- one more row, of a new name
-kept_row : (b : Bool) (new : RowDefinition) (o : Option RowDefinition) (definition : RowDefinition) → (b ≡ true → o ≡ Some definition → ⊥)
-    → o ≡ Some definition → cond b (Some new) o ≡ Some definition
+kept_row : (b : Bool) (new : RowDefinition) (o : Option RowDefinition) (definition : RowDefinition) →
+    (b ≡ true → o ≡ Some definition → ⊥) → o ≡ Some definition → cond b (Some new) o ≡ Some definition
 kept_row = grind arith
 
 is_new_row : (all : Draft) (name q : List ℕ) (definition : RowDefinition) (rest : Bool) → (not (has_row all name) && rest) ≡ true
     → same_bytes q name ≡ true → at_name all.rows q ≡ Some definition → ⊥
 is_new_row all name q definition rest h same found = search (rules, same_name, not_so, or_right)
 
-pub extends-with_declaration : (all : Draft) (d : Declaration) → are_fresh all (slots_of d) ≡ true → Extends all (with_declaration all d)
+pub extends-with_declaration : (all : Draft) (d : Declaration) → are_fresh all (slots_of d) ≡ true →
+    Extends all (with_declaration all d)
 extends-with_declaration all (declare_row name definition) h = grind (arith, at-put, kept_row, is_new_row)
 extends-with_declaration all (declare_rhs row v) h = grind (arith, more_entries)
 extends-with_declaration all (declare_column name) h = grind (arith, more_entries)
@@ -410,13 +440,15 @@ value_in = grind arith
 pub itself_named : (q : List ℕ) → same_bytes q q ≡ true
 itself_named q = nat_list_eq_equiv.refl q
 
-pub is_objective-after : (before after : Draft) (q : List ℕ) → Extends before after → is_objective before q ≡ true → is_objective after q ≡ true
+pub is_objective-after : (before after : Draft) (q : List ℕ) → Extends before after → is_objective before q ≡ true →
+    is_objective after q ≡ true
 is_objective-after = grind arith
 
 pub has_row-after : (before after : Draft) (q : List ℕ) → Extends before after → has_row before q ≡ true → has_row after q ≡ true
 has_row-after = grind arith
 
-pub known-after : (before after : Draft) (d : Declaration) → Extends before after → is_known before d ≡ true → is_known after d ≡ true
+pub known-after : (before after : Draft) (d : Declaration) → Extends before after → is_known before d ≡ true →
+    is_known after d ≡ true
 known-after before after (declare_rhs row v) e h = has_row-after _ _ row e h
 known-after before after (declare_range row v) e h = has_row-after _ _ row e h
 known-after before after (declare_coefficient key v) e h = grind arith

@@ -51,7 +51,8 @@ module _ {V X : Type 0} (f : V → X) where
 
 module _ {V X Y : Type 0} (f : V → X) (g : V → Y) where
   -- a missing name is missing in each part
-  pub none_too : (q : List ℕ) (es : List (List ℕ × V)) → find bytes_cmp q (each_part f es) ≡ None → find bytes_cmp q (each_part g es) ≡ None
+  pub none_too : (q : List ℕ) (es : List (List ℕ × V)) → find bytes_cmp q (each_part f es) ≡ None →
+      find bytes_cmp q (each_part g es) ≡ None
   none_too q [] h = refl
   none_too q (e ∷ es) h = grind (arith, none_too q es)
 
@@ -61,16 +62,18 @@ module _ {V X Y : Type 0} (f : V → X) (g : V → Y) where
 
 module _ {V X Y : Type 0} (f : V → X) (g : V → Option Y) where
   -- a missing part is not given
-  pub none_given : (q : List ℕ) (es : List (List ℕ × V)) → find bytes_cmp q (each_part f es) ≡ None → find bytes_cmp q (given_parts g es) ≡ None
+  pub none_given : (q : List ℕ) (es : List (List ℕ × V)) → find bytes_cmp q (each_part f es) ≡ None →
+      find bytes_cmp q (given_parts g es) ≡ None
   none_given q [] none = refl
   none_given q (e ∷ es) none = grind (arith, none_given q es)
 
   -- what is given by the name of an entry is the part of that entry
-  pub find_given_own : (es : List (List ℕ × V)) (i : ℕ) (k : List ℕ) (v : V) → IsOnce (each_part f es) → slice_get es i ≡ Some (k, v)
-      → find bytes_cmp k (given_parts g es) ≡ g v
+  pub find_given_own : (es : List (List ℕ × V)) (i : ℕ) (k : List ℕ) (v : V) → IsOnce (each_part f es) →
+      slice_get es i ≡ Some (k, v) → find bytes_cmp k (given_parts g es) ≡ g v
   find_given_own [] i k v once is = cc
   find_given_own (e ∷ es) zero k v once is = grind (arith, none_given, name_tied)
-  find_given_own (e ∷ es) (suc i) k v once is = grind (arith, find_given_own es i k v once.1 is, there_found f es i e.0, name_same k e.0)
+  find_given_own (e ∷ es) (suc i) k v once is =
+      grind (arith, find_given_own es i k v once.1 is, there_found f es i e.0, name_same k e.0)
 
 -- ---- one more entry, or another value
 
@@ -99,7 +102,8 @@ module _ {V X : Type 0} (f : V → X) where
   -- what is found at a key is the part at its name
   pub at_name-each_part : (q : List ℕ) (es : List (List ℕ × V)) (o : Option V) → o ≡ lookup (λ k. same_bytes q k) es
       → option_map f o ≡ at_name (sorted_of bytes_cmp (each_part f es)) q
-  at_name-each_part q es o h = ap (option_map f) h ∙ sym (find-sorted_of bytes_cmp bytes_total q (each_part f es) ∙ find-each_part f q es)
+  at_name-each_part q es o h = ap (option_map f) h
+      ∙ sym (find-sorted_of bytes_cmp bytes_total q (each_part f es) ∙ find-each_part f q es)
 
   -- a name is one of the map's if and only if it is a key
   pub has_name-each_part : (q : List ℕ) (es : List (List ℕ × V))
@@ -115,10 +119,11 @@ module _ {V X : Type 0} (f : V → X) where
 
 module _ {V : Type 0} (f : V → List (ℕ × Number)) (name : ℕ → Option (List ℕ)) (apart : IsInjective name) where
   -- a coefficient is put at a free place
-  pub find-put_in_column : (q : CoefficientKey) (n : ℕ) (x : Number) (r : List ℕ) (es : List (List ℕ × V)) (i : ℕ) (k : List ℕ) (v w : V)
-      → name n ≡ Some r → slice_get es i ≡ Some (k, v) → f w ≡ put nat_cmp n x (f v)
-      → find key_cmp (at r k) (all_cells name (each_part f es)) ≡ None → find key_cmp q (all_cells name (each_part f (set_value_at es i w)))
-      ≡ cond (eq_by_cmp key_cmp q (at r k)) (Some x) (find key_cmp q (all_cells name (each_part f es)))
+  pub find-put_in_column : (q : CoefficientKey) (n : ℕ) (x : Number) (r : List ℕ) (es : List (List ℕ × V)) (i : ℕ)
+      (k : List ℕ) (v w : V) → name n ≡ Some r → slice_get es i ≡ Some (k, v) → f w ≡ put nat_cmp n x (f v)
+      → find key_cmp (at r k) (all_cells name (each_part f es)) ≡ None →
+      find key_cmp q (all_cells name (each_part f (set_value_at es i w))) ≡ cond (eq_by_cmp key_cmp q (at r k))
+      (Some x) (find key_cmp q (all_cells name (each_part f es)))
   find-put_in_column q n x r [] i k v w p is put_there absent = cc
   find-put_in_column q n x r (e ∷ es) zero k v w p is put_there absent = grind (
     arith,
@@ -154,7 +159,8 @@ module _ {V : Type 0} (f : V → List (ℕ × Number)) (name : ℕ → Option (L
 -- ---- parts that are declared
 
 module _ {V X : Type 0} (f : V → Option X) where
-  pub given_parts-without : (es : List (List ℕ × V)) (k : List ℕ) (v : V) → f v ≡ None → given_parts f (es ++ (k, v) ∷ []) ≡ given_parts f es
+  pub given_parts-without : (es : List (List ℕ × V)) (k : List ℕ) (v : V) → f v ≡ None →
+      given_parts f (es ++ (k, v) ∷ []) ≡ given_parts f es
   given_parts-without [] k v none = grind arith
   given_parts-without (e ∷ es) k v none = grind (arith, given_parts-without es k v none)
 
@@ -164,14 +170,16 @@ module _ {V X : Type 0} (f : V → Option X) where
   given_parts-kept (e ∷ es) zero k v w at same = grind (arith)
   given_parts-kept (e ∷ es) (suc i) k v w at same = grind (arith, at, given_parts-kept es i k v w at same)
 
-  none_given_part : (q : List ℕ) (es : List (List ℕ × V)) → lookup (λ k. same_bytes q k) es ≡ None → find bytes_cmp q (given_parts f es) ≡ None
+  none_given_part : (q : List ℕ) (es : List (List ℕ × V)) → lookup (λ k. same_bytes q k) es ≡ None →
+      find bytes_cmp q (given_parts f es) ≡ None
   none_given_part q [] none = refl
   none_given_part q (e ∷ es) none =
       elim (same_bytes q e.0) as (λ b. same_bytes q e.0 ≡ b → cond b (Some e.1) (lookup (λ k. same_bytes q k) es) ≡ None
       → find bytes_cmp q (given_parts f (e ∷ es)) ≡ None) [
         | true ↦ λ _ h. cc
         | false ↦ λ differ h.
-            elim (f e.1) as (λ o. find bytes_cmp q (option_map_or (λ x. (e.0, x) ∷ given_parts f es) o (given_parts f es)) ≡ None) [
+            elim (f e.1) as (λ o. find bytes_cmp q
+            (option_map_or (λ x. (e.0, x) ∷ given_parts f es) o (given_parts f es)) ≡ None) [
               | None ↦ none_given_part q es h
               | Some x ↦ ap (λ b. cond b (Some x) (find bytes_cmp q (given_parts f es))) (sym (texts_ties q e.0) ∙ differ)
                   ∙ none_given_part q es h
@@ -233,20 +241,43 @@ module _ (name later : ℕ → Option (List ℕ)) (more : (n : ℕ) (r : List �
   column_cells-more : (c : List ℕ) (es : List (ℕ × Number)) → list_all (λ e. is_some (name e.0)) es ≡ true
       → column_cells later c es ≡ column_cells name c es
   column_cells-more c [] h = refl
-  column_cells-more c (e ∷ es) h = grind
-      (arith, named_later, column_cells-more c es (second_so (is_some (name e.0)) (list_all (λ (e : ℕ × Number). is_some (name e.0)) es) h))
+  column_cells-more c (e ∷ es) h = grind (
+    arith,
+    named_later,
+    column_cells-more c es
+        (second_so (is_some (name e.0)) (list_all (λ (e : ℕ × Number). is_some (name e.0)) es) h),
+  )
 
-  pub all_cells-more : (cols : List (List ℕ × List (ℕ × Number))) → all_named name cols ≡ true → all_cells later cols ≡ all_cells name cols
+  pub all_cells-more : (cols : List (List ℕ × List (ℕ × Number))) → all_named name cols ≡ true →
+      all_cells later cols ≡ all_cells name cols
   all_cells-more [] h = refl
-  all_cells-more (c ∷ cols) h = grind (arith, column_cells-more, all_cells-more cols (second_so (list_all (λ (e : ℕ × Number). is_some (name e.0)) c.1) (all_named name cols) h))
+  all_cells-more (c ∷ cols) h = grind (
+    arith,
+    column_cells-more,
+    all_cells-more cols (second_so (list_all (λ (e : ℕ × Number). is_some (name e.0)) c.1)
+        (all_named name cols) h),
+  )
 
-  cells_named-more : (es : List (ℕ × Number)) → list_all (λ e. is_some (name e.0)) es ≡ true → list_all (λ e. is_some (later e.0)) es ≡ true
+  cells_named-more : (es : List (ℕ × Number)) → list_all (λ e. is_some (name e.0)) es ≡ true →
+      list_all (λ e. is_some (later e.0)) es ≡ true
   cells_named-more [] h = refl
-  cells_named-more (e ∷ es) h = grind (arith, both_so, named_later, cells_named-more es (second_so (is_some (name e.0)) (list_all (λ (e : ℕ × Number). is_some (name e.0)) es) h))
+  cells_named-more (e ∷ es) h = grind (
+    arith,
+    both_so,
+    named_later,
+    cells_named-more es
+        (second_so (is_some (name e.0)) (list_all (λ (e : ℕ × Number). is_some (name e.0)) es) h),
+  )
 
   pub all_named-more : (cols : List (List ℕ × List (ℕ × Number))) → all_named name cols ≡ true → all_named later cols ≡ true
   all_named-more [] h = refl
-  all_named-more (c ∷ cols) h = grind (arith, both_so, cells_named-more, all_named-more cols (second_so (list_all (λ (e : ℕ × Number). is_some (name e.0)) c.1) (all_named name cols) h))
+  all_named-more (c ∷ cols) h = grind (
+    arith,
+    both_so,
+    cells_named-more,
+    all_named-more cols
+        (second_so (list_all (λ (e : ℕ × Number). is_some (name e.0)) c.1) (all_named name cols) h),
+  )
 
 left_false : (a b : Bool) → (a || b) ≡ false → a ≡ false
 left_false = grind arith
@@ -270,7 +301,8 @@ find-after {X} q k x front back more absent put_there =
     ] refl
     ∙ ap (cond (eq_by_cmp bytes_cmp q k) (Some x)) (sym (find-two bytes_cmp q front back))
 
-module _ (sense : Option Sense) (constant : Option Number) (objective : Option ObjectiveParts) (rows : List (List ℕ × RowParts)) (columns : List (List ℕ × ColumnParts)) where
+module _ (sense : Option Sense) (constant : Option Number) (objective : Option ObjectiveParts)
+    (rows : List (List ℕ × RowParts)) (columns : List (List ℕ × ColumnParts)) where
   -- ---- a row
 
   module _ (k : List ℕ) (definition : RowDefinition) where
@@ -281,26 +313,36 @@ module _ (sense : Option Sense) (constant : Option Number) (objective : Option O
     kept_name zero r h = h
     kept_name (suc i) r h = names-more _ _ i r h
 
-    missing : has_row (draft_from sense constant objective rows columns) k ≡ false → find bytes_cmp k (each_part definition_of rows) ≡ None
-    missing absent = let all = draft_from sense constant _ rows columns in absent-each_part _ k _ (right_false (is_objective all k)
-        (has_name all.rows k) absent)
+    missing : has_row (draft_from sense constant objective rows columns) k ≡ false →
+        find bytes_cmp k (each_part definition_of rows) ≡ None
+    missing absent = let all = draft_from sense constant _ rows columns in
+        absent-each_part _ k _ (right_false (is_objective all k) (has_name all.rows k) absent)
 
-    pub row_draft : AreNumbered objective rows columns → has_row (draft_from sense constant objective rows columns) k ≡ false → draft_from
-        sense constant objective added columns ≡ with_declaration (draft_from sense constant objective rows columns) (declare_row k definition)
+    pub row_draft : AreNumbered objective rows columns →
+        has_row (draft_from sense constant objective rows columns) k ≡ false →
+        draft_from sense constant objective added columns ≡ with_declaration
+        (draft_from sense constant objective rows columns) (declare_row k definition)
     row_draft numbered absent = let parts : RowParts = record { definition = definition; rhs = None; range = None } in
         let forms = ap (sorted_of bytes_cmp) (each_part-append definition_of rows k parts)
         ∙ sorted_of-append _ bytes_total tied_names k _ _ (missing absent) in
         let cells = all_cells-more _ _ kept_name (cells_by_name columns) numbered.named in
-        let rhs_values = given_parts-without _ rows k _ refl in let ranges = given_parts-without _ rows k _ refl in
-        λ i. record (draft_from sense constant objective rows columns)
-        { rows = forms i; rhs_values = sorted_of bytes_cmp (objective_rhs objective ++ rhs_values i); ranges = sorted_of bytes_cmp (ranges i); coefficients = sorted_of key_cmp (cells i) }
+        let rhs_values = given_parts-without _ rows k _ refl in
+        let ranges = given_parts-without _ rows k _ refl in
+        λ i. record (draft_from sense constant objective rows columns) {
+          rows = forms i;
+          rhs_values = sorted_of bytes_cmp (objective_rhs objective ++ rhs_values i);
+          ranges =
+              sorted_of bytes_cmp (ranges i);
+          coefficients = sorted_of key_cmp (cells i);
+        }
 
     old_or_new : (n : ℕ) (r : List ℕ) → name_of_row_key objective added n ≡ Some r
         → (name_of_row_key objective rows n ≡ Some r) ⊎ ((n ≡ suc (length rows)) × (k ≡ r))
     old_or_new zero r h = inl h
     old_or_new (suc i) r h = grind (arith, old_or_last)
 
-    not_new : has_row (draft_from sense constant objective rows columns) k ≡ false → (n : ℕ) → name_of_row_key objective rows n ≡ Some k → ⊥
+    not_new : has_row (draft_from sense constant objective rows columns) k ≡ false → (n : ℕ) →
+        name_of_row_key objective rows n ≡ Some k → ⊥
     not_new absent zero h = let all = draft_from sense constant _ rows columns in
         let none = left_false (is_objective all k) (has_name all.rows k) absent in
         let own : same_bytes k k ≡ false = sym (ap (λ (o : Option (List ℕ)). option_map_or (same_bytes k) o false) h) ∙ none in
@@ -329,7 +371,8 @@ module _ (sense : Option Sense) (constant : Option Number) (objective : Option O
     same_length (e ∷ es) zero = refl
     same_length (e ∷ es) (suc i) = ap suc (same_length es i)
 
-    still : (n : ℕ) (r : List ℕ) → name_of_row_key objective rows n ≡ Some r → name_of_row_key objective (set_value_at rows i w) n ≡ Some r
+    still : (n : ℕ) (r : List ℕ) → name_of_row_key objective rows n ≡ Some r →
+        name_of_row_key objective (set_value_at rows i w) n ≡ Some r
     still n r h = same_name_at n ∙ h
 
     pub written_numbered : AreNumbered objective rows columns → AreNumbered objective (set_value_at rows i w) columns
@@ -340,22 +383,32 @@ module _ (sense : Option Sense) (constant : Option Number) (objective : Option O
           (cells_by_name columns) numbered.named;
     }
 
-    same_cells : AreNumbered objective rows columns → sorted_of key_cmp (all_cells (name_of_row_key objective (set_value_at rows i w))
-        (cells_by_name columns)) ≡ sorted_of key_cmp (all_cells (name_of_row_key objective rows) (cells_by_name columns))
+    same_cells : AreNumbered objective rows columns →
+        sorted_of key_cmp (all_cells (name_of_row_key objective (set_value_at rows i w)) (cells_by_name columns)) ≡
+        sorted_of key_cmp (all_cells (name_of_row_key objective rows) (cells_by_name columns))
     same_cells numbered = ap (sorted_of key_cmp) (all_cells-more (name_of_row_key objective rows)
         (name_of_row_key objective (set_value_at rows i w)) still (cells_by_name columns) numbered.named)
 
     same_forms : definition_of w ≡ definition_of v
-        → sorted_of bytes_cmp (each_part definition_of (set_value_at rows i w)) ≡ sorted_of bytes_cmp (each_part definition_of rows)
+        → sorted_of bytes_cmp (each_part definition_of (set_value_at rows i w)) ≡ sorted_of bytes_cmp
+        (each_part definition_of rows)
     same_forms same = ap (sorted_of bytes_cmp) (each_part-kept definition_of rows i k v w row same)
 
     pub range_draft : (x : Number) → AreNumbered objective rows columns → IsOnce (each_part definition_of rows)
         → w ≡ record v { range = Some x } → draft_from sense constant objective (set_value_at rows i w) columns
         ≡ with_declaration (draft_from sense constant objective rows columns) (declare_range k x)
-    range_draft x numbered once is = let rhs_values = given_parts-kept _ _ i k v w row (ap rhs_of is) in let ranges = sorted_of-put _ bytes_total tied_names k x (given_parts range_of (set_value_at rows i w)) (given_parts range_of rows)
-        (λ q. find-given_any range_of q x rows i k v w row (ap range_of is) (once_too definition_of (λ (y : RowParts). y) rows once)) in
-        λ j. record (draft_from sense constant objective rows columns)
-        { rows = same_forms (ap definition_of is) j; rhs_values = sorted_of bytes_cmp (objective_rhs objective ++ rhs_values j); ranges = ranges j; coefficients = same_cells numbered j }
+    range_draft x numbered once is = let rhs_values = given_parts-kept _ _ i k v w row (ap rhs_of is) in
+        let ranges = sorted_of-put _ bytes_total tied_names k x (given_parts range_of (set_value_at rows i w))
+        (given_parts range_of rows) (λ q. find-given_any range_of q x rows i k v w row (ap range_of is)
+        (once_too definition_of (λ (y : RowParts). y) rows once)) in
+        λ j. record (draft_from sense constant objective rows columns) {
+          rows = same_forms (ap definition_of is) j;
+          rhs_values =
+              sorted_of bytes_cmp (objective_rhs objective ++ rhs_values j);
+          ranges = ranges j;
+          coefficients =
+              same_cells numbered j;
+        }
 
     -- the objective has another name than its rows
     pub other_rhs : AreNumbered objective rows columns → find bytes_cmp k (objective_rhs objective) ≡ None
@@ -365,16 +418,23 @@ module _ (sense : Option Sense) (constant : Option Number) (objective : Option O
         → w ≡ record v { rhs = Some x } → draft_from sense constant objective (set_value_at rows i w) columns
         ≡ with_declaration (draft_from sense constant objective rows columns) (declare_rhs k x)
     rhs_draft x numbered once is = let ranges = given_parts-kept _ _ i k v w row (ap range_of is) in
-        let front = objective_rhs _ in let rhs_values = sorted_of-put _ bytes_total tied_names k x
+        let front = objective_rhs _ in
+        let rhs_values = sorted_of-put _ bytes_total tied_names k x
         (front ++ given_parts rhs_of (set_value_at rows i w)) (front ++ given_parts rhs_of rows)
         (λ q. find-after q k x front (given_parts rhs_of rows) (given_parts rhs_of (set_value_at rows i w)) (other_rhs numbered)
         (find-given_any rhs_of q x rows i k v w row (ap rhs_of is) (once_too definition_of (λ (y : RowParts). y) rows once))) in
-        λ j. record (draft_from sense constant objective rows columns)
-        { rows = same_forms (ap definition_of is) j; rhs_values = rhs_values j; ranges = sorted_of bytes_cmp (ranges j); coefficients = same_cells numbered j }
+        λ j. record (draft_from sense constant objective rows columns) {
+          rows = same_forms (ap definition_of is) j;
+          rhs_values = rhs_values j;
+          ranges =
+              sorted_of bytes_cmp (ranges j);
+          coefficients = same_cells numbered j;
+        }
 
 -- ---- the objective
 
-module _ (sense : Option Sense) (constant : Option Number) (name : List ℕ) (rows : List (List ℕ × RowParts)) (columns : List (List ℕ × ColumnParts)) where
+module _ (sense : Option Sense) (constant : Option Number) (name : List ℕ) (rows : List (List ℕ × RowParts))
+    (columns : List (List ℕ × ColumnParts)) where
   abbrev named : Option ObjectiveParts
   named = Some (record { name = name; rhs = None })
 
@@ -385,13 +445,15 @@ module _ (sense : Option Sense) (constant : Option Number) (name : List ℕ) (ro
 
     pub objective_draft : draft_from sense constant named rows columns
         ≡ with_declaration (draft_from sense constant None rows columns) (declare_objective name)
-    objective_draft = let cells = all_cells-more _ _ still_named (cells_by_name columns) numbered.named in λ i. record (draft_from sense
+    objective_draft = let cells = all_cells-more _ _ still_named (cells_by_name columns) numbered.named in
+        λ i. record (draft_from sense
         constant None rows columns) { objective = Some name; coefficients = sorted_of key_cmp (cells i) }
 
     no_row : has_row (draft_from sense constant None rows columns) name ≡ false → (i : ℕ) (r : List ℕ)
         → option_map (λ e. e.0) (slice_get rows i) ≡ Some r → Some name ≡ Some r → ⊥
     no_row absent i r h is =
-        let same : ◌≡◌ {A = List ℕ} r name = cc in there_found _ _ i _ (h ∙ ap Some same) (absent-each_part definition_of name rows absent)
+        let same : ◌≡◌ {A = List ℕ} r name = cc in
+        there_found _ _ i _ (h ∙ ap Some same) (absent-each_part definition_of name rows absent)
 
     pub objective_numbered : has_row (draft_from sense constant None rows columns) name ≡ false → AreNumbered named rows columns
     objective_numbered absent = record {
@@ -407,7 +469,8 @@ module _ (sense : Option Sense) (constant : Option Number) (name : List ℕ) (ro
         apart (suc i) (suc j) r p q = numbered.apart _ _ r p q
 
 -- the right-hand side of the objective
-module _ (sense : Option Sense) (constant : Option Number) (o : ObjectiveParts) (x : Number) (rows : List (List ℕ × RowParts)) (columns : List (List ℕ × ColumnParts)) where
+module _ (sense : Option Sense) (constant : Option Number) (o : ObjectiveParts) (x : Number)
+    (rows : List (List ℕ × RowParts)) (columns : List (List ℕ × ColumnParts)) where
   pub objective_rhs_draft : o.rhs ≡ None → draft_from sense constant (Some (record o { rhs = Some x })) rows columns
       ≡ with_declaration (draft_from sense constant (Some o) rows columns) (declare_rhs o.name x)
   objective_rhs_draft = grind arith
@@ -425,10 +488,12 @@ cells-empty name c (col ∷ cols) = grind (arith, cells-empty name c cols)
 named-empty : (name : ℕ → Option (List ℕ)) (c : List ℕ) (cols : List (List ℕ × List (ℕ × Number))) → all_named name cols ≡ true
     → all_named name (cols ++ (c, []) ∷ []) ≡ true
 named-empty name c [] h = refl
-named-empty name c (col ∷ cols) h = let test : ℕ × Number → Bool = λ e. is_some _ in both_so _ _ (first_so (list_all test col.1) (all_named
-    name cols) h) (named-empty name c cols (second_so (list_all test col.1) (all_named name cols) h))
+named-empty name c (col ∷ cols) h = let test : ℕ × Number →
+    Bool = λ e. is_some _ in both_so _ _ (first_so (list_all test col.1) (all_named name cols) h)
+    (named-empty name c cols (second_so (list_all test col.1) (all_named name cols) h))
 
-module _ (sense : Option Sense) (constant : Option Number) (objective : Option ObjectiveParts) (rows : List (List ℕ × RowParts)) (columns : List (List ℕ × ColumnParts)) where
+module _ (sense : Option Sense) (constant : Option Number) (objective : Option ObjectiveParts)
+    (rows : List (List ℕ × RowParts)) (columns : List (List ℕ × ColumnParts)) where
   abbrev before : Draft
   before = draft_from sense constant objective rows columns
 
@@ -446,8 +511,20 @@ module _ (sense : Option Sense) (constant : Option Number) (objective : Option O
         ∙ sorted_of-append _ bytes_total tied_names k tt _ (absent-each_part no_part k columns absent) in
         let name = name_of_row_key _ _ in
         let cells = ap
-        (all_cells name) (each_part-append cells_of columns k new_column) ∙ cells-empty _ k (cells_by_name columns) in λ i. record before
-        { columns = names i; coefficients = sorted_of key_cmp (cells i); lowers = none_more lower_of refl i; uppers = none_more upper_of refl i; marked = none_more mark_of refl i; integers = none_more integer_of refl i; binaries = none_more binary_of refl i; semis = none_more semi_of refl i }
+        (all_cells name) (each_part-append cells_of columns k new_column) ∙ cells-empty _ k (cells_by_name columns) in
+        λ i. record before {
+          columns = names i;
+          coefficients = sorted_of key_cmp (cells i);
+          lowers =
+              none_more lower_of refl i;
+          uppers = none_more upper_of refl i;
+          marked =
+              none_more mark_of refl i;
+          integers = none_more integer_of refl i;
+          binaries =
+              none_more binary_of refl i;
+          semis = none_more semi_of refl i;
+        }
 
     pub column_numbered : AreNumbered objective rows columns → AreNumbered objective rows (columns ++ (k, new_column) ∷ [])
     column_numbered numbered = record {
@@ -468,12 +545,16 @@ module _ (sense : Option Sense) (constant : Option Number) (objective : Option O
     with_part more es = option_map_or (λ x. put bytes_cmp k x es) more es
 
     -- a part that is added, or unchanged
-    part : {X : Type 0} (f : ColumnParts → Option X) (w : ColumnParts) (more : Option X) → IsOnce (cells_by_name columns) → f w ≡ or_else more (f v)
-        → sorted_of bytes_cmp (given_parts f (set_value_at columns i w)) ≡ with_part more (sorted_of bytes_cmp (given_parts f columns))
+    part : {X : Type 0} (f : ColumnParts → Option X) (w : ColumnParts) (more : Option X) →
+        IsOnce (cells_by_name columns) → f w ≡ or_else more (f v) →
+        sorted_of bytes_cmp (given_parts f (set_value_at columns i w)) ≡ with_part more
+        (sorted_of bytes_cmp (given_parts f columns))
     part f w None once is = ap (sorted_of bytes_cmp) (given_parts-kept f columns i k v w column is)
-    part f w (Some x) once is = sorted_of-put _ bytes_total tied_names k x _ _ (λ q. find-given_any f q x _ i k v w column is (once_too cells_of (λ (y : ColumnParts). y) columns once))
+    part f w (Some x) once is = sorted_of-put _ bytes_total tied_names k x _ _
+        (λ q. find-given_any f q x _ i k v w column is (once_too cells_of (λ (y : ColumnParts). y) columns once))
 
-    same_cells_column : (w : ColumnParts) → cells_of w ≡ cells_of v → cells_by_name (set_value_at columns i w) ≡ cells_by_name columns
+    same_cells_column : (w : ColumnParts) → cells_of w ≡ cells_of v →
+        cells_by_name (set_value_at columns i w) ≡ cells_by_name columns
     same_cells_column w cells = each_part-kept _ _ i k v w column cells
 
     pub kept_numbered : (w : ColumnParts) → cells_of w ≡ cells_of v → AreNumbered objective rows columns
@@ -487,45 +568,80 @@ module _ (sense : Option Sense) (constant : Option Number) (objective : Option O
     -- coefficients that are written, with bounds and types that are added
     with_parts : (w : ColumnParts) (lower upper : Option Limit) (marked integer binary semi : Option (Unit {0}))
         (coefficients : List (CoefficientKey × Number)) → IsOnce (cells_by_name columns) → (written w).coefficients ≡ coefficients
-        → lower_of w ≡ or_else lower (lower_of v) → upper_of w ≡ or_else upper (upper_of v) → mark_of w ≡ or_else marked (mark_of v)
-        → integer_of w ≡ or_else integer (integer_of v) → binary_of w ≡ or_else binary (binary_of v) → semi_of w ≡ or_else semi (semi_of v)
-        → written w ≡ record before { coefficients = coefficients; lowers = with_part lower before.lowers; uppers = with_part upper before.uppers; marked = with_part marked before.marked; integers = with_part integer before.integers; binaries = with_part binary before.binaries; semis = with_part semi before.semis }
-    with_parts w lower upper marked integer binary semi coefficients once c l u m n b s = λ j. record before
-        { columns = ap (sorted_of bytes_cmp) (each_part-kept no_part columns i k v w column refl) j; coefficients = c j; lowers = part lower_of w _ once l j; uppers = part upper_of w _ once u j; marked = part mark_of w _ once m j; integers = part integer_of w _ once n j; binaries = part binary_of w _ once b j; semis = part semi_of w _ once s j }
+        → lower_of w ≡ or_else lower (lower_of v) → upper_of w ≡ or_else upper (upper_of v) →
+        mark_of w ≡ or_else marked (mark_of v) → integer_of w ≡ or_else integer (integer_of v) →
+        binary_of w ≡ or_else binary (binary_of v) → semi_of w ≡ or_else semi (semi_of v) →
+        written w ≡ record before {
+          coefficients = coefficients;
+          lowers =
+              with_part lower before.lowers;
+          uppers = with_part upper before.uppers;
+          marked =
+              with_part marked before.marked;
+          integers = with_part integer before.integers;
+          binaries =
+              with_part binary before.binaries;
+          semis = with_part semi before.semis;
+        }
+    with_parts w lower upper marked integer binary semi coefficients once c l u m n b s = λ j. record before {
+      columns = ap (sorted_of bytes_cmp) (each_part-kept no_part columns i k v w column refl) j;
+      coefficients =
+          c j;
+      lowers = part lower_of w _ once l j;
+      uppers = part upper_of w _ once u j;
+      marked =
+          part mark_of w _ once m j;
+      integers = part integer_of w _ once n j;
+      binaries =
+          part binary_of w _ once b j;
+      semis = part semi_of w _ once s j;
+    }
 
     -- the coefficients are unchanged
     same_coefficients : (w : ColumnParts) → cells_of w ≡ cells_of v → (written w).coefficients ≡ before.coefficients
-    same_coefficients w cells = ap (λ cols. sorted_of key_cmp (all_cells (name_of_row_key objective rows) cols)) (same_cells_column w cells)
+    same_coefficients w cells = ap (λ cols. sorted_of key_cmp (all_cells (name_of_row_key objective rows) cols))
+        (same_cells_column w cells)
 
-    pub mark_draft : IsOnce (cells_by_name columns) → written (record v { marked = true }) ≡ with_declaration before (declare_marked k)
-    mark_draft once = with_parts _ None None (Some tt) None None None _ once (same_coefficients _ refl) refl refl refl refl refl refl
+    pub mark_draft : IsOnce (cells_by_name columns) →
+        written (record v { marked = true }) ≡ with_declaration before (declare_marked k)
+    mark_draft once = with_parts _ None None (Some tt) None None None _ once (same_coefficients _ refl) refl refl refl
+        refl refl refl
 
-    pub integer_draft : IsOnce (cells_by_name columns) → written (record v { integer = true }) ≡ with_declaration before (declare_integer k)
-    integer_draft once = with_parts _ None None None (Some tt) None None _ once (same_coefficients _ refl) refl refl refl refl refl refl
+    pub integer_draft : IsOnce (cells_by_name columns) →
+        written (record v { integer = true }) ≡ with_declaration before (declare_integer k)
+    integer_draft once = with_parts _ None None None (Some tt) None None _ once (same_coefficients _ refl) refl refl
+        refl refl refl refl
 
-    pub binary_draft : IsOnce (cells_by_name columns) → written (record v { binary = true }) ≡ with_declaration before (declare_binary k)
-    binary_draft once = with_parts _ None None None None (Some tt) None _ once (same_coefficients _ refl) refl refl refl refl refl refl
+    pub binary_draft : IsOnce (cells_by_name columns) →
+        written (record v { binary = true }) ≡ with_declaration before (declare_binary k)
+    binary_draft once = with_parts _ None None None None (Some tt) None _ once (same_coefficients _ refl) refl refl refl
+        refl refl refl
 
-    pub semi_draft : IsOnce (cells_by_name columns) → written (record v { semi = true }) ≡ with_declaration before (declare_semi k)
-    semi_draft once = with_parts _ None None None None None (Some tt) _ once (same_coefficients _ refl) refl refl refl refl refl refl
+    pub semi_draft : IsOnce (cells_by_name columns) →
+        written (record v { semi = true }) ≡ with_declaration before (declare_semi k)
+    semi_draft once = with_parts _ None None None None None (Some tt) _ once (same_coefficients _ refl) refl refl refl
+        refl refl refl
 
-    sides-with_declaration : (before : Draft) (lower upper : Option Limit) → with_declarations before (bounds_declared k lower upper)
-        ≡ record before { lowers = with_part lower before.lowers; uppers = with_part upper before.uppers }
+    sides-with_declaration : (before : Draft) (lower upper : Option Limit) →
+        with_declarations before (bounds_declared k lower upper) ≡ record before
+        { lowers = with_part lower before.lowers; uppers = with_part upper before.uppers }
     sides-with_declaration = grind arith
 
     pub sides_draft : (lower upper : Option Limit) → IsOnce (cells_by_name columns)
         → written (with_bounds lower upper v) ≡ with_declarations before (bounds_declared k lower upper)
-    sides_draft lower upper once = with_parts _ _ _ None None None None _ once (same_coefficients _ refl) refl refl refl refl refl refl ∙
-        sym (sides-with_declaration before lower upper)
+    sides_draft lower upper once = with_parts _ _ _ None None None None _ once (same_coefficients _ refl) refl refl refl
+        refl refl refl ∙ sym (sides-with_declaration before lower upper)
 
     -- ---- a coefficient
 
-    module _ (numbered : AreNumbered objective rows columns) (n : ℕ) (r : List ℕ) (row : name_of_row_key objective rows n ≡ Some r) where
+    module _ (numbered : AreNumbered objective rows columns) (n : ℕ) (r : List ℕ)
+        (row : name_of_row_key objective rows n ≡ Some r) where
       -- it is declared if and only if its column has it
       pub cell_found : IsOnce (cells_by_name columns) → is_some (find nat_cmp n (cells_of v)) ≡ has_coefficient before (at r k)
       cell_found once = sym (ap is_some (find-sorted_of key_cmp key_total (at r k) (all_cells (name_of_row_key objective rows)
-          (cells_by_name columns)) ∙ find-all_cells (name_of_row_key objective rows) numbered.apart n r k (cells_by_name columns) row once
-          ∙ ap (option_and_then (find nat_cmp n)) (find_own cells_of columns i k v once column)))
+          (cells_by_name columns)) ∙ find-all_cells (name_of_row_key objective rows) numbered.apart n r k
+          (cells_by_name columns) row once ∙ ap (option_and_then (find nat_cmp n))
+          (find_own cells_of columns i k v once column)))
 
       pub cell_draft : (x : Number) → IsOnce (cells_by_name columns) → has_coefficient before (at r k) ≡ false
           → written (with_cell n x v) ≡ with_declaration before (declare_coefficient (at r k) x)
@@ -537,8 +653,8 @@ module _ (sense : Option Sense) (constant : Option Number) (objective : Option O
           sym (find-sorted_of key_cmp key_total (at r k) every) ∙ none_there _ absent in
           with_parts w None None None None None None _ once (
           sorted_of-put key_cmp key_total same_key (at r k) x (all_cells name (cells_by_name (set_value_at columns i w))) every
-          (λ q. find-put_in_column cells_of name numbered.apart q n x r columns i k v w row column refl missing)) refl refl refl refl refl
-          refl
+          (λ q. find-put_in_column cells_of name numbered.apart q n x r columns i k v w row column refl missing)) refl
+          refl refl refl refl refl
 
       pub cell_numbered : (x : Number) → AreNumbered objective rows (set_value_at columns i (with_cell n x v))
       cell_numbered x = record { few = numbered.few; apart = numbered.apart; named = named-set _ i column numbered.named }
@@ -557,6 +673,8 @@ module _ (sense : Option Sense) (constant : Option Number) (objective : Option O
               (put_all nat_cmp test n x (cells_of v) (λ j tie. ap (λ (m : ℕ). is_some (name_of_row_key objective rows m))
               (sym (nat_cmp-IsAntisymmetric n j tie)) ∙ ap is_some row) (ap is_some row) own)
               (second_so (list_all test (cells_of c.1)) (all_named (name_of_row_key objective rows) (cells_by_name cols)) h)
-          named-set (c ∷ cols) (suc i) is h = both_so _ _ (first_so (list_all test (cells_of c.1)) (all_named (name_of_row_key objective
-              rows) (cells_by_name cols)) h) (named-set cols i is (second_so (list_all test (cells_of c.1)) (all_named (name_of_row_key
+          named-set (c ∷ cols) (suc i) is h =
+              both_so _ _ (first_so (list_all test (cells_of c.1)) (all_named (name_of_row_key objective
+              rows) (cells_by_name cols)) h)
+              (named-set cols i is (second_so (list_all test (cells_of c.1)) (all_named (name_of_row_key
               objective rows) (cells_by_name cols)) h))

@@ -16,7 +16,8 @@ use Rattle.mpslp_types.specs.declared.faults.FaultKind.TheVariants as kinds
 -- the result of each call in turn: success, or its first error, and then nothing is declared
 abbrev answers : Draft → Declarations → List (Option BuildFault)
 answers before [] = []
-answers before (d ∷ more) = head_of (refusals before d) ∷ answers (cond (is_nonempty (refusals before d)) before (with_declaration before d)) more
+answers before (d ∷ more) = head_of (refusals before d) ∷ answers
+    (cond (is_nonempty (refusals before d)) before (with_declaration before d)) more
 
 -- what is declared after these calls
 abbrev after : Draft → Declarations → Draft
@@ -54,8 +55,9 @@ first_calls = declare_objective f ∷ declare_objective (codes "g") ∷ declare_
     ∷ declare_range r (number (pos 1) (pos 20)) ∷ declare_range r (whole (negsuc 1)) ∷ declare_range r (whole (negsuc 1)) ∷ []
 
 first_answers : answers empty_draft first_calls ≡ None ∷ Some builds.SecondObjective ∷ Some builds.DuplicateRow ∷ None ∷ None
-    ∷ Some builds.DuplicateRhs ∷ None ∷ None ∷ Some builds.UnknownRow ∷ Some builds.UnknownColumn ∷ None ∷ Some builds.DuplicateEntry ∷ None
-    ∷ Some builds.DuplicateRhs ∷ Some builds.RangeOnFree ∷ Some builds.InfiniteValue ∷ None ∷ Some builds.DuplicateRange ∷ []
+    ∷ Some builds.DuplicateRhs ∷ None ∷ None ∷ Some builds.UnknownRow ∷ Some builds.UnknownColumn ∷ None ∷ Some
+    builds.DuplicateEntry ∷ None ∷ Some builds.DuplicateRhs ∷ Some builds.RangeOnFree ∷ Some
+    builds.InfiniteValue ∷ None ∷ Some builds.DuplicateRange ∷ []
 first_answers = refl
 
 abbrev ranged : Draft
@@ -153,9 +155,11 @@ bounded_columns =
       declare_lower x (limit_of (number (negsuc 0) (pos 30))) ∷ declare_upper x (limit_of (number (pos 1) (pos 30))) ∷ [],
       record { kind = Continuous; lower = MinusInf; upper = PlusInf },
     ) ∷
-    (declare_semi x ∷ declare_upper x four ∷ [], record { kind = Semi; lower = zero_limit; upper = four }) ∷
-    (declare_upper x four ∷ declare_lower x one_limit ∷ declare_semi x ∷ [], record { kind = Semi; lower = one_limit; upper = four }) ∷
-    []
+    (declare_semi x ∷ declare_upper x four ∷ [], record { kind = Semi; lower = zero_limit; upper = four }) ∷ (
+      declare_upper x four ∷ declare_lower x one_limit ∷ declare_semi x ∷ [],
+      record
+          { kind = Semi; lower = one_limit; upper = four },
+    ) ∷ []
 
 pub bounded_columns-right : map (λ row. column_of (bounded_by row.0) x) bounded_columns ≡ map (λ row. row.1) bounded_columns
 bounded_columns-right = refl
@@ -165,7 +169,8 @@ abbrev types : List (Declarations × Declarations × List (Option BuildFault))
 types = (
   [],
   declare_semi y ∷ declare_semi x ∷ declare_semi x ∷ declare_integer x ∷ declare_marked x ∷ declare_binary x ∷ [],
-  Some builds.UnknownColumn ∷ None ∷ None ∷ Some builds.SemiContinuous ∷ Some builds.SemiContinuous ∷ Some builds.SemiContinuous ∷ [],
+  Some builds.UnknownColumn ∷ None ∷ None ∷ Some builds.SemiContinuous ∷ Some builds.SemiContinuous ∷ Some
+      builds.SemiContinuous ∷ [],
 ) ∷
     (declare_integer x ∷ [], declare_semi x ∷ [], Some builds.SemiContinuous ∷ []) ∷
     (declare_marked x ∷ [], declare_semi x ∷ [], Some builds.SemiContinuous ∷ []) ∷
@@ -193,19 +198,30 @@ faulty_drafts =
     (bounded_by (declare_upper x zero_limit ∷ []), None) ∷
     (bounded_by (declare_upper x minus_one ∷ []), Some (whole_fault kinds.NegativeUpper (Some x))) ∷
     (bounded_by (declare_upper x minus_one ∷ declare_lower x MinusInf ∷ []), None) ∷
-    (bounded_by (declare_upper x minus_one ∷ declare_lower x zero_limit ∷ []), Some (whole_fault kinds.BoundsCrossed (Some x))) ∷
-    (bounded_by (declare_upper x (Finite (whole (pos 5))) ∷ declare_binary x ∷ []), Some (whole_fault kinds.BinaryBounds (Some x))) ∷
-    (bounded_by (declare_upper x minus_one ∷ declare_binary x ∷ []), Some (whole_fault kinds.NegativeUpper (Some x))) ∷
-    (bounded_by (declare_lower x (Finite (whole (pos 2))) ∷ declare_binary x ∷ []), Some (whole_fault kinds.BoundsCrossed (Some x))) ∷
-    (bounded_by (declare_semi x ∷ declare_upper x four ∷ []), None) ∷
+    (bounded_by (declare_upper x minus_one ∷ declare_lower x zero_limit ∷ []), Some (whole_fault kinds.BoundsCrossed (Some x))) ∷ (
+      bounded_by (declare_upper x (Finite (whole (pos 5))) ∷ declare_binary x ∷ []),
+      Some
+          (whole_fault kinds.BinaryBounds (Some x)),
+    ) ∷
+    (bounded_by (declare_upper x minus_one ∷ declare_binary x ∷ []), Some (whole_fault kinds.NegativeUpper (Some x))) ∷ (
+      bounded_by (declare_lower x (Finite (whole (pos 2))) ∷ declare_binary x ∷ []),
+      Some
+          (whole_fault kinds.BoundsCrossed (Some x)),
+    ) ∷ (bounded_by (declare_semi x ∷ declare_upper x four ∷ []), None) ∷
     (bounded_by (declare_semi x ∷ declare_upper x four ∷ declare_lower x four ∷ []), None) ∷
     (bounded_by (declare_semi x ∷ []), Some (whole_fault kinds.SemiBounds (Some x))) ∷ (
       bounded_by (declare_semi x ∷ declare_upper x (limit_of (number (pos 1) (pos 20))) ∷ []),
       Some (whole_fault kinds.SemiBounds (Some x)),
     ) ∷
-    (bounded_by (declare_semi x ∷ declare_upper x zero_limit ∷ []), Some (whole_fault kinds.SemiBounds (Some x))) ∷
-    (bounded_by (declare_semi x ∷ declare_upper x four ∷ declare_lower x minus_one ∷ []), Some (whole_fault kinds.SemiBounds (Some x))) ∷
-    (bounded_by (declare_semi x ∷ declare_upper x four ∷ declare_lower x MinusInf ∷ []), Some (whole_fault kinds.SemiBounds (Some x))) ∷ (
+    (bounded_by (declare_semi x ∷ declare_upper x zero_limit ∷ []), Some (whole_fault kinds.SemiBounds (Some x))) ∷ (
+      bounded_by (declare_semi x ∷ declare_upper x four ∷ declare_lower x minus_one ∷ []),
+      Some
+          (whole_fault kinds.SemiBounds (Some x)),
+    ) ∷ (
+      bounded_by (declare_semi x ∷ declare_upper x four ∷ declare_lower x MinusInf ∷ []),
+      Some
+          (whole_fault kinds.SemiBounds (Some x)),
+    ) ∷ (
       bounded_by (declare_semi x ∷ declare_upper x one_limit ∷ declare_lower x four ∷ []),
       Some (whole_fault kinds.BoundsCrossed (Some x)),
     ) ∷

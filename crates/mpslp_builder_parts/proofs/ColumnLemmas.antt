@@ -15,7 +15,8 @@ use Rattle.mpslp_builder_parts.proofs.{PassLemmas.each_part-append, TakenLemmas.
 -- ---- one entry
 
 module _ {V X : Type 0} (f : V → X) where
-  pub each_part-set : (es : List (List ℕ × V)) (i : ℕ) (w : V) → each_part f (set_value_at es i w) ≡ set_value_at (each_part f es) i (f w)
+  pub each_part-set : (es : List (List ℕ × V)) (i : ℕ) (w : V) →
+      each_part f (set_value_at es i w) ≡ set_value_at (each_part f es) i (f w)
   each_part-set [] i w = refl
   each_part-set (e ∷ es) zero w = refl
   each_part-set (e ∷ es) (suc i) w = ap (λ (more : List (List ℕ × X)). (e.0, f e.1) ∷ more) (each_part-set es i w)
@@ -42,7 +43,8 @@ module _ {V X : Type 0} (f : V → X) where
   place_of_part (e ∷ es) (suc i) there = let more = place_of_part es i there in omega (arith, more)
 
   -- the part of a part
-  pub each_part-twice : {Y : Type 0} (g : X → Y) (es : List (List ℕ × V)) → each_part g (each_part f es) ≡ each_part (λ v. g (f v)) es
+  pub each_part-twice : {Y : Type 0} (g : X → Y) (es : List (List ℕ × V)) →
+      each_part g (each_part f es) ≡ each_part (λ v. g (f v)) es
   each_part-twice g [] = refl
   each_part-twice {Y} g (e ∷ es) = ap (λ (more : List (List ℕ × Y)). (e.0, g (f e.1)) ∷ more) (each_part-twice g es)
 
@@ -50,7 +52,8 @@ module _ {V X : Type 0} (f : V → X) where
       → find bytes_cmp q (each_part f es) ≡ option_map f (lookup (λ k. same_bytes q k) es)
   find-each_part q [] = refl
   find-each_part q (e ∷ es) =
-      ap (λ b. cond b (Some (f e.1)) (find bytes_cmp q (each_part f es))) (sym (texts_ties q e.0)) ∙ (grind (arith, find-each_part q es))
+      ap (λ b. cond b (Some (f e.1)) (find bytes_cmp q (each_part f es))) (sym (texts_ties q e.0))
+      ∙ (grind (arith, find-each_part q es))
 
   none_of : (q : List ℕ) (es : List (List ℕ × V)) → AllByRecursion (λ y. same_bytes q y ≡ false) (keys_of es)
       → find bytes_cmp q (each_part f es) ≡ None
@@ -99,10 +102,12 @@ none_there = grind arith
 pub some_mapped : {X Y : Type 0} (f : X → Y) (o : Option X) → is_some (option_map f o) ≡ is_some o
 some_mapped = grind arith
 
-mapped_twice : {X Y Z : Type 0} (f : X → Y) (g : Y → Z) (o : Option X) → option_map g (option_map f o) ≡ option_map (λ x. g (f x)) o
+mapped_twice : {X Y Z : Type 0} (f : X → Y) (g : Y → Z) (o : Option X) →
+    option_map g (option_map f o) ≡ option_map (λ x. g (f x)) o
 mapped_twice = grind arith
 
-mapped_or : {X Y : Type 0} (f : X → List Y) (o : Option X) → option_map_or (λ part. part) (option_map f o) [] ≡ option_map_or f o []
+mapped_or : {X Y : Type 0} (f : X → List Y) (o : Option X) →
+    option_map_or (λ part. part) (option_map f o) [] ≡ option_map_or f o []
 mapped_or = grind arith
 
 -- ---- the columns of a table
@@ -114,7 +119,8 @@ module _ {V : Type 0} (f : V → ColumnParts) (es : List (List ℕ × V)) (old :
   place_within i there = place_of_part f es i (ap (λ (columns : ColumnEntries). is_some (name_in columns i)) view_is ∙ there)
 
   -- a column is found by a key if it is found by its name
-  pub found_part : (q : List ℕ) → is_some (lookup (λ k. same_bytes q k) es) ≡ is_some (find bytes_cmp q (each_part no_part old.entries))
+  pub found_part : (q : List ℕ) →
+      is_some (lookup (λ k. same_bytes q k) es) ≡ is_some (find bytes_cmp q (each_part no_part old.entries))
   found_part q = sym (some_mapped (λ v. no_part (f v)) (lookup (λ k. same_bytes q k) es))
       ∙ ap is_some (sym (find-each_part (λ v. no_part (f v)) q es))
       ∙ ap (λ (parts : List (List ℕ × Unit {0})). is_some (find bytes_cmp q parts)) (sym (each_part-twice f no_part es)

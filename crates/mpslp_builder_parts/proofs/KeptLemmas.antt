@@ -1,25 +1,28 @@
 -- Items of a part of a list that are kept: they come first there.
-use Rattle.std.proofs.Common.{◌≡◌, refl, sym, ap, ◌∙◌, ℕ, zero, suc, ◌+◌, ◌-◌, ◌≤◌, ◌<◌, List, [], ◌∷◌, ◌++◌, length, arith, take, drop, get_or, Bool, true, false, cond}
+use Rattle.std.proofs.Common.{◌≡◌, refl, sym, ap, ◌∙◌, ℕ, zero, suc, ◌+◌, ◌-◌, ◌≤◌, ◌<◌, List, [], ◌∷◌, ◌++◌, length}
+use Rattle.std.proofs.Common.{arith, take, drop, get_or, Bool, true, false, cond}
 use Rattle.std.proofs.{Math.Seq.take-suc, lemmas.List.{get_or-drop, length-drop, append-nil, Elements.filter-append}}
 use Rattle.std.specs.{List.SwappedAt, Prelude.{filter, slice_range}}
 use Rattle.mpslp_builder_parts.proofs.GroupLemmas.{alike}
 
-pub take_alike : {X : Type 0} (n : ℕ) (xs ys : List X) → length xs ≡ length ys → ((r : ℕ) (d : X) → r < n → get_or xs r d ≡ get_or ys r d)
-    → take n xs ≡ take n ys
+pub take_alike : {X : Type 0} (n : ℕ) (xs ys : List X) → length xs ≡ length ys →
+    ((r : ℕ) (d : X) → r < n → get_or xs r d ≡ get_or ys r d) → take n xs ≡ take n ys
 take_alike zero xs ys len same = refl
 take_alike (suc n) [] [] len same = refl
 take_alike (suc n) [] (y ∷ ys) len same = absurd (omega (arith, len))
 take_alike (suc n) (x ∷ xs) [] len same = absurd (omega (arith, len))
 take_alike (suc n) (x ∷ xs) (y ∷ ys) len same =
-    λ i. same zero x (omega arith) i ∷ take_alike n xs ys (omega (arith, len)) (λ r d below. same (suc r) d (omega (arith, below))) i
+    λ i. same zero x (omega arith) i ∷ take_alike n xs ys (omega (arith, len))
+    (λ r d below. same (suc r) d (omega (arith, below))) i
 
-pub drop_alike : {X : Type 0} (n : ℕ) (xs ys : List X) → length xs ≡ length ys → ((r : ℕ) (d : X) → n ≤ r → get_or xs r d ≡ get_or ys r d)
-    → drop n xs ≡ drop n ys
+pub drop_alike : {X : Type 0} (n : ℕ) (xs ys : List X) → length xs ≡ length ys →
+    ((r : ℕ) (d : X) → n ≤ r → get_or xs r d ≡ get_or ys r d) → drop n xs ≡ drop n ys
 drop_alike zero xs ys len same = alike xs ys len (λ r d below. same r d (omega arith))
 drop_alike (suc n) [] [] len same = refl
 drop_alike (suc n) [] (y ∷ ys) len same = absurd (omega (arith, len))
 drop_alike (suc n) (x ∷ xs) [] len same = absurd (omega (arith, len))
-drop_alike (suc n) (x ∷ xs) (y ∷ ys) len same = drop_alike n xs ys (omega (arith, len)) (λ r d over. same (suc r) d (omega (arith, over)))
+drop_alike (suc n) (x ∷ xs) (y ∷ ys) len same =
+    drop_alike n xs ys (omega (arith, len)) (λ r d over. same (suc r) d (omega (arith, over)))
 
 slice_alike : {X : Type 0} (start end : ℕ) (xs ys : List X) → start ≤ end → end ≤ length xs → length xs ≡ length ys
     → ((r : ℕ) (d : X) → r < end → get_or xs r d ≡ get_or ys r d) → slice_range xs start end ≡ slice_range ys start end
@@ -63,15 +66,16 @@ none_kept p all start = record {
 one_filtered : {X : Type 0} (p : X → Bool) (x : X) (b : Bool) → p x ≡ b → filter p (x ∷ []) ≡ cond b (x ∷ []) []
 one_filtered p x b is = ap (λ c. cond c (x ∷ []) []) is
 
-module _ {X : Type 0} (p : X → Bool) (all : List X) (start kept at : ℕ) (items : List X) (so_far : AreKept p all start kept at items) (below : at < length all)
-    (x : X) (x_is : x ≡ get_or items at x) where
+module _ {X : Type 0} (p : X → Bool) (all : List X) (start kept at : ℕ) (items : List X)
+    (so_far : AreKept p all start kept at items) (below : at < length all) (x : X) (x_is : x ≡ get_or items at x) where
   there : x ≡ get_or all at x
   there = x_is ∙ so_far.after at x (omega arith)
 
   filtered : filter p (slice_range all start (suc at)) ≡ filter p (slice_range all start at) ++ filter p (x ∷ [])
-  filtered = let order = so_far.order in let upto = so_far.upto in
-      ap (filter p) (slice_push all start at x (omega (arith, order, upto)) below ∙ ap (λ y. slice_range all start at ++ y ∷ []) (sym there))
-      ∙ filter-append p (slice_range all start at) (x ∷ [])
+  filtered = let order = so_far.order in
+      let upto = so_far.upto in
+      ap (filter p) (slice_push all start at x (omega (arith, order, upto)) below
+      ∙ ap (λ y. slice_range all start at ++ y ∷ []) (sym there)) ∙ filter-append p (slice_range all start at) (x ∷ [])
 
   pub left_out : p x ≡ false → AreKept p all start kept (suc at) items
   left_out is = record {
@@ -84,12 +88,14 @@ module _ {X : Type 0} (p : X → Bool) (all : List X) (start kept at : ℕ) (ite
         ∙ append-nil (filter p (slice_range all start at)));
   }
 
-  pub put_in : p x ≡ true → (new : List X) → length new ≡ length items → SwappedAt items new kept at → AreKept p all start (suc kept) (suc at) new
+  pub put_in : p x ≡ true → (new : List X) → length new ≡ length items → SwappedAt items new kept at →
+      AreKept p all start (suc kept) (suc at) new
   put_in is new new_len swapped = record {
     order = let order = so_far.order in omega (arith, order);
     upto = let upto = so_far.upto in omega (arith, upto);
     len = new_len ∙ so_far.len;
-    before = λ r d under. let order = so_far.order in let upto = so_far.upto in
+    before = λ r d under. let order = so_far.order in
+        let upto = so_far.upto in
         swapped.2 r d (omega (arith, under, order)) (omega (arith, under, order, upto)) ∙ so_far.before r d under;
     after = λ r d over. let upto = so_far.upto in
         swapped.2 r d (omega (arith, over, upto)) (omega (arith, over)) ∙ so_far.after r d (omega (arith, over));

@@ -19,7 +19,8 @@ alike n m = elim (eq_by_cmp nat_cmp n m) as (λ b. eq_by_cmp nat_cmp n m ≡ b �
 ] refl
 
 module _ (log : LogEntries) (last : ℕ → ℕ) (is : IsLog log) (within : (i : ℕ) → last i ≤ length log.cells)
-    (i r : ℕ) (v : Number) (last_too : ℕ → ℕ) (here : last_too i ≡ suc (length log.cells)) (there : (j : ℕ) → (j ≡ i → ⊥) → last_too j ≡ last j) where
+    (i r : ℕ) (v : Number) (last_too : ℕ → ℕ) (here : last_too i ≡ suc (length log.cells)) (there : (j : ℕ) →
+    (j ≡ i → ⊥) → last_too j ≡ last j) where
   abbrev after : LogEntries
   after = logged log (last i) (r, v)
 
@@ -51,16 +52,18 @@ module _ (log : LogEntries) (last : ℕ → ℕ) (is : IsLog log) (within : (i :
   more : (j q : ℕ) → has_pair log last j q ≡ true → has_pair after last_too j q ≡ true
   more j q had = elim (alike j i) [
     | inl same ↦ elim (alike q r) [
-      | inl tie ↦ subst (λ j. has_pair after last_too j q ≡ true) (sym same) (subst (λ q. has_pair after last_too i q ≡ true) (sym tie) own_pair)
+      | inl tie ↦ subst (λ j. has_pair after last_too j q ≡ true) (sym same)
+          (subst (λ q. has_pair after last_too i q ≡ true) (sym tie) own_pair)
       | inr apart ↦ row_apart j q apart ∙ had
     ]
     | inr other ↦ other_column j q other ∙ had
   ]
 
   -- the set with one more pair is that of all pairs
-  pub pair_late : (old new : ℕ → ℕ → Bool) → new i r ≡ true → ((j q : ℕ) → q < 4294967296 → (j ≡ i → q ≡ r → ⊥) → new j q ≡ old j q)
-      → ((j q : ℕ) → j < 4294967295 → q < 4294967296 → old j q ≡ has_pair log last j q) → (j q : ℕ) → j < 4294967295 → q < 4294967296
-      → new j q ≡ has_pair after last_too j q
+  pub pair_late : (old new : ℕ → ℕ → Bool) → new i r ≡ true →
+      ((j q : ℕ) → q < 4294967296 → (j ≡ i → q ≡ r → ⊥) → new j q ≡ old j q) →
+      ((j q : ℕ) → j < 4294967295 → q < 4294967296 → old j q ≡ has_pair log last j q) → (j q : ℕ) → j < 4294967295 →
+      q < 4294967296 → new j q ≡ has_pair after last_too j q
   pair_late old new here_too others all j q low few = elim (alike j i) [
     | inl column ↦ elim (alike q r) [
       | inl same ↦ (λ d. new (column d) (same d)) ∙ here_too ∙ sym ((λ d. has_pair after last_too (column d) (same d)) ∙ own_pair)
@@ -76,10 +79,12 @@ module _ (log : LogEntries) (last row : ℕ → ℕ) (stamps : List ℕ) (open_r
     (k : AreKnown log last row stamps open_row open_column pairs) (i r : ℕ) (v : Number) (absent : has_pair log last i r ≡ false)
     (last_too row_too : ℕ → ℕ) (here : last_too i ≡ suc (length log.cells)) (there : (j : ℕ) → (j ≡ i → ⊥) → last_too j ≡ last j)
     (row_here : row_too i ≡ r) (row_there : (j : ℕ) → (j ≡ i → ⊥) → row_too j ≡ row j) (stamps_too : List ℕ)
-    (stamp_here : slice_index stamps_too r ≡ suc i) (stamp_there : (q : ℕ) → (q ≡ r → ⊥) → slice_index stamps_too q ≡ slice_index stamps q)
-    (open_row_too open_column_too : Option ℕ) (row_opened : IsOpened open_row open_row_too r (slice_index stamps r ≡ 0))
+    (stamp_here : slice_index stamps_too r ≡ suc i) (stamp_there : (q : ℕ) → (q ≡ r → ⊥) →
+    slice_index stamps_too q ≡ slice_index stamps q) (open_row_too open_column_too : Option ℕ)
+    (row_opened : IsOpened open_row open_row_too r (slice_index stamps r ≡ 0))
     (column_opened : IsOpened open_column open_column_too i (last i ≡ 0)) (pairs_too : Option (BTreeSet ℕ))
-    (put : IfSome pairs_too (λ set. (j q : ℕ) → j < 4294967295 → q < 4294967296 → in_pairs set j q ≡ has_pair (logged log (last i) (r, v)) last_too j q)) where
+    (put : IfSome pairs_too (λ set. (j q : ℕ) → j < 4294967295 → q < 4294967296 →
+    in_pairs set j q ≡ has_pair (logged log (last i) (r, v)) last_too j q)) where
   abbrev late : ℕ → ℕ → Bool
   late = has_pair (logged log (last i) (r, v)) last_too
 
@@ -98,7 +103,8 @@ module _ (log : LogEntries) (last row : ℕ → ℕ) (stamps : List ℕ) (open_r
   within_late : (j : ℕ) → last_too j ≤ length (log.cells ++ (r, v) ∷ [])
   within_late j = let long = length-append log.cells ((r, v) ∷ []) in elim (alike j i) [
     | inl same ↦ let is = ap last_too same ∙ here in omega (arith, is, long)
-    | inr apart ↦ let is = there j apart in let below = k.within j in omega (arith, is, below, long)
+    | inr apart ↦ let is = there j apart in
+        let below = k.within j in omega (arith, is, below, long)
   ]
 
   none_before : find nat_cmp r (chain log (last i)) ≡ None
@@ -112,13 +118,15 @@ module _ (log : LogEntries) (last row : ℕ → ℕ) (stamps : List ℕ) (open_r
   once_late j = elim (alike j i) [
     | inl same ↦ subst (λ es. IsOnceBy nat_cmp es) (sym (ap (λ j. chain (logged log (last i) (r, v)) (last_too j)) same
         ∙ own_chain log last k.log k.within i r v last_too here there)) (none_before, k.once i)
-    | inr apart ↦ subst (λ es. IsOnceBy nat_cmp es) (sym (other_chain log last k.log k.within i r v last_too here there j apart)) (k.once j)
+    | inr apart ↦ subst (λ es. IsOnceBy nat_cmp es)
+        (sym (other_chain log last k.log k.within i r v last_too here there j apart)) (k.once j)
   ]
 
   own_row : (j : ℕ) → 0 < last_too j → late j (row_too j) ≡ true
   own_row j some = elim (alike j i) [
     | inl same ↦ subst (λ j. late j (row_too j) ≡ true) (sym same) (ap (late i) row_here ∙ own_late)
-    | inr apart ↦ let is = there j apart in ap (late j) (row_there j apart) ∙ kept_late j (row j) (k.own j (omega (arith, some, is)))
+    | inr apart ↦ let is = there j apart in
+        ap (late j) (row_there j apart) ∙ kept_late j (row j) (k.own j (omega (arith, some, is)))
   ]
 
   empty_late : (q : ℕ) → slice_index stamps_too q ≡ 0 → (j : ℕ) → late j q ≡ false
@@ -129,7 +137,8 @@ module _ (log : LogEntries) (last row : ℕ → ℕ) (stamps : List ℕ) (open_r
 
   stamped_late : (q j : ℕ) → slice_index stamps_too q ≡ suc j → late j q ≡ true
   stamped_late q j stamp = elim (alike q r) [
-    | inl same ↦ let is = ap (slice_index stamps_too) same ∙ stamp_here in let column : i ≡ j = omega (arith, is, stamp) in
+    | inl same ↦ let is = ap (slice_index stamps_too) same ∙ stamp_here in
+        let column : i ≡ j = omega (arith, is, stamp) in
         subst (λ j. late j q ≡ true) column (subst (λ q. late i q ≡ true) (sym same) own_late)
     | inr apart ↦ kept_late j q (k.stamped q j (sym (stamp_there q apart) ∙ stamp))
   ]
@@ -180,7 +189,8 @@ put_next old new column row first later put found r few = elim (alike r row) [
   | inl same ↦
       let here = ap (in_pairs new column) same ∙ put.here in
       let tied = number_tied r row same in
-      (λ i. here i || later r) ∙ sym (ap (λ b. in_pairs old column r || b) (found r ∙ (λ i. tied i || later r)) ∙ last_true (in_pairs old column r))
+      (λ i. here i || later r) ∙ sym (ap (λ b. in_pairs old column r || b) (found r ∙ (λ i. tied i || later r))
+      ∙ last_true (in_pairs old column r))
   | inr apart ↦
       let kept = put.others column r few (λ _ same. apart same) in
       let free = not_tied r row apart in

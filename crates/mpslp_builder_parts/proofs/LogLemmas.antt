@@ -1,5 +1,6 @@
 -- Chains of coefficients in a log.
-use Rattle.std.proofs.Common.{◌≡◌, refl, sym, ap, ◌∙◌, ℕ, zero, suc, ◌+◌, ◌≤◌, ◌<◌, List, [], ◌∷◌, ◌++◌, length, arith, slice_index, length-append}
+use Rattle.std.proofs.Common.{◌≡◌, refl, sym, ap, ◌∙◌, ℕ, zero, suc, ◌+◌, ◌≤◌, ◌<◌, List, [], ◌∷◌, ◌++◌, length, arith}
+use Rattle.std.proofs.Common.{slice_index, length-append}
 use Rattle.std.specs.{Option.option_map_or, Prelude.{Some, slice_get}}
 use Rattle.std.proofs.Common.{Bool, true, false, cond, ◌-◌, ◌||◌}
 use Rattle.std.specs.{FinMap.find, Ordering.{nat_cmp, eq_by_cmp}, Prelude.is_some}
@@ -66,30 +67,36 @@ pub one_more : (log : LogEntries) (earlier : ℕ) (cell : ℕ × Number) → IsL
 one_more log earlier cell is h =
     let n = length log.cells in
     let here = get-last log.cells cell in
-    let link : slice_index (log.earlier ++ earlier ∷ []) n ≡ earlier = ap (slice_index (log.earlier ++ earlier ∷ [])) (sym is.len) ∙ index-last log.earlier earlier in
+    let link : slice_index (log.earlier ++ earlier ∷ []) n ≡ earlier =
+    ap (slice_index (log.earlier ++ earlier ∷ [])) (sym is.len) ∙ index-last log.earlier earlier in
     (λ i. option_map_or (λ (c : ℕ × Number). c ∷ chain_from (logged log earlier cell) n (link i)) (here i) [])
     ∙ ap (λ later. cell ∷ later) (kept_from log earlier cell is n earlier h ∙ enough log is n earlier earlier h (omega arith))
 
-pub below-more : (xs : List ℕ) (x from : ℕ) → x ≤ from + length xs → ((n : ℕ) → slice_index xs n ≤ from + n) → (n : ℕ) → slice_index (xs ++ x ∷ []) n ≤ from + n
+pub below-more : (xs : List ℕ) (x from : ℕ) → x ≤ from + length xs → ((n : ℕ) → slice_index xs n ≤ from + n) → (n : ℕ) →
+    slice_index (xs ++ x ∷ []) n ≤ from + n
 below-more [] x from h below zero = omega (arith, h)
 below-more [] x from h below (suc n) = omega arith
 below-more (y ∷ ys) x from h below zero = below zero
 below-more (y ∷ ys) x from h below (suc n) =
-    let rest = below-more ys x (suc from) (omega (arith, h)) (λ m. let at = below (suc m) in omega (arith, at)) n in omega (arith, rest)
+    let rest = below-more ys x (suc from) (omega (arith, h)) (λ m. let at = below (suc m) in omega (arith, at)) n in
+    omega (arith, rest)
 
-pub is_log-logged : (log : LogEntries) (earlier : ℕ) (cell : ℕ × Number) → IsLog log → earlier ≤ length log.cells → IsLog (logged log earlier cell)
+pub is_log-logged : (log : LogEntries) (earlier : ℕ) (cell : ℕ × Number) → IsLog log → earlier ≤ length log.cells →
+    IsLog (logged log earlier cell)
 is_log-logged log earlier cell is h = let len = is.len in record {
   len = length-append log.earlier (earlier ∷ []) ∙ ap (λ n. n + 1) len ∙ sym (length-append log.cells (cell ∷ []));
-  below = λ n. let more = below-more log.earlier earlier zero (omega (arith, h, len)) (λ m. let at = is.below m in omega (arith, at)) n in omega (arith, more);
+  below = λ n. let more = below-more log.earlier earlier zero (omega (arith, h, len)) (λ m. let at = is.below m in
+      omega (arith, at)) n in omega (arith, more);
 }
 
 -- the chain at a place is the coefficient there, and the chain from the place before it
-pub unchained : (log : LogEntries) → IsLog log → (place index : ℕ) (cell : ℕ × Number) → place ≡ suc index → slice_get log.cells index ≡ Some cell
-    → chain log place ≡ cell ∷ chain log (slice_index log.earlier index)
+pub unchained : (log : LogEntries) → IsLog log → (place index : ℕ) (cell : ℕ × Number) → place ≡ suc index →
+    slice_get log.cells index ≡ Some cell → chain log place ≡ cell ∷ chain log (slice_index log.earlier index)
 unchained log is place index cell same at = let below = is.below index in
     ap (chain log) same
     ∙ (λ i. option_map_or (λ (c : ℕ × Number). c ∷ chain_from log index (slice_index log.earlier index)) (at i) [])
-    ∙ ap (λ later. cell ∷ later) (enough log is index (slice_index log.earlier index) (slice_index log.earlier index) below (omega arith))
+    ∙ ap (λ later. cell ∷ later) (enough log is index (slice_index log.earlier index) (slice_index log.earlier index)
+    below (omega arith))
 
 pub not_tied : (n m : ℕ) → (n ≡ m → ⊥) → eq_by_cmp nat_cmp n m ≡ false
 not_tied n m h = elim (eq_by_cmp nat_cmp n m) as (λ b. eq_by_cmp nat_cmp n m ≡ b → b ≡ false) [
@@ -98,8 +105,8 @@ not_tied n m h = elim (eq_by_cmp nat_cmp n m) as (λ b. eq_by_cmp nat_cmp n m �
 ] refl
 
 -- what is read at a place is in the log, which is seen as a value
-read_there : {X : Type 0} (stored seen : List X) (index : ℕ) (x : X) → stored ≡ seen → x ≡ get_or stored index x → index < length seen
-    → slice_get seen index ≡ Some x
+read_there : {X : Type 0} (stored seen : List X) (index : ℕ) (x : X) → stored ≡ seen → x ≡ get_or stored index x →
+    index < length seen → slice_get seen index ≡ Some x
 read_there {X} stored seen index x same read inside =
     slice_get_read seen (length seen) index x refl inside (read ∙ ap (λ (xs : List X). get_or xs index x) same)
 
@@ -108,13 +115,15 @@ pub parted : (log : LogEntries) → IsLog log → (stored : List (ℕ × Number)
     → cell ≡ get_or stored (place - 1) cell → 0 < place → place ≤ length log.cells
     → chain log place ≡ cell ∷ chain log (slice_index log.earlier (place - 1))
 parted log is stored same place cell read some within = let step : place ≡ suc (place - 1) = omega (arith, some) in
-    unchained log is place (place - 1) cell step (read_there stored log.cells (place - 1) cell same read (omega (arith, some, within)))
+    unchained log is place (place - 1) cell step
+    (read_there stored log.cells (place - 1) cell same read (omega (arith, some, within)))
 
 -- the place that is read beside it
 pub linked : (log : LogEntries) → IsLog log → (stored : List ℕ) → stored ≡ log.earlier → (place link : ℕ)
     → link ≡ get_or stored (place - 1) link → 0 < place → place ≤ length log.cells → link ≡ slice_index log.earlier (place - 1)
 linked log is stored same place link read some within = let len = is.len in
-    get_or_read log.earlier (place - 1) link (omega (arith, some, within, len)) (read ∙ ap (λ (xs : List ℕ). get_or xs (place - 1) link) same) 0
+    get_or_read log.earlier (place - 1) link (omega (arith, some, within, len))
+    (read ∙ ap (λ (xs : List ℕ). get_or xs (place - 1) link) same) 0
 
 -- what is found in a chain: its first coefficient, or what is found among the others
 pub found_first : (row : ℕ) (cell : ℕ × Number) (rest all : List (ℕ × Number)) → all ≡ cell ∷ rest

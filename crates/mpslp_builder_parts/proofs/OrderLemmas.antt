@@ -1,5 +1,6 @@
 -- Entries in the order of their names.
-use Rattle.std.proofs.Common.{IsPermutation, false, List, [], ap, arith, get_or, drop, length, map, refl, set, subst, suc, sym, take, zero, ℕ, ◌*◌, ◌+◌}
+use Rattle.std.proofs.Common.{IsPermutation, false, List, [], ap, arith, get_or, drop, length, map, refl, set, subst}
+use Rattle.std.proofs.Common.{suc, sym, take, zero, ℕ, ◌*◌, ◌+◌}
 use Rattle.std.proofs.{Common.{◌<◌, ◌∙◌, ◌∷◌, ◌≡◌, ◌≤◌}, lemmas.List.{get_or-map, get_or-set_other, get_or-set_same, get_or-take}}
 use Rattle.std.proofs.lemmas.List.{drop_all, length-map, length-set, length-take-le, FromFn.{get_or-range_with_len, length-range_with_len}}
 use Rattle.std.{proofs.lemmas.{List.Sorted.{All-permutation, IsPermutation-map}, Option.slice_get-get_or}, specs.Cmp.IsTotalOrder}
@@ -8,7 +9,8 @@ use Rattle.std.specs.{List.{range_with_len, Sorted.IsSortedBy}, Ordering.{is_lt,
 use Rattle.std.specs.{Prelude.{slice_index, ◌≢◌}, declared.cmp.Ordering.TheVariants.{Equal, Greater, Less}}
 use Rattle.mpslp_model_core.proofs.{CellLemmas.{bytes_total, tied_names}, RenumberLemmas.all-from_each}
 use Rattle.mpslp_types.{proofs.EachLemmas.Each, specs.Name.bytes_cmp}
-use Rattle.mpslp_builder_parts.specs.{Ordered.{BeginAlike, entries_at, front_at, front_cmp, front_value, name_at}, declared.order.Front.Front}
+use Rattle.mpslp_builder_parts.specs.Ordered.{BeginAlike, entries_at, front_at, front_cmp, front_value, name_at}
+use Rattle.mpslp_builder_parts.specs.declared.order.Front.{Front}
 
 -- the weight of a byte that is followed by so many others
 abbrev pub worth : ℕ → ℕ
@@ -69,8 +71,8 @@ front-then = grind (arith, front-rises, tied_names, bytes_total, less_is)
 
 -- ---- Entries in the order of their names.
 
-pub name_at-entry : {V : Type 0} (entries : List (List ℕ × V)) (n : ℕ) (e : List ℕ × V) → n < length entries → e ≡ get_or entries n e
-    → (get_or entries n e).0 ≡ name_at entries n
+pub name_at-entry : {V : Type 0} (entries : List (List ℕ × V)) (n : ℕ) (e : List ℕ × V) → n < length entries →
+    e ≡ get_or entries n e → (get_or entries n e).0 ≡ name_at entries n
 name_at-entry (x ∷ entries) (suc n) e h is = name_at-entry entries n e (omega arith) is
 name_at-entry _ _ e h is = grind arith
 
@@ -82,13 +84,15 @@ front_total entries = then_total (on_total (λ f. f.bytes) nat_cmp_total) (on_to
 -- a key has the first bytes of the name
 abbrev pub IsFrontOf : {V : Type 0} → List (List ℕ × V) → ℕ → Front → Type 0
 IsFrontOf entries shared f =
-    (f.bytes ≡ front_value 8 (drop shared (name_at entries f.number))) × BeginAlike shared (name_at entries 0) (name_at entries f.number)
+    (f.bytes ≡ front_value 8 (drop shared (name_at entries f.number))) × BeginAlike shared (name_at entries 0)
+    (name_at entries f.number)
 
 abbrev pub HaveBytes : {V : Type 0} → List (List ℕ × V) → ℕ → Type 0
 HaveBytes entries shared = (n : ℕ) → AreBytes (drop shared (name_at entries n))
 
 -- bytes that both names begin with do not matter
-pub alike-cmp : (shared : ℕ) (a b : List ℕ) → take shared a ≡ take shared b → bytes_cmp a b ≡ bytes_cmp (drop shared a) (drop shared b)
+pub alike-cmp : (shared : ℕ) (a b : List ℕ) → take shared a ≡ take shared b →
+    bytes_cmp a b ≡ bytes_cmp (drop shared a) (drop shared b)
 alike-cmp zero a b same = refl
 alike-cmp (suc shared) [] [] same = refl
 alike-cmp (suc shared) (x ∷ a) (y ∷ b) same = grind (arith, alike-cmp shared a b)
@@ -127,8 +131,8 @@ pub if_ok : {A B : Type 0} {P Q : A → Type 0} (r : Result A B) → ((a : A) �
 if_ok _ f h = grind arith
 
 -- a missing entry has no bytes in its name
-name_bytes : {V : Type 0} (entries : List (List ℕ × V)) (shared n i : ℕ) → (n < length entries → get_or (drop shared (name_at entries n)) i 0 < 256)
-    → get_or (drop shared (name_at entries n)) i 0 < 256
+name_bytes : {V : Type 0} (entries : List (List ℕ × V)) (shared n i : ℕ) →
+    (n < length entries → get_or (drop shared (name_at entries n)) i 0 < 256) → get_or (drop shared (name_at entries n)) i 0 < 256
 name_bytes (x ∷ entries) shared (suc n) i h = name_bytes entries shared n i (λ l. h (omega (arith, l)))
 name_bytes (x ∷ entries) shared zero i h = h (omega arith)
 name_bytes [] shared n i h = grind (arith, drop_all)
@@ -142,7 +146,8 @@ abbrev pub AllAlike : {V : Type 0} → List (List ℕ × V) → ℕ → Type 0
 AllAlike entries shared = (n : ℕ) → n < length entries → BeginAlike shared (name_at entries 0) (name_at entries n)
 
 own_fronts : {V : Type 0} (entries : List (List ℕ × V)) (shared : ℕ) → AllAlike entries shared → (start count : ℕ)
-    → start + count ≤ length entries → Each (IsFrontOf entries shared) (map (front_at entries shared) (range_with_len start count))
+    → start + count ≤ length entries →
+    Each (IsFrontOf entries shared) (map (front_at entries shared) (range_with_len start count))
 own_fronts entries shared alike start zero h = tt
 own_fronts entries shared alike start (suc count) h =
     ((refl, alike start (omega (arith, h))), own_fronts entries shared alike (start + 1) count (omega (arith, h)))
@@ -155,8 +160,8 @@ numbers-fronts entries shared (n ∷ ns) = ap (λ ns. n ∷ ns) (numbers-fronts 
 pub numbers-permutation : {V : Type 0} (entries : List (List ℕ × V)) (shared : ℕ) (ns : List ℕ) (fronts sorted : List Front)
     → fronts ≡ map (front_at entries shared) ns → IsPermutation fronts sorted → IsPermutation ns (map (λ f. f.number) sorted)
 numbers-permutation entries shared ns fronts sorted is p =
-    subst (λ ns. IsPermutation ns (map (λ f. f.number) sorted)) (ap (λ fs. map (λ f. f.number) fs) is ∙ numbers-fronts entries shared ns)
-    (IsPermutation-map (λ f. f.number) fronts sorted p)
+    subst (λ ns. IsPermutation ns (map (λ f. f.number) sorted)) (ap (λ fs. map (λ f. f.number) fs) is
+    ∙ numbers-fronts entries shared ns) (IsPermutation-map (λ f. f.number) fronts sorted p)
 
 pub own-fronts : {V : Type 0} (entries : List (List ℕ × V)) (shared : ℕ) → AllAlike entries shared → (fronts sorted : List Front)
     → fronts ≡ map (front_at entries shared) (range_with_len 0 (length entries)) → IsPermutation fronts sorted
@@ -194,14 +199,16 @@ pub record IsPlaced (done len : ℕ) (numbers places : List ℕ) (number : ℕ) 
   pub below : get_or places number 0 < len
   pub back : get_or numbers (get_or places number 0) 0 ≡ number
 
-pub record AreMoved {X : Type 0} (all : List X) (order : List ℕ) (done : ℕ) (items : List X) (numbers places : List ℕ) : Type 0 where
+pub record AreMoved {X : Type 0} (all : List X) (order : List ℕ) (done : ℕ) (items : List X)
+    (numbers places : List ℕ) : Type 0 where
   pub within : done ≤ length all
   pub len : length items ≡ length all
   pub numbers_len : length numbers ≡ length all
   pub places_len : length places ≡ length all
   pub moved : (r : ℕ) (d : X) → r < done → get_or items r d ≡ get_or all (get_or order r 0) d
   pub numbered : (q : ℕ) → done ≤ q → q < length all → IsNumbered all items numbers places q
-  pub placed : (i : ℕ) → i < length all → ((r : ℕ) → r < done → get_or order r 0 ≢ i) → IsPlaced done (length all) numbers places i
+  pub placed : (i : ℕ) → i < length all → ((r : ℕ) → r < done → get_or order r 0 ≢ i) →
+      IsPlaced done (length all) numbers places i
 
 -- ---- before the first move
 
@@ -229,7 +236,18 @@ module _ {X : Type 0} (all : List X) (order : List ℕ) (within : (p : ℕ) → 
   pub next_moved : (from moved : ℕ) (new : List X) → from ≡ get_or places (get_or order done 0) 0 → moved ≡ get_or numbers done 0
       → SwappedAt items new done from → length new ≡ length items
       → AreMoved all order (done + 1) new (set numbers from moved) (set places moved from)
-  next_moved = grind (arith, next_placed, below, next_numbered, set, get_or-set_same, next_below, length-set, at_next, get_or-set_other)
+  next_moved = grind (
+    arith,
+    next_placed,
+    below,
+    next_numbered,
+    set,
+    get_or-set_same,
+    next_below,
+    length-set,
+    at_next,
+    get_or-set_other,
+  )
 
 -- ---- after the last move
 
@@ -249,7 +267,8 @@ taken_is {X} all (n ∷ order) (x ∷ done) len same within =
 pub all_taken : {X : Type 0} (all : List X) → all ≡ entries_at all (range_with_len 0 (length all))
 all_taken all =
     let n = length all in
-    let number : (p d : ℕ) → p < n → get_or (range_with_len 0 n) p d ≡ p = λ p d l. omega (arith, get_or-range_with_len 0 n p d l) in
+    let number : (p d : ℕ) → p < n →
+    get_or (range_with_len 0 n) p d ≡ p = λ p d l. omega (arith, get_or-range_with_len 0 n p d l) in
     taken_is all (range_with_len 0 n) all (sym (length-range_with_len 0 n))
     (λ p d l. let here : p < n = omega (arith, l, length-range_with_len 0 n) in ap (λ q. get_or all q d) (sym (number p 0 here)))
     (λ p l. let here : p < n = omega (arith, l, length-range_with_len 0 n) in omega (arith, here, number p 0 here))
@@ -265,8 +284,8 @@ module _ {V : Type 0} (entries : List (List ℕ × V)) (numbers : List ℕ) (len
       → IsSortedBy (λ n m. is_lt (bytes_cmp (name_at entries n) (name_at entries m))) numbers
   sorted_in_place seen same sorted =
       subst (IsSortedBy (λ n m. is_lt (bytes_cmp (name_at entries n) (name_at entries m)))) all_numbers
-      (subst (λ (es : List (List ℕ × V)). IsSortedBy (λ n m. is_lt (bytes_cmp (name_at es n) (name_at es m))) (range_with_len 0 (length es)))
-      same sorted)
+      (subst (λ (es : List (List ℕ × V)). IsSortedBy (λ n m. is_lt (bytes_cmp (name_at es n) (name_at es m)))
+      (range_with_len 0 (length es))) same sorted)
 
   pub taken_in_place : entries ≡ entries_at entries numbers
   taken_in_place = all_taken entries ∙ ap (entries_at entries) all_numbers

@@ -3,7 +3,8 @@ use Rattle.std.{proofs.Common.{List, [], ap, arith, refl, subst, suc, zero, ℕ,
 use Rattle.mpslp_model_core.specs.Numbered.{each_part}
 
 -- the first remaining item is appended to those that are done
-pub passed_on : {X : Type 0} (done later left all : List X) (x : X) → later ≡ done ++ x ∷ [] → done ++ x ∷ left ≡ all → later ++ left ≡ all
+pub passed_on : {X : Type 0} (done later left all : List X) (x : X) → later ≡ done ++ x ∷ [] → done ++ x ∷ left ≡ all →
+    later ++ left ≡ all
 passed_on {X} done later left all x is before = ap (λ (xs : List X). xs ++ left) is ∙ after done ∙ before
   where
     after : (xs : List X) → (xs ++ x ∷ []) ++ left ≡ xs ++ x ∷ left

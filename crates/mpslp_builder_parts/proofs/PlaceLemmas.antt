@@ -1,12 +1,16 @@
 -- Places that are found column by column, from the last coefficient of each on.
-use Rattle.std.proofs.Common.{◌≡◌, refl, sym, ap, ◌∙◌, ℕ, zero, suc, ◌+◌, ◌≤◌, ◌<◌, List, [], ◌∷◌, length, arith, take, set, slice_index, true, ◌⊎◌, inl, inr}
-use Rattle.std.proofs.lemmas.{Bool.{false≢true, cases_lt}, List.{take_all, length-take-le, get_or-take, length-set, get_or-set_same, get_or-set_other}}
+use Rattle.std.proofs.Common.{◌≡◌, refl, sym, ap, ◌∙◌, ℕ, zero, suc, ◌+◌, ◌≤◌, ◌<◌, List, [], ◌∷◌, length, arith, take}
+use Rattle.std.proofs.Common.{set, slice_index, true, ◌⊎◌, inl, inr}
+use Rattle.std.proofs.lemmas.Bool.{false≢true, cases_lt}
+use Rattle.std.proofs.lemmas.List.{take_all, length-take-le, get_or-take, length-set, get_or-set_same, get_or-set_other}
 use Rattle.std.specs.Ordering.{nat_cmp, eq_by_cmp}
 use Rattle.mpslp_builder_parts.specs.Grouping.{last_place, times, times_below, group_place, AreChained, HaveNumbers, ArePlaced}
 use Rattle.mpslp_builder_parts.specs.StoredColumns.{last_of}
 use Rattle.mpslp_builder_parts.specs.declared.known_pairs.StoredColumn.{StoredColumn}
 use Rattle.mpslp_model_core.proofs.CellLemmas.{number_tied}
-use Rattle.mpslp_builder_parts.proofs.{RunLemmas.take-short, GroupLemmas.{tie_same, last_le, last_here, last_none, times_none, times_last, times_more, times_take, below_all, below_le}}
+use Rattle.mpslp_builder_parts.proofs.RunLemmas.{take-short}
+use Rattle.mpslp_builder_parts.proofs.GroupLemmas.{tie_same, last_le, last_here, last_none, times_none, times_last, times_more, times_take}
+use Rattle.mpslp_builder_parts.proofs.GroupLemmas.{below_all, below_le}
 
 -- the coefficients of the columns from one on have places
 pub record AreDone (earlier : List ℕ) (last : ℕ → ℕ) (count column next : ℕ) (places ends : List ℕ) : Type 0 where
@@ -50,7 +54,8 @@ last_beyond (e ∷ es) (suc n) h = last_beyond es n (omega (arith, h))
 
 number_below : (earlier numbers : List ℕ) (es : List (List ℕ × StoredColumn)) → AreChained earlier (last_of es) numbers
     → (i : ℕ) → i < length numbers → slice_index numbers i < length es
-number_below earlier numbers es chained i inside = by (cases_lt (slice_index numbers i) (length es)) (cases_lt i (last_place (slice_index numbers i) numbers))
+number_below earlier numbers es chained i inside =
+    by (cases_lt (slice_index numbers i) (length es)) (cases_lt i (last_place (slice_index numbers i) numbers))
   where
     n : ℕ
     n = slice_index numbers i
@@ -60,8 +65,9 @@ number_below earlier numbers es chained i inside = by (cases_lt (slice_index num
     by (inr more) (inl later) = let none = sym (chained.lasts n) ∙ last_beyond es n more in absurd (omega (arith, none, later))
     by (inr more) (inr before) = absurd (false≢true (sym (last_none n numbers i before inside) ∙ number_tied n n refl))
 
-pub none_done : (earlier : List ℕ) (es : List (List ℕ × StoredColumn)) (next count : ℕ) (ends : List ℕ) → HaveNumbers earlier (last_of es)
-    → next ≡ length earlier → next ≤ 4294967295 → count ≡ length es → length ends ≡ count → AreDone earlier (last_of es) (length es) count next earlier ends
+pub none_done : (earlier : List ℕ) (es : List (List ℕ × StoredColumn)) (next count : ℕ) (ends : List ℕ) →
+    HaveNumbers earlier (last_of es) → next ≡ length earlier → next ≤ 4294967295 → count ≡ length es →
+    length ends ≡ count → AreDone earlier (last_of es) (length es) count next earlier ends
 none_done earlier es next count ends have next_is few count_is ends_len = record {
   numbers = numbers;
   chained = chained;
@@ -88,10 +94,12 @@ none_done earlier es next count ends have next_is few count_is ends_len = record
     below : (i : ℕ) → i < length numbers → slice_index numbers i < length es
     below = number_below earlier numbers es chained
 
-pub done_few : (earlier : List ℕ) (last : ℕ → ℕ) (count column next : ℕ) (places ends : List ℕ) → AreDone earlier last count column next places ends
-    → next ≤ 4294967295
+pub done_few : (earlier : List ℕ) (last : ℕ → ℕ) (count column next : ℕ) (places ends : List ℕ) →
+    AreDone earlier last count column next places ends → next ≤ 4294967295
 done_few earlier last count column next places ends so_far =
-    let is = so_far.next_is in let all = below_le column so_far.numbers in let few = so_far.few in omega (arith, is, all, few)
+    let is = so_far.next_is in
+    let all = below_le column so_far.numbers in
+    let few = so_far.few in omega (arith, is, all, few)
 
 -- ---- a column
 
@@ -109,7 +117,8 @@ module _ (earlier : List ℕ) (last : ℕ → ℕ) (count column next : ℕ) (pl
     upto = length so_far.numbers;
     within = omega arith;
     at_is = last_is ∙ so_far.chained.lasts column ∙ ap (last_place column) (sym whole);
-    next_is = so_far.next_is ∙ ap (λ n. times_below n so_far.numbers) more ∙ ap (λ ms. times_below column so_far.numbers + times column ms) (sym whole);
+    next_is = so_far.next_is ∙ ap (λ n. times_below n so_far.numbers) more
+        ∙ ap (λ ms. times_below column so_far.numbers + times column ms) (sym whole);
     done = placed;
     left = kept;
     ends_len = length-set ends column next ∙ so_far.ends_len;
@@ -138,15 +147,18 @@ module _ (earlier : List ℕ) (last : ℕ → ℕ) (count column next : ℕ) (pl
       ends_at n over inside = by (cases_lt column n)
         where
           by : (column < n) ⊎ (n ≤ column) → slice_index (set ends column next) n ≡ times_below (suc n) so_far.numbers
-          by (inl later) = get_or-set_other ends column n next 0 (omega (arith, later)) ∙ so_far.end_of n (omega (arith, later, more)) inside
+          by (inl later) = get_or-set_other ends column n next 0 (omega (arith, later))
+              ∙ so_far.end_of n (omega (arith, later, more)) inside
           by (inr same) =
               let here : n ≡ column = omega (arith, over, same) in
               let len = so_far.ends_len in
-              ap (slice_index (set ends column next)) here ∙ get_or-set_same ends column next 0 (omega (arith, under, len)) ∙ so_far.next_is
-              ∙ ap (λ m. times_below m so_far.numbers) more ∙ ap (λ m. times_below (suc m) so_far.numbers) (sym here)
+              ap (slice_index (set ends column next)) here ∙ get_or-set_same ends column next 0
+              (omega (arith, under, len)) ∙ so_far.next_is ∙ ap (λ m. times_below m so_far.numbers) more
+              ∙ ap (λ m. times_below (suc m) so_far.numbers) (sym here)
 
   -- no coefficient of it is left
-  pub ended : (at : ℕ) → at ≡ 0 → IsPlacing earlier last count column at next places ends → AreDone earlier last count column next places ends
+  pub ended : (at : ℕ) → at ≡ 0 → IsPlacing earlier last count column at next places ends →
+      AreDone earlier last count column next places ends
   ended at none_left so_far = record {
     numbers = so_far.numbers;
     chained = so_far.chained;
@@ -154,7 +166,8 @@ module _ (earlier : List ℕ) (last : ℕ → ℕ) (count column next : ℕ) (pl
     below = so_far.below;
     len = so_far.len;
     under = let room = so_far.under in omega (arith, room);
-    next_is = let none = times_none column (take so_far.upto so_far.numbers) (sym so_far.at_is ∙ none_left) in let is = so_far.next_is in omega (arith, is, none);
+    next_is = let none = times_none column (take so_far.upto so_far.numbers) (sym so_far.at_is ∙ none_left) in
+        let is = so_far.next_is in omega (arith, is, none);
     done = λ i inside over. so_far.done i inside (own_or_later i inside over);
     left = λ i inside under. so_far.left i inside (inl under);
     ends_len = so_far.ends_len;
@@ -165,8 +178,9 @@ module _ (earlier : List ℕ) (last : ℕ → ℕ) (count column next : ℕ) (pl
           → (column < slice_index so_far.numbers i) ⊎ ((slice_index so_far.numbers i ≡ column) × (so_far.upto ≤ i))
       own_or_later i inside over = by (cases_lt column (slice_index so_far.numbers i)) (cases_lt i so_far.upto)
         where
-          by : (column < slice_index so_far.numbers i) ⊎ (slice_index so_far.numbers i ≤ column) → (i < so_far.upto) ⊎ (so_far.upto ≤ i)
-              → (column < slice_index so_far.numbers i) ⊎ ((slice_index so_far.numbers i ≡ column) × (so_far.upto ≤ i))
+          by : (column < slice_index so_far.numbers i) ⊎ (slice_index so_far.numbers i ≤ column) →
+              (i < so_far.upto) ⊎ (so_far.upto ≤ i) →
+              (column < slice_index so_far.numbers i) ⊎ ((slice_index so_far.numbers i ≡ column) × (so_far.upto ≤ i))
           by (inl later) _ = inl later
           by (inr same) (inr after) = inr (omega (arith, over, same), after)
           by (inr same) (inl before) =
@@ -174,8 +188,10 @@ module _ (earlier : List ℕ) (last : ℕ → ℕ) (count column next : ℕ) (pl
               let within = so_far.within in
               let room = length-take-le so_far.upto so_far.numbers within in
               let at_is = so_far.at_is in
-              absurd (false≢true (sym (last_none column (take so_far.upto so_far.numbers) i (omega (arith, at_is, none_left)) (omega (arith, before, room)))
-              ∙ ap (eq_by_cmp nat_cmp column) (get_or-take so_far.upto so_far.numbers i 0 before ∙ sym here) ∙ number_tied column column refl))
+              absurd (false≢true (sym (last_none column (take so_far.upto so_far.numbers) i
+              (omega (arith, at_is, none_left)) (omega (arith, before, room)))
+              ∙ ap (eq_by_cmp nat_cmp column) (get_or-take so_far.upto so_far.numbers i 0 before ∙ sym here)
+              ∙ number_tied column column refl))
 
   -- a coefficient of it
   module _ (at index : ℕ) (so_far : IsPlacing earlier last count column at next places ends) (step : at ≡ suc index) where
@@ -189,10 +205,13 @@ module _ (earlier : List ℕ) (last : ℕ → ℕ) (count column next : ℕ) (pl
         let is = first in omega (arith, room, most, is)
 
     pub index_within : index < length places
-    index_within = let before = index_before in let within = so_far.within in let len = so_far.len in omega (arith, before, within, len)
+    index_within = let before = index_before in
+        let within = so_far.within in
+        let len = so_far.len in omega (arith, before, within, len)
 
     inside : index < length so_far.numbers
-    inside = let before = index_before in let within = so_far.within in omega (arith, before, within)
+    inside = let before = index_before in
+        let within = so_far.within in omega (arith, before, within)
 
     tie : eq_by_cmp nat_cmp column (slice_index so_far.numbers index) ≡ true
     tie = ap (eq_by_cmp nat_cmp column) (sym (get_or-take so_far.upto so_far.numbers index 0 index_before))
@@ -203,12 +222,14 @@ module _ (earlier : List ℕ) (last : ℕ → ℕ) (count column next : ℕ) (pl
 
     -- those before it, and itself
     ranks : times column (take so_far.upto so_far.numbers) ≡ suc (times column (take index so_far.numbers))
-    ranks = sym (times_last column (take so_far.upto so_far.numbers)) ∙ ap (λ n. times column (take n (take so_far.upto so_far.numbers))) first
-        ∙ ap (times column) (take-short (suc index) so_far.upto so_far.numbers (let before = index_before in omega (arith, before)))
-        ∙ times_more column so_far.numbers index inside tie
+    ranks = sym (times_last column (take so_far.upto so_far.numbers))
+        ∙ ap (λ n. times column (take n (take so_far.upto so_far.numbers))) first
+        ∙ ap (times column) (take-short (suc index) so_far.upto so_far.numbers (let before = index_before in
+        omega (arith, before))) ∙ times_more column so_far.numbers index inside tie
 
     pub some_left : 0 < next
-    some_left = let is = so_far.next_is in let more = ranks in omega (arith, is, more)
+    some_left = let is = so_far.next_is in
+        let more = ranks in omega (arith, is, more)
 
     pub next_few : next ≤ 4294967295
     next_few =
@@ -238,7 +259,8 @@ module _ (earlier : List ℕ) (last : ℕ → ℕ) (count column next : ℕ) (pl
       within = let under = inside in omega (arith, under);
       at_is = link_is ∙ so_far.left index inside (inr (sym own, index_before)) ∙ so_far.chained.links index inside
           ∙ ap (λ n. last_place n (take index so_far.numbers)) (sym own);
-      next_is = let is = so_far.next_is in let more = ranks in omega (arith, is, more, place_is);
+      next_is = let is = so_far.next_is in
+          let more = ranks in omega (arith, is, more, place_is);
       done = placed;
       left = kept;
       ends_len = so_far.ends_len;
@@ -250,33 +272,43 @@ module _ (earlier : List ℕ) (last : ℕ → ℕ) (count column next : ℕ) (pl
             let is = so_far.next_is in
             let more = ranks in
             get_or-set_same places index place 0 index_within
-            ∙ (let place_of : place ≡ times_below column so_far.numbers + times column (take index so_far.numbers) = omega (arith, is, more, place_is) in place_of)
+            ∙ (let place_of : place ≡ times_below column so_far.numbers + times column (take index so_far.numbers) =
+            omega (arith, is, more, place_is) in place_of)
             ∙ ap (λ n. times_below n so_far.numbers + times n (take index so_far.numbers)) own
 
-        placed : (i : ℕ) → i < length so_far.numbers → (column < slice_index so_far.numbers i) ⊎ ((slice_index so_far.numbers i ≡ column) × (index ≤ i))
+        placed : (i : ℕ) → i < length so_far.numbers →
+            (column < slice_index so_far.numbers i) ⊎ ((slice_index so_far.numbers i ≡ column) × (index ≤ i))
             → slice_index (set places index place) i ≡ group_place so_far.numbers i
         placed i below (inl over) =
-            get_or-set_other places index i place 0 (λ same. let at = ap (slice_index so_far.numbers) same in let is = own in absurd (omega (arith, at, is, over)))
+            get_or-set_other places index i place 0 (λ same. let at = ap (slice_index so_far.numbers) same in
+            let is = own in absurd (omega (arith, at, is, over)))
             ∙ so_far.done i below (inl over)
         placed i below (inr later) = by (cases_lt index i) (cases_lt i so_far.upto)
           where
-            by : (index < i) ⊎ (i ≤ index) → (i < so_far.upto) ⊎ (so_far.upto ≤ i) → slice_index (set places index place) i ≡ group_place so_far.numbers i
+            by : (index < i) ⊎ (i ≤ index) → (i < so_far.upto) ⊎ (so_far.upto ≤ i) →
+                slice_index (set places index place) i ≡ group_place so_far.numbers i
             by (inr same) _ = let is : i ≡ index = (let from = later.1 in omega (arith, same, from)) in
                 ap (slice_index (set places index place)) is ∙ here ∙ ap (group_place so_far.numbers) (sym is)
-            by (inl after) (inr over) = get_or-set_other places index i place 0 (omega (arith, after)) ∙ so_far.done i below (inr (later.0, over))
+            by (inl after) (inr over) = get_or-set_other places index i place 0 (omega (arith, after))
+                ∙ so_far.done i below (inr (later.0, over))
             by (inl after) (inl under) =
                 let room = length-take-le so_far.upto so_far.numbers so_far.within in
                 let at = first in
-                absurd (false≢true (sym (last_none column (take so_far.upto so_far.numbers) i (omega (arith, at, after)) (omega (arith, under, room)))
-                ∙ ap (eq_by_cmp nat_cmp column) (get_or-take so_far.upto so_far.numbers i 0 under ∙ later.0) ∙ number_tied column column refl))
+                absurd (false≢true (sym (last_none column (take so_far.upto so_far.numbers) i (omega (arith, at, after))
+                (omega (arith, under, room))) ∙ ap (eq_by_cmp nat_cmp column)
+                (get_or-take so_far.upto so_far.numbers i 0 under ∙ later.0) ∙ number_tied column column refl))
 
-        kept : (i : ℕ) → i < length so_far.numbers → (slice_index so_far.numbers i < column) ⊎ ((slice_index so_far.numbers i ≡ column) × (i < index))
+        kept : (i : ℕ) → i < length so_far.numbers →
+            (slice_index so_far.numbers i < column) ⊎ ((slice_index so_far.numbers i ≡ column) × (i < index))
             → slice_index (set places index place) i ≡ slice_index earlier i
         kept i below (inl under) =
-            get_or-set_other places index i place 0 (λ same. let at = ap (slice_index so_far.numbers) same in let is = own in absurd (omega (arith, at, is, under)))
+            get_or-set_other places index i place 0 (λ same. let at = ap (slice_index so_far.numbers) same in
+            let is = own in absurd (omega (arith, at, is, under)))
             ∙ so_far.left i below (inl under)
-        kept i below (inr before) = let under = before.1 in let last_one = index_before in
-            get_or-set_other places index i place 0 (omega (arith, under)) ∙ so_far.left i below (inr (before.0, omega (arith, under, last_one)))
+        kept i below (inr before) = let under = before.1 in
+            let last_one = index_before in
+            get_or-set_other places index i place 0 (omega (arith, under))
+            ∙ so_far.left i below (inr (before.0, omega (arith, under, last_one)))
 
 -- ---- after the first column
 

@@ -33,13 +33,20 @@ module _ (n : ℕ) (order : List ℕ) (p : IsPermutation (range_with_len 0 n) or
   pub order_within : (k : ℕ) → k < length order → get_or order k 0 < n
   order_within k h =
       All-permutation (λ m. m < n) (range_with_len 0 n) order p
-      (λ i d l. let here : i < n = omega (arith, l, length-range_with_len 0 n) in omega (arith, here, get_or-range_with_len 0 n i d here)) k
-      0 h
+      (λ i d l. let here : i < n = omega (arith, l, length-range_with_len 0 n) in
+      omega (arith, here, get_or-range_with_len 0 n i d here)) k 0 h
 
   pub order_apart : (i j : ℕ) → i < j → j < length order → get_or order i 0 ≢ get_or order j 0
   order_apart =
       apart-once order (once-permutation nat_cmp nat_cmp_total _ _ (IsPermutation-map (λ m. (m, tt)) (range_with_len 0 n) order p)
-      (grind (arith, once-from_rising, keys-marked, sorted_from_strictly_increasing, length-range_with_len, get_or-range_with_len)))
+      (grind (
+        arith,
+        once-from_rising,
+        keys-marked,
+        sorted_from_strictly_increasing,
+        length-range_with_len,
+        get_or-range_with_len,
+      )))
 
   pub order_reaches : (i : ℕ) → i < n → (k : ℕ) × (k < length order) × (get_or order k 0 ≡ i)
   order_reaches i h =

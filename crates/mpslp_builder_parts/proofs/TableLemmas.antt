@@ -1,6 +1,8 @@
 -- The columns of a table, after one more coefficient.
-use Rattle.std.proofs.Common.{◌≡◌, refl, sym, ap, subst, ◌∙◌, ℕ, zero, suc, ◌≤◌, ◌<◌, List, [], ◌∷◌, ◌++◌, length, arith, false, ◌≢◌, slice_index, inl, inr}
-use Rattle.std.specs.{Option.{IfSome, option_map, option_map_or}, Ordering.nat_cmp, Prelude.{Option, Some, None, slice_get}, BTreeSet.{BTreeSet}}
+use Rattle.std.proofs.Common.{◌≡◌, refl, sym, ap, subst, ◌∙◌, ℕ, zero, suc, ◌≤◌, ◌<◌, List, [], ◌∷◌, ◌++◌, length}
+use Rattle.std.proofs.Common.{arith, false, ◌≢◌, slice_index, inl, inr}
+use Rattle.std.specs.{Option.{IfSome, option_map, option_map_or}, Ordering.nat_cmp}
+use Rattle.std.specs.{Prelude.{Option, Some, None, slice_get}, BTreeSet.{BTreeSet}}
 use Rattle.indexmap.specs.IndexMap.{set_value_at}
 use Rattle.mpslp_decimal.specs.Decimal.{Number}
 use Rattle.std.specs.{List.All}
@@ -14,7 +16,8 @@ use Rattle.std.specs.{Cmp.nat_cmp_total, FinMap.find, Prelude.is_some}
 use Rattle.mpslp_model_core.proofs.CellLemmas.{find-sorted_of}
 use Rattle.mpslp_builder_parts.specs.{ColumnTable.{cells_in_column, IsChanged}, Parts.{parts_with, with_cell}, StoredColumns.entries_of}
 use Rattle.mpslp_builder_parts.proofs.LogLemmas.{logged, kept, one_more}
-use Rattle.mpslp_builder_parts.proofs.{ColumnLemmas.each_part-set, KnownLemmas.{alike, known_more, pair_late}, TakenLemmas.part_at as slice_get-part}
+use Rattle.mpslp_builder_parts.proofs.{ColumnLemmas.each_part-set, KnownLemmas.{alike, known_more, pair_late}}
+use Rattle.mpslp_builder_parts.proofs.TakenLemmas.{part_at as slice_get-part}
 
 -- ---- a write by number
 
@@ -24,7 +27,8 @@ get-set_value [] i k v w at = cc
 get-set_value (e ∷ es) zero k v w at = grind arith
 get-set_value (e ∷ es) (suc i) k v w at = get-set_value es i k v w at
 
-pub get-set_other : {V : Type 0} (es : List (List ℕ × V)) (i j : ℕ) (w : V) → (j ≡ i → ⊥) → slice_get (set_value_at es i w) j ≡ slice_get es j
+pub get-set_other : {V : Type 0} (es : List (List ℕ × V)) (i j : ℕ) (w : V) → (j ≡ i → ⊥) →
+    slice_get (set_value_at es i w) j ≡ slice_get es j
 get-set_other [] i j w apart = refl
 get-set_other (e ∷ es) zero zero w apart = absurd (apart refl)
 get-set_other (e ∷ es) zero (suc j) w apart = refl
@@ -57,11 +61,13 @@ module _ (i place row : ℕ) (old new : List (List ℕ × StoredColumn)) (h : Ha
 
 -- one more coefficient in the log changes no column
 pub parts_kept : (log : LogEntries) (earlier : ℕ) (cell : ℕ × Number) → IsLog log → (es : List (List ℕ × StoredColumn))
-    → ((i : ℕ) → last_of es i ≤ length log.cells) → each_part (parts_of (logged log earlier cell)) es ≡ each_part (parts_of log) es
+    → ((i : ℕ) → last_of es i ≤ length log.cells) →
+    each_part (parts_of (logged log earlier cell)) es ≡ each_part (parts_of log) es
 parts_kept log earlier cell is [] within = refl
 parts_kept log earlier cell is (e ∷ es) within =
     let same = kept log earlier cell is e.1.last (within zero) in
-    λ i. (e.0, record (parts_of log e.1) { cells = sorted_of nat_cmp (same i) }) ∷ parts_kept log earlier cell is es (λ j. within (suc j)) i
+    λ i. (e.0, record (parts_of log e.1) { cells = sorted_of nat_cmp (same i) }) ∷ parts_kept log earlier cell is es
+    (λ j. within (suc j)) i
 
 -- ---- what is found
 
@@ -110,7 +116,8 @@ known_added es more k v log known is last row before =
 pub known_none : (log : LogEntries) (known : KnownPairs) → log ≡ record { cells = []; earlier = [] } → known.stamps.items ≡ []
     → known.open_row ≡ None → known.open_column ≡ None → known.pairs ≡ None → IsKnown [] log known
 known_none log known is stamps row column pairs =
-    subst (λ l. AreKnown l (last_of []) (last_row_of []) known.stamps.items known.open_row known.open_column known.pairs) (sym is) (record {
+    subst (λ l. AreKnown l (last_of []) (last_row_of []) known.stamps.items known.open_row known.open_column
+    known.pairs) (sym is) (record {
       log = record { len = refl; below = λ i. omega arith };
       within = λ i. omega arith;
       once = λ i. tt;
@@ -119,17 +126,25 @@ known_none log known is stamps row column pairs =
       stamped = λ r i stamp. let none = ap (λ xs. slice_index xs r) stamps in absurd (omega (arith, none, stamp));
       by_row = λ r at i had. absurd (cc);
       by_column = λ i at r had. absurd (cc);
-      columns = record { numbers = []; chained = record { len = refl; links = λ i below. absurd (omega (arith, below)); lasts = λ n. refl } };
-      pairs = subst (λ (o : Option (BTreeSet ℕ)). IfSome o (λ set. (i r : ℕ) → i < 4294967295 → r < 4294967296 → in_pairs set i r ≡ false)) (sym pairs) tt;
+      columns = record {
+        numbers = [];
+        chained =
+            record { len = refl; links = λ i below. absurd (omega (arith, below)); lasts = λ n. refl };
+      };
+      pairs = subst (λ (o : Option (BTreeSet ℕ)). IfSome o (λ set. (i r : ℕ) → i < 4294967295 → r < 4294967296 →
+          in_pairs set i r ≡ false)) (sym pairs) tt;
     })
 
 -- one more coefficient, step by step: a pair is put, the coefficient is logged, the stamps are set, and then its column
-module _ (es later : List (List ℕ × StoredColumn)) (log logged_too : LogEntries) (known put noted : KnownPairs) (i r last place : ℕ) (v : Number)
-    (is : IsKnown es log known) (stamps_same : put.stamps.items ≡ known.stamps.items) (row_same : put.open_row ≡ known.open_row)
-    (column_same : put.open_column ≡ known.open_column) (pairs_put : IsPutIfSome i r known.pairs put.pairs) (last_is : last ≡ last_of es i)
-    (absent : has_pair log (last_of es) i r ≡ false) (place_is : place ≡ suc (length log.cells)) (cells_are : logged_too.cells ≡ log.cells ++ (r, v) ∷ [])
-    (earlier_are : logged_too.earlier ≡ log.earlier ++ last ∷ []) (stamp_here : slice_index noted.stamps.items r ≡ suc i)
-    (stamp_there : (q : ℕ) → q ≢ r → slice_index noted.stamps.items q ≡ slice_index put.stamps.items q)
+module _ (es later : List (List ℕ × StoredColumn)) (log logged_too : LogEntries) (known put noted : KnownPairs)
+    (i r last place : ℕ) (v : Number) (is : IsKnown es log known) (stamps_same : put.stamps.items ≡ known.stamps.items)
+    (row_same : put.open_row ≡ known.open_row) (column_same : put.open_column ≡ known.open_column)
+    (pairs_put : IsPutIfSome i r known.pairs put.pairs) (last_is : last ≡ last_of es i)
+    (absent : has_pair log (last_of es) i r ≡ false) (place_is : place ≡ suc (length log.cells))
+    (cells_are : logged_too.cells ≡ log.cells ++ (r, v) ∷ [])
+    (earlier_are : logged_too.earlier ≡ log.earlier ++ last ∷ [])
+    (stamp_here : slice_index noted.stamps.items r ≡ suc i) (stamp_there : (q : ℕ) → q ≢ r →
+    slice_index noted.stamps.items q ≡ slice_index put.stamps.items q)
     (row_opened : IsOpened put.open_row noted.open_row r (slice_index put.stamps.items r ≡ 0))
     (column_opened : IsOpened put.open_column noted.open_column i (last ≡ 0)) (pairs_kept : noted.pairs ≡ put.pairs)
     (h : HasLast i place r es later) where
@@ -141,7 +156,8 @@ module _ (es later : List (List ℕ × StoredColumn)) (log logged_too : LogEntri
 
   all_put : (old new : Option (BTreeSet ℕ)) → IsPutIfSome i r old new
       → IfSome old (λ set. (j q : ℕ) → j < 4294967295 → q < 4294967296 → in_pairs set j q ≡ has_pair log (last_of es) j q)
-      → IfSome new (λ set. (j q : ℕ) → j < 4294967295 → q < 4294967296 → in_pairs set j q ≡ has_pair (logged log (last_of es i) (r, v)) (last_of later) j q)
+      → IfSome new (λ set. (j q : ℕ) → j < 4294967295 → q < 4294967296 →
+      in_pairs set j q ≡ has_pair (logged log (last_of es i) (r, v)) (last_of later) j q)
   all_put None None done all = all
   all_put None (Some new) done all = absurd done
   all_put (Some old) None done all = absurd done
@@ -149,14 +165,19 @@ module _ (es later : List (List ℕ × StoredColumn)) (log logged_too : LogEntri
       (last_there i place r es later h) (in_pairs old) (in_pairs new) done.here done.others all j q low few
 
   pub known_put : IsKnown later logged_too noted
-  known_put = subst (λ l. AreKnown l (last_of later) (last_row_of later) noted.stamps.items noted.open_row noted.open_column noted.pairs) (sym log_is)
-      (known_more log (last_of es) (last_row_of es) known.stamps.items known.open_row known.open_column known.pairs is i r v absent (last_of later)
-      (last_row_of later) here (last_there i place r es later h) (row_here i place r es later h) (row_there i place r es later h) noted.stamps.items
+  known_put = subst (λ l. AreKnown l (last_of later) (last_row_of later) noted.stamps.items noted.open_row
+      noted.open_column noted.pairs) (sym log_is)
+      (known_more log (last_of es) (last_row_of es) known.stamps.items known.open_row known.open_column known.pairs
+      is i r v absent (last_of later) (last_row_of later) here (last_there i place r es later h)
+      (row_here i place r es later h) (row_there i place r es later h) noted.stamps.items
       stamp_here (λ q apart. stamp_there q apart ∙ ap (λ xs. slice_index xs q) stamps_same) noted.open_row noted.open_column
-      (subst (λ (p : Option ℕ × List ℕ). IsOpened p.0 noted.open_row r (slice_index p.1 r ≡ 0)) (λ d. (row_same d, stamps_same d)) row_opened)
-      (subst (λ (p : Option ℕ × ℕ). IsOpened p.0 noted.open_column i (p.1 ≡ 0)) (λ d. (column_same d, last_is d)) column_opened)
-      noted.pairs (subst (λ (o : Option (BTreeSet ℕ)). IfSome o (λ set. (j q : ℕ) → j < 4294967295 → q < 4294967296 → in_pairs set j q
-      ≡ has_pair (logged log (last_of es i) (r, v)) (last_of later) j q)) (sym pairs_kept) (all_put known.pairs put.pairs pairs_put is.pairs)))
+      (subst (λ (p : Option ℕ × List ℕ). IsOpened p.0 noted.open_row r (slice_index p.1 r ≡ 0))
+      (λ d. (row_same d, stamps_same d)) row_opened)
+      (subst (λ (p : Option ℕ × ℕ). IsOpened p.0 noted.open_column i (p.1 ≡ 0))
+      (λ d. (column_same d, last_is d)) column_opened) noted.pairs
+      (subst (λ (o : Option (BTreeSet ℕ)). IfSome o (λ set. (j q : ℕ) → j < 4294967295 →
+      q < 4294967296 → in_pairs set j q ≡ has_pair (logged log (last_of es i) (r, v))
+      (last_of later) j q)) (sym pairs_kept) (all_put known.pairs put.pairs pairs_put is.pairs)))
 
   -- its column has the coefficient, and the others are as they were
   pub column_put : IsChanged i (with_cell r v) (entries_of log es) (entries_of logged_too later)
@@ -166,7 +187,8 @@ module _ (es later : List (List ℕ × StoredColumn)) (log logged_too : LogEntri
     was = slice_get-part (parts_of log) es i ∙ ap (option_map (λ (e : List ℕ × StoredColumn). (e.0, parts_of log e.1))) h.was;
     written = (λ d. each_part (parts_of (log_is d)) (h.written d))
         ∙ each_part-set (parts_of (logged log (last_of es i) (r, v))) es i (record h.stored { last = place; last_row = r })
-        ∙ (λ d. set_value_at (parts_kept log (last_of es i) (r, v) is.log es is.within d) i (parts_with (sorted_of nat_cmp (own d)) h.stored.definition));
+        ∙ (λ d. set_value_at (parts_kept log (last_of es i) (r, v) is.log es is.within d) i
+        (parts_with (sorted_of nat_cmp (own d)) h.stored.definition));
   }
     where
       own : chain (logged log (last_of es i) (r, v)) place ≡ (r, v) ∷ chain log h.stored.last
@@ -184,4 +206,5 @@ pub all_whole : (log : LogEntries) (es : List (List ℕ × StoredColumn)) → ((
     → ((i : ℕ) → IsOnceBy nat_cmp (chain log (last_of es i))) → All (λ e. IsWhole log e.1) es
 all_whole log [] within once k d below = absurd (omega (arith, below))
 all_whole log (e ∷ es) within once zero d below = record { place = within zero; once = once zero }
-all_whole log (e ∷ es) within once (suc k) d below = all_whole log es (λ i. within (suc i)) (λ i. once (suc i)) k d (omega (arith, below))
+all_whole log (e ∷ es) within once (suc k) d below =
+    all_whole log es (λ i. within (suc i)) (λ i. once (suc i)) k d (omega (arith, below))

@@ -29,7 +29,8 @@ module _ {V X : Type 0} (f : V → X) where
 -- entries with the same parts have the same parts in any order
 pub taken-alike : {V W X : Type 0} (f : V → X) (g : W → X) (es : List (List ℕ × V)) (ds : List (List ℕ × W))
     → each_part f es ≡ each_part g ds → (ns : List ℕ) → each_part f (entries_at es ns) ≡ each_part g (entries_at ds ns)
-taken-alike f g es ds same ns = each_part-taken f es ns ∙ ap (λ (parts : List (List ℕ × _)). entries_at parts ns) same ∙ sym (each_part-taken g ds ns)
+taken-alike f g es ds same ns = each_part-taken f es ns ∙ ap (λ (parts : List (List ℕ × _)). entries_at parts ns) same
+    ∙ sym (each_part-taken g ds ns)
 
 -- and they have the same length
 pub as_many : {V W X : Type 0} (f : V → X) (g : W → X) (es : List (List ℕ × V)) (ds : List (List ℕ × W))

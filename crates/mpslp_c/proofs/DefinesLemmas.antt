@@ -12,8 +12,10 @@ use Rattle.mpslp_builder.proofs.RefusalLemmas.{left_none, right_none, join_none,
 use Rattle.mpslp_builder.proofs.RefusalLemmas.{none-from_consistent}
 use Rattle.mpslp_builder.proofs.MadeDrafts.{with_declarations-append, refusals_in_turn-append, no_fault-from_made}
 use Rattle.mpslp_lines.{specs.FaultTests.kind_of_build_fault, proofs.ObjectiveLemmas.named-after}
-use Rattle.mpslp_conversions.specs.{Conversions.{HasFirstFault, IsConversion, IsComparison, IsTestOfText, IsErrUnless}, Laws.{Declares, Unfit}}
-use Rattle.mpslp_conversions.specs.{Laws.TextOf, declared.faults.ConvertFault.{ConvertFault, TheVariants.{First, Second, NotLp, OutOfMemory}}}
+use Rattle.mpslp_conversions.specs.Conversions.{HasFirstFault, IsConversion, IsComparison, IsTestOfText, IsErrUnless}
+use Rattle.mpslp_conversions.specs.Laws.{Declares, Unfit}
+use Rattle.mpslp_conversions.specs.Laws.{TextOf}
+use Rattle.mpslp_conversions.specs.declared.faults.ConvertFault.{ConvertFault, TheVariants.{First, Second, NotLp, OutOfMemory}}
 use Rattle.mpslp_c.specs.Stored.{Step, declares, step_faults, step_declared, or_else, first_kind, after_steps, objective_steps, Item}
 use Rattle.mpslp_c.specs.Stored.{item_fault, items, first_item_fault, after_items, is_good, is_good_item, declared_by, Defines}
 use Rattle.mpslp_c.specs.declared.{arrays.MpslpModel.MpslpModel, faults.{ItemFault.ItemFault, StoreFault.StoreFault, MpslpFault.MpslpFault}}
@@ -29,7 +31,8 @@ use Rattle.mpslp_c.specs.declared.faults.StoreFault.TheVariants as stored
 
 pub steps-after : (steps : List Step) (all : Draft) → after_steps all steps ≡ with_declarations all (flat_map step_declared steps)
 steps-after [] all = refl
-steps-after (step ∷ more) all = grind (arith, with_declarations-append, steps-after more (with_declarations all (step_declared step)))
+steps-after (step ∷ more) all =
+    grind (arith, with_declarations-append, steps-after more (with_declarations all (step_declared step)))
 
 -- a step without an error is good, and nothing of it is rejected
 record IsFree (all : Draft) (step : Step) : Type 0 where
@@ -46,15 +49,16 @@ pub record AreFree (all : Draft) (are_good : Bool) (declarations : Declarations)
   pub good : are_good ≡ true
   pub free : refusals_in_turn all declarations ≡ []
 
-free-append : (xs ys : Declarations) (all : Draft) → refusals_in_turn all xs ≡ [] → refusals_in_turn (with_declarations all xs) ys ≡ []
-    → refusals_in_turn all (xs ++ ys) ≡ []
+free-append : (xs ys : Declarations) (all : Draft) → refusals_in_turn all xs ≡ [] →
+    refusals_in_turn (with_declarations all xs) ys ≡ [] → refusals_in_turn all (xs ++ ys) ≡ []
 free-append = grind (arith, refusals_in_turn-append, join_none)
 
 free-parts : (xs ys : Declarations) (all : Draft) → refusals_in_turn all (xs ++ ys) ≡ []
     → (refusals_in_turn all xs ≡ []) × (refusals_in_turn (with_declarations all xs) ys ≡ [])
 free-parts = grind (arith, refusals_in_turn-append, left_none, right_none)
 
-pub steps_free : (steps : List Step) (all : Draft) → first_kind all steps ≡ None → AreFree all (list_all is_good steps) (flat_map step_declared steps)
+pub steps_free : (steps : List Step) (all : Draft) → first_kind all steps ≡ None →
+    AreFree all (list_all is_good steps) (flat_map step_declared steps)
 steps_free [] all h = record { good = refl; free = refl }
 steps_free (step ∷ more) all h =
     let parts = first_none_of (head_of (step_faults all step)) (first_kind (with_declarations all (step_declared step)) more) h in
@@ -71,10 +75,12 @@ no_kind : (faults : List BuildFault) → faults ≡ [] → head_of (map kind_of_
 no_kind = grind arith
 
 bounds_free : (all : Draft) (column : List ℕ) (lower upper : Limit) → refusals_in_turn all
-    (declare_lower column lower ∷ declare_upper column upper ∷ []) ≡ [] → bounds_refusals all column (Some lower) (Some upper) ≡ []
+    (declare_lower column lower ∷ declare_upper column upper ∷ []) ≡ [] →
+    bounds_refusals all column (Some lower) (Some upper) ≡ []
 bounds_free = grind arith
 
-step_none : (all : Draft) (step : Step) → is_good step ≡ true → refusals_in_turn all (step_declared step) ≡ [] → head_of (step_faults all step) ≡ None
+step_none : (all : Draft) (step : Step) → is_good step ≡ true → refusals_in_turn all (step_declared step) ≡ [] →
+    head_of (step_faults all step) ≡ None
 step_none = grind (arith, no_kind, left_none, bounds_free)
 
 pub steps_none : (steps : List Step) (all : Draft) → list_all is_good steps ≡ true
@@ -87,12 +93,14 @@ steps_none (step ∷ more) all good h = let parts = free-parts (step_declared st
 
 -- ---- items
 
-pub items-after : (all : List Item) (before : Draft) → after_items before all ≡ with_declarations before (flat_map declared_by all)
+pub items-after : (all : List Item) (before : Draft) →
+    after_items before all ≡ with_declarations before (flat_map declared_by all)
 items-after [] before = refl
-items-after (item ∷ more) before = grind (arith, steps-after, with_declarations-append, items-after more (after_steps before item.steps))
+items-after (item ∷ more) before =
+    grind (arith, steps-after, with_declarations-append, items-after more (after_steps before item.steps))
 
-item_none : (item : Item) (o : Option FaultKind) (p : Option ItemFault) → option_map_or (λ kind. Some (item_fault item kind)) o p ≡ None
-    → (o ≡ None) × (p ≡ None)
+item_none : (item : Item) (o : Option FaultKind) (p : Option ItemFault) →
+    option_map_or (λ kind. Some (item_fault item kind)) o p ≡ None → (o ≡ None) × (p ≡ None)
 item_none item None p h = (refl, h)
 item_none item (Some kind) p h = let no : ⊥ = cc in absurd no
 
@@ -113,14 +121,16 @@ pub items_none : (all : List Item) (before : Draft) → list_all is_good_item al
     → refusals_in_turn before (flat_map declared_by all) ≡ [] → first_item_fault before all ≡ None
 items_none [] before good h = refl
 items_none (item ∷ more) before good h = let parts = free-parts (declared_by item) (flat_map declared_by more) before h in
-    ap (λ (o : Option FaultKind). option_map_or (λ kind. Some (item_fault item kind)) o (first_item_fault (after_steps before item.steps) more))
+    ap (λ (o : Option FaultKind). option_map_or (λ kind. Some (item_fault item kind)) o
+    (first_item_fault (after_steps before item.steps) more))
     (steps_none item.steps before (first_so (is_good_item item) (list_all is_good_item more) good) parts.0)
     ∙ items_none more (after_steps before item.steps) (second_so (is_good_item item) (list_all is_good_item more) good)
     (ap (λ (d : Draft). refusals_in_turn d (flat_map declared_by more)) (steps-after item.steps before) ∙ parts.1)
 
 -- ---- the objective
 
-pub objective_there : (ds : Declarations) (before : Draft) → has_objective ds ≡ true → is_some (with_declarations before ds).objective ≡ true
+pub objective_there : (ds : Declarations) (before : Draft) → has_objective ds ≡ true →
+    is_some (with_declarations before ds).objective ≡ true
 objective_there [] before h = grind arith
 objective_there (declare_objective name ∷ more) before h = grind (arith, named-after)
 objective_there (d ∷ more) before h = objective_there more (with_declaration before d) h
@@ -129,7 +139,8 @@ names_objective : (arrays : MpslpModel) → list_all is_good (objective_steps ar
     → has_objective (flat_map step_declared (objective_steps arrays) ++ more) ≡ true
 names_objective = grind arith
 
-objective_of : (arrays : MpslpModel) → list_all is_good_item (items arrays) ≡ true → has_objective (flat_map declared_by (items arrays)) ≡ true
+objective_of : (arrays : MpslpModel) → list_all is_good_item (items arrays) ≡ true →
+    has_objective (flat_map declared_by (items arrays)) ≡ true
 objective_of = grind arith
 
 -- ---- the model
@@ -153,11 +164,14 @@ defines-from_none arrays m none meant =
       };
     }
 
-pub meant-from_defines : (arrays : MpslpModel) (m : LinearModel) → Defines arrays m → DraftMeans (after_items empty_draft (items arrays)) m
-meant-from_defines arrays m defines = subst (λ (d : Draft). DraftMeans d m) (sym (items-after (items arrays) empty_draft)) defines.means.meant
+pub meant-from_defines : (arrays : MpslpModel) (m : LinearModel) → Defines arrays m →
+    DraftMeans (after_items empty_draft (items arrays)) m
+meant-from_defines arrays m defines =
+    subst (λ (d : Draft). DraftMeans d m) (sym (items-after (items arrays) empty_draft)) defines.means.meant
 
-pub none-from_defines : (arrays : MpslpModel) (m : LinearModel) → are_known_in_turn empty_draft (flat_map declared_by (items arrays)) ≡ true
-    → Defines arrays m → first_item_fault empty_draft (items arrays) ≡ None
+pub none-from_defines : (arrays : MpslpModel) (m : LinearModel) →
+    are_known_in_turn empty_draft (flat_map declared_by (items arrays)) ≡ true → Defines arrays m →
+    first_item_fault empty_draft (items arrays) ≡ None
 none-from_defines arrays m known defines = items_none (items arrays) empty_draft defines.good
     (none-from_consistent (flat_map declared_by (items arrays)) defines.means.consistent known)
 
@@ -178,9 +192,10 @@ pub no_item : (arrays : MpslpModel) (m : LinearModel) → Defines arrays m → f
 no_item = λ arrays m defines. grind (arith, arrays, none-from_defines, items-known)
 
 -- nor an error of the whole
-pub no_whole : (arrays : MpslpModel) (m : LinearModel) (all : Draft) → Defines arrays m → all ≡ after_items empty_draft (items arrays)
-    → IsMade all → file_fault all ≡ None
-no_whole = λ arrays m all defines is made. grind (arith, arrays, no_fault-from_made, objective-declared, no_item, meant-from_defines)
+pub no_whole : (arrays : MpslpModel) (m : LinearModel) (all : Draft) → Defines arrays m →
+    all ≡ after_items empty_draft (items arrays) → IsMade all → file_fault all ≡ None
+no_whole = λ arrays m all defines is made. grind
+    (arith, arrays, no_fault-from_made, objective-declared, no_item, meant-from_defines)
 
 pub no_fault : (arrays : MpslpModel) (m : LinearModel) (all : Draft) (fault : Fault) → Defines arrays m
     → all ≡ after_items empty_draft (items arrays) → IsMade all → file_fault all ≡ Some fault → ⊥
@@ -188,7 +203,8 @@ no_fault = λ arrays m all fault defines is made h. grind (arith, arrays, some_n
 
 -- items that were not all taken
 pub not_taken : (arrays : MpslpModel) (m : LinearModel) (new : Draft) (why : StoreFault) (answer : Result LinearModel StoreFault)
-    → TakesItems (items arrays) empty_draft new (Err why) → Defines arrays m → IsErrAnd answer (λ e. e ≡ why) → IsOkUnless answer stored.OutOfMemory
+    → TakesItems (items arrays) empty_draft new (Err why) → Defines arrays m → IsErrAnd answer (λ e. e ≡ why) →
+    IsOkUnless answer stored.OutOfMemory
 not_taken arrays m new why (Ok n) taken defines handed = absurd handed
 not_taken arrays m new (stored.Item fault) (Err e) taken defines handed = grind (arith, arrays, some_none, no_item)
 not_taken arrays m new (stored.Whole fault) (Err e) taken defines handed = absurd taken
@@ -203,8 +219,9 @@ text_accepted : (answer : Result (Vec ℕ Global) ConvertFault) (status : ℕ) (
 text_accepted = grind arith
 
 -- an error gives its status
-text_refused : (answer : Result (Vec ℕ Global) ConvertFault) (why : ConvertFault) (status : ℕ) (out out' : MpslpText) (fault fault' : MpslpFault)
-    → IsErrUnless answer why OutOfMemory → IsTextReturned answer status out out' fault fault' → IsUnless (fault_status why) status
+text_refused : (answer : Result (Vec ℕ Global) ConvertFault) (why : ConvertFault) (status : ℕ) (out out' : MpslpText)
+    (fault fault' : MpslpFault) → IsErrUnless answer why OutOfMemory →
+    IsTextReturned answer status out out' fault fault' → IsUnless (fault_status why) status
 text_refused = grind arith
 
 -- the same of yes and no
@@ -219,11 +236,13 @@ truth_refused = grind arith
 -- ---- the calls
 
 pub converted : (declares : Declares) (first_fault : HasFirstFault) (unfit : Unfit) (text : TextOf) (bytes : List ℕ)
-    (answer : Result (Vec ℕ Global) ConvertFault) (status : ℕ) (out out' : MpslpText) (fault fault' : MpslpFault) → IsConversion declares
-    first_fault unfit text bytes answer → ((m : LinearModel) → declares bytes m → unfit m ≡ None → IsOkUnless answer OutOfMemory)
-    → ((first : Fault) → first_fault bytes first → IsErrUnless answer (First first) OutOfMemory)
-    → ((m : LinearModel) (place : NameAt) → declares bytes m → unfit m ≡ Some place → IsErrUnless answer (NotLp place) OutOfMemory)
-    → IsTextReturned answer status out out' fault fault' → IsConverted declares first_fault unfit text bytes status out out' fault fault'
+    (answer : Result (Vec ℕ Global) ConvertFault) (status : ℕ) (out out' : MpslpText) (fault fault' : MpslpFault) →
+    IsConversion declares first_fault unfit text bytes answer →
+    ((m : LinearModel) → declares bytes m → unfit m ≡ None → IsOkUnless answer OutOfMemory) →
+    ((first : Fault) → first_fault bytes first → IsErrUnless answer (First first) OutOfMemory)
+    → ((m : LinearModel) (place : NameAt) → declares bytes m → unfit m ≡ Some place →
+    IsErrUnless answer (NotLp place) OutOfMemory) → IsTextReturned answer status out out' fault fault' →
+    IsConverted declares first_fault unfit text bytes status out out' fault fault'
 converted _ first_fault unfit text bytes answer status out out' fault fault' is accepts refuses cannot_express returned = record {
   answer = answer;
   is = is;
@@ -235,11 +254,13 @@ converted _ first_fault unfit text bytes answer status out out' fault fault' is 
 }
 
 pub compared : (declares : Declares) (first_fault : HasFirstFault) (declares' : Declares) (first_fault' : HasFirstFault)
-    (first second : List ℕ) (answer : Result Bool ConvertFault) (status : ℕ) (fault fault' : MpslpFault) → IsComparison declares first_fault
-    declares' first_fault' first second answer → ((m n : LinearModel) → declares first m → declares' second n
-    → IsOkUnless answer OutOfMemory) → ((found : Fault) → first_fault first found → IsErrUnless answer (First found) OutOfMemory)
-    → ((m : LinearModel) (found : Fault) → declares first m → first_fault' second found → IsErrUnless answer (Second found) OutOfMemory)
-    → IsTruthReturned answer status fault fault' → IsCompared declares first_fault declares' first_fault' first second status fault fault'
+    (first second : List ℕ) (answer : Result Bool ConvertFault) (status : ℕ) (fault fault' : MpslpFault) →
+    IsComparison declares first_fault declares' first_fault' first second answer →
+    ((m n : LinearModel) → declares first m → declares' second n → IsOkUnless answer OutOfMemory) →
+    ((found : Fault) → first_fault first found → IsErrUnless answer (First found) OutOfMemory)
+    → ((m : LinearModel) (found : Fault) → declares first m → first_fault' second found →
+    IsErrUnless answer (Second found) OutOfMemory) → IsTruthReturned answer status fault fault' →
+    IsCompared declares first_fault declares' first_fault' first second status fault fault'
 compared _ first_fault declares' first_fault' first second answer status fault fault' is accepts refuses refuses_second returned =
     record {
       answer = answer;
@@ -248,18 +269,23 @@ compared _ first_fault declares' first_fault' first second answer status fault f
       accepts = λ m n one other. truth_accepted answer status fault fault' (accepts m n one other) returned;
       refuses = λ found has. truth_refused answer (First found) status fault fault' (refuses found has) returned;
       refuses_second =
-          λ m found declared has. truth_refused answer (Second found) status fault fault' (refuses_second m found declared has) returned;
+          λ m found declared has. truth_refused answer (Second found) status fault fault'
+          (refuses_second m found declared has) returned;
     }
 
-pub tested : (declares : Declares) (first_fault : HasFirstFault) (text : TextOf) (bytes : List ℕ) (answer : Result Bool ConvertFault)
-    (status : ℕ) (fault fault' : MpslpFault) → IsTestOfText declares first_fault text bytes answer → ((m : LinearModel) → declares bytes m
-    → IsOkUnless answer OutOfMemory) → ((found : Fault) → first_fault bytes found → IsErrUnless answer (First found) OutOfMemory)
+pub tested : (declares : Declares) (first_fault : HasFirstFault) (text : TextOf) (bytes : List ℕ)
+    (answer : Result Bool ConvertFault) (status : ℕ) (fault fault' : MpslpFault) →
+    IsTestOfText declares first_fault text bytes answer →
+    ((m : LinearModel) → declares bytes m → IsOkUnless answer OutOfMemory) →
+    ((found : Fault) → first_fault bytes found → IsErrUnless answer (First found) OutOfMemory)
     → IsTruthReturned answer status fault fault' → IsTested declares first_fault text bytes status fault fault'
 tested = grind arith
 
-pub loaded : (declares : Declares) (first_fault : HasFirstFault) (bytes : List ℕ) (answer : Result MpslpModel ConvertFault) (status : ℕ)
-    (out out' : MpslpModel) (fault fault' : MpslpFault) → IsLoading declares first_fault bytes answer → ((m : LinearModel) → declares bytes
-    m → IsOkUnless answer OutOfMemory) → ((found : Fault) → first_fault bytes found → IsErrUnless answer (First found) OutOfMemory)
+pub loaded : (declares : Declares) (first_fault : HasFirstFault) (bytes : List ℕ)
+    (answer : Result MpslpModel ConvertFault) (status : ℕ) (out out' : MpslpModel) (fault fault' : MpslpFault) →
+    IsLoading declares first_fault bytes answer →
+    ((m : LinearModel) → declares bytes m → IsOkUnless answer OutOfMemory) →
+    ((found : Fault) → first_fault bytes found → IsErrUnless answer (First found) OutOfMemory)
     → IsModelReturned answer status out out' fault fault' → IsLoaded declares first_fault bytes status out out' fault fault'
 loaded = grind arith
 
@@ -269,12 +295,14 @@ stored_accepted : (answer : Result (Vec ℕ Global) StoreFault) (status : ℕ) (
     → IsOkUnless answer stored.OutOfMemory → IsStoreReturned answer status out out' fault fault' → IsUnless OK status
 stored_accepted = grind arith
 
-stored_refused : (answer : Result (Vec ℕ Global) StoreFault) (why : StoreFault) (status : ℕ) (out out' : MpslpText) (fault fault' : MpslpFault)
-    → IsErrUnless answer why stored.OutOfMemory → IsStoreReturned answer status out out' fault fault' → IsUnless (store_status why) status
+stored_refused : (answer : Result (Vec ℕ Global) StoreFault) (why : StoreFault) (status : ℕ) (out out' : MpslpText)
+    (fault fault' : MpslpFault) → IsErrUnless answer why stored.OutOfMemory →
+    IsStoreReturned answer status out out' fault fault' → IsUnless (store_status why) status
 stored_refused = grind arith
 
 -- each error of arrays has one status
-refused_as : (arrays : MpslpModel) (why : StoreFault) (status : ℕ) → HasFault arrays why → IsUnless (store_status why) status → IsUnless REFUSED status
+refused_as : (arrays : MpslpModel) (why : StoreFault) (status : ℕ) → HasFault arrays why →
+    IsUnless (store_status why) status → IsUnless REFUSED status
 refused_as = grind arith
 
 pub stored_so : (unfit : Unfit) (text : TextOf) (arrays : MpslpModel) (answer : Result (Vec ℕ Global) StoreFault) (status : ℕ)
@@ -288,7 +316,8 @@ stored_so unfit text arrays answer status out out' fault fault' is accepts refus
   is = is;
   returned = returned;
   accepts = λ m defines fits. stored_accepted answer status out out' fault fault' (accepts m defines fits) returned;
-  refuses = λ why has. refused_as arrays why status has (stored_refused answer why status out out' fault fault' (refuses why has) returned);
+  refuses = λ why has. refused_as arrays why status has
+      (stored_refused answer why status out out' fault fault' (refuses why has) returned);
   cannot_express = λ m place defines found. stored_refused answer (stored.NotLp place) status out out' fault fault'
       (cannot_express m place defines found) returned;
 }
@@ -297,6 +326,7 @@ stored_so unfit text arrays answer status out out' fault fault' is accepts refus
 
 pub normalized_so : (arrays : MpslpModel) (answer : Result MpslpModel StoreFault) (status : ℕ) (out out' : MpslpModel)
     (fault fault' : MpslpFault) → IsNormalizing arrays answer → ((m : LinearModel) → Defines arrays m
-    → IsOkUnless answer stored.OutOfMemory) → ((why : StoreFault) → HasFault arrays why → IsErrUnless answer why stored.OutOfMemory)
-    → AreArraysReturned answer status out out' fault fault' → IsNormalized arrays status out out' fault fault'
+    → IsOkUnless answer stored.OutOfMemory) →
+    ((why : StoreFault) → HasFault arrays why → IsErrUnless answer why stored.OutOfMemory) →
+    AreArraysReturned answer status out out' fault fault' → IsNormalized arrays status out out' fault fault'
 normalized_so = grind arith

@@ -74,7 +74,8 @@ literal-read m e few small =
     let back = sign_of e ++ es in
     let text : literal_text m e ≡ front ++ 101 ∷ back = (λ i. parts m i ++ 101 ∷ parts e i) in
     let marks = signed_no_mark m ds d.digits in
-    let begins : before_first is_exponent_mark (front ++ 101 ∷ back) ≡ front = before-at is_exponent_mark front back 101 marks refl in
+    let begins : before_first is_exponent_mark (front ++ 101 ∷ back) ≡ front =
+    before-at is_exponent_mark front back 101 marks refl in
     let ends : exponent_part (front ++ 101 ∷ back) ≡ back = after-at is_exponent_mark front back 101 marks refl in
     let bare : unsigned_part (front ++ 101 ∷ back) ≡ ds = ap without_sign begins ∙ unsigned m ds d.digits d.some in
     let fraction : fraction_digits (front ++ 101 ∷ back) ≡ [] = ap (after_first is_point) bare
@@ -82,7 +83,8 @@ literal-read m e few small =
     let whole : mantissa_digits (front ++ 101 ∷ back) ≡ ds =
     (λ i. before_first is_point (bare i) ++ fraction i) ∙ append-nil (before_first is_point ds)
     ∙ before-none is_point ds (no_point ds d.digits) in
-    let exponent_bare : without_sign (exponent_part (front ++ 101 ∷ back)) ≡ es = ap without_sign ends ∙ unsigned e es x.digits x.some in
+    let exponent_bare : without_sign (exponent_part (front ++ 101 ∷ back)) ≡ es =
+    ap without_sign ends ∙ unsigned e es x.digits x.some in
     let good : are_digits (without_sign (exponent_part (front ++ 101 ∷ back))) ≡ true = ap are_digits exponent_bare
     ∙ are-digits es x.digits x.some in
     let exponent_value : signed_value (exponent_part (front ++ 101 ∷ back)) ≡ e =
@@ -100,7 +102,17 @@ literal-read m e few small =
     (λ i. record { mantissa = mantissa_value i; exponent = exponent_value i -ℤ pos (length (fraction i)) })
     ∙ (λ i. record { mantissa = m; exponent = none i }) in
     let size : length (front ++ 101 ∷ back) ≤ 255 =
-    omega (arith, length-append front (101 ∷ back), length-append (sign_of m) ds, length-append (sign_of e) es, sign_len m, sign_len e, digits_len (unsigned_abs m) few, digits_len (unsigned_abs e) small) in
+    omega (
+      arith,
+      length-append front (101 ∷ back),
+      length-append (sign_of m) ds,
+      length-append (sign_of e) es,
+      sign_len
+          m,
+      sign_len e,
+      digits_len (unsigned_abs m) few,
+      digits_len (unsigned_abs e) small,
+    ) in
     record {
       literal = ap is_literal text ∙ lit;
       short = subst (λ (t : List ℕ). length t ≤ 255) (sym text) size;
@@ -125,7 +137,8 @@ read_of lit long few small v = if not lit then Err BadNumber else
 
 abbrev given_of : Bool → Bool → Number → Result Number FaultKind
 given_of few small v =
-    if not few then Err (kind_of_number_fault TooManyDigits) else (if not small then Err (kind_of_number_fault ExponentRange) else Ok v)
+    if not few then Err (kind_of_number_fault TooManyDigits)
+    else (if not small then Err (kind_of_number_fault ExponentRange) else Ok v)
 
 chosen : (few small : Bool) (v w : Number) → read_of true false few small v ≡ Ok w → given_of few small v ≡ Ok w
 chosen = grind arith
@@ -134,7 +147,8 @@ refused : (few small : Bool) (v : Number) (fault : NumberFault) → read_of true
     → given_of few small v ≡ Err (kind_of_number_fault fault)
 refused = grind arith
 
-read_is : (m e : ℤ) → IsRead m e → number_of (literal_text m e) ≡ read_of true false (has_few_digits (normal (record { mantissa = m; exponent = e })))
+read_is : (m e : ℤ) → IsRead m e →
+    number_of (literal_text m e) ≡ read_of true false (has_few_digits (normal (record { mantissa = m; exponent = e })))
     (has_small_exponent (normal (record { mantissa = m; exponent = e }))) (normal (record { mantissa = m; exponent = e }))
 read_is = grind arith
 

@@ -43,7 +43,8 @@ sum-nothing {X} (x ∷ xs) = omega (arith, sum_by-cons (λ (y : X). 0) x xs, sum
 
 sum-both : {X : Type 0} (f g : X → ℕ) (xs : List X) → sum_by (λ x. f x + g x) xs ≡ sum_by f xs + sum_by g xs
 sum-both f g [] = refl
-sum-both {X} f g (x ∷ xs) = omega (arith, sum_by-cons (λ (y : X). f y + g y) x xs, sum_by-cons f x xs, sum_by-cons g x xs, sum-both f g xs)
+sum-both {X} f g (x ∷ xs) = omega
+    (arith, sum_by-cons (λ (y : X). f y + g y) x xs, sum_by-cons f x xs, sum_by-cons g x xs, sum-both f g xs)
 
 -- ---- a name occurs once among the keys of a map
 
@@ -53,12 +54,15 @@ not_same n c below = search (rules, bytes_total)
 is_name : List ℕ → List ℕ → ℕ
 is_name c n = cond (same_bytes n c) 1 0
 
-none_above : {X : Type 0} (c : List ℕ) (es : List (List ℕ × X)) → below_all bytes_cmp c es ≡ true → sum_by (is_name c) (map (λ e. e.0) es) ≡ 0
+none_above : {X : Type 0} (c : List ℕ) (es : List (List ℕ × X)) → below_all bytes_cmp c es ≡ true →
+    sum_by (is_name c) (map (λ e. e.0) es) ≡ 0
 unfolding is_name
 none_above c [] h = refl
-none_above {X} c (e ∷ es) h = grind (arith, not_same, sum_by-cons, none_above c es (second_so (is_lt (bytes_cmp c e.0)) (below_all bytes_cmp c es) h))
+none_above {X} c (e ∷ es) h = grind
+    (arith, not_same, sum_by-cons, none_above c es (second_so (is_lt (bytes_cmp c e.0)) (below_all bytes_cmp c es) h))
 
-one_of_rest : (c n : List ℕ) (names : List (List ℕ)) → same_bytes n c ≡ false → is_one_of (n ∷ names) c ≡ true → is_one_of names c ≡ true
+one_of_rest : (c n : List ℕ) (names : List (List ℕ)) → same_bytes n c ≡ false → is_one_of (n ∷ names) c ≡ true →
+    is_one_of names c ≡ true
 one_of_rest c n names other among =
     elim (same_bytes c n) as (λ b. same_bytes c n ≡ b → (b || is_one_of names c) ≡ true → is_one_of names c ≡ true) [
       | false ↦ λ _ rest. rest
@@ -87,8 +91,9 @@ once {X} c (e ∷ es) sorted among =
 one_more : {X : Type 0} (p : X → Bool) (x : X) (xs : List X) → length (filter p (x ∷ xs)) ≡ cond (p x) 1 0 + length (filter p xs)
 one_more = grind arith
 
-module _ {X : Type 0} (columns : List (List ℕ × X)) (sorted : is_sorted bytes_cmp columns ≡ true) (is_row ok : CoefficientKey × Number → Bool)
-    (known : (e : CoefficientKey × Number) → ok e ≡ true → is_one_of (map (λ c. c.0) columns) e.0.column ≡ true) where
+module _ {X : Type 0} (columns : List (List ℕ × X)) (sorted : is_sorted bytes_cmp columns ≡ true)
+    (is_row ok : CoefficientKey × Number → Bool) (known : (e : CoefficientKey × Number) → ok e ≡ true →
+    is_one_of (map (λ c. c.0) columns) e.0.column ≡ true) where
   abbrev names : List (List ℕ)
   names = map (λ c. c.0) columns
 
@@ -110,7 +115,8 @@ module _ {X : Type 0} (columns : List (List ℕ × X)) (sorted : is_sorted bytes
       ∙ sum-both (λ n. cond (within n e) 1 0) (λ n. length (filter (within n) es)) names ∙ (λ i. in_one e
       (first_so (ok e) (list_all ok es) h) i + in_all es (second_so (ok e) (list_all ok es) h) i) ∙ sym (one_more is_row e es)
 
-known_column : (m : LinearModel) (e : CoefficientKey × Number) → is_sound_coefficient m e ≡ true → is_one_of (column_names m) e.0.column ≡ true
+known_column : (m : LinearModel) (e : CoefficientKey × Number) → is_sound_coefficient m e ≡ true →
+    is_one_of (column_names m) e.0.column ≡ true
 known_column = grind arith
 
 pub all_counted : (m : LinearModel) → IsSound m → elements_before m (num_columns m) ≡ num_elements m
@@ -140,16 +146,22 @@ normal-own d ok = by (is_zero d) refl
 
     by : (b : Bool) → is_zero d ≡ b → normal d ≡ d
     by true z = grind (arith, zero-is)
-    by false z = (λ i. normal (record { mantissa = (sym (signed-size d.mantissa) ∙ ap (to_signed minus) (no_more size)) i; exponent = same_exponent d.exponent i })) ∙ normal-tens minus
-        size 0 d.exponent (nonzero-ends d ok z) (omega arith) ∙ (λ i. record { mantissa = signed-size d.mantissa i; exponent = d.exponent })
+    by false z = (λ i. normal (record {
+      mantissa = (sym (signed-size d.mantissa) ∙ ap (to_signed minus) (no_more size)) i;
+      exponent =
+          same_exponent d.exponent i;
+    })) ∙ normal-tens minus size 0 d.exponent (nonzero-ends d ok z) (omega arith)
+        ∙ (λ i. record { mantissa = signed-size d.mantissa i; exponent = d.exponent })
 
 abbrev tested : Number → Result Number FaultKind
-tested value = if not (has_few_digits value) then Err TooManyDigits else (if not (has_small_exponent value) then Err ExponentRange else Ok value)
+tested value = if not (has_few_digits value) then Err TooManyDigits
+    else (if not (has_small_exponent value) then Err ExponentRange else Ok value)
 
 decimal-own : (d : Number) → IsDecimal d → decimal_given d ≡ Ok d
 decimal-own = grind (arith, normal-own)
 
-decimal-stated : (d : Number) (in_c : MpslpNumber) → IsDecimal d → RepresentsNumber d in_c → decimal_given (given_number in_c) ≡ Ok d
+decimal-stated : (d : Number) (in_c : MpslpNumber) → IsDecimal d → RepresentsNumber d in_c →
+    decimal_given (given_number in_c) ≡ Ok d
 decimal-stated = grind (arith, decimal-own)
 
 pub number-stated : (d : Number) (in_c : MpslpNumber) → IsDecimal d → RepresentsNumber d in_c → number_given in_c ≡ Ok d
@@ -157,7 +169,8 @@ number-stated = grind (arith, decimal-stated)
 
 -- ---- limits and bounds
 
-pub limit-stated : (limit : Limit) (in_c : MpslpNumber) → is_given limit ≡ true → RepresentsLimit limit in_c → limit_given in_c ≡ Ok limit
+pub limit-stated : (limit : Limit) (in_c : MpslpNumber) → is_given limit ≡ true → RepresentsLimit limit in_c →
+    limit_given in_c ≡ Ok limit
 limit-stated = grind (arith, decimal-stated, bounded_so, bounded_finite)
 
 pub lower-given : (limit : Limit) → is_lower_side limit ≡ true → is_given limit ≡ true
@@ -168,7 +181,8 @@ upper-given = grind arith
 
 -- ---- names
 
-pub name-stated : (all name : List ℕ) (in_c : MpslpName) → is_mps_name name ≡ true → RepresentsName all name in_c → name_given all in_c ≡ Ok name
+pub name-stated : (all name : List ℕ) (in_c : MpslpName) → is_mps_name name ≡ true → RepresentsName all name in_c →
+    name_given all in_c ≡ Ok name
 name-stated = grind arith
 
 -- ---- what the arrays of a model declare, item by item: a list that depends only on the model. The maps of its draft
@@ -202,7 +216,8 @@ abbrev pub column_stated : LinearModel → List ℕ × Column → Declarations
 column_stated m column = head_stated m column ++ map cell_stated (column_elements m column.0)
 
 abbrev pub stated_declarations : LinearModel → Declarations
-stated_declarations m = objective_stated m ++ (map row_stated (maps.entries m.rows) ++ flat_map (column_stated m) (maps.entries m.columns))
+stated_declarations m = objective_stated m ++ (map row_stated (maps.entries m.rows) ++ flat_map (column_stated m)
+    (maps.entries m.columns))
 
 -- ---- what a kind of declaration puts into a map
 
@@ -212,26 +227,33 @@ module _ {Y : Type 0} (part : Declaration → List Y) where
   mapped f own h [] = refl
   mapped f own h (x ∷ xs) = grind (arith, mapped f own h xs)
 
-  kinds-none : ((x : List ℕ) → part (declare_integer x) ≡ []) → ((x : List ℕ) → part (declare_semi x) ≡ []) → (name : List ℕ) (kind : Kind)
-      → flat_map part (kind_stated name kind) ≡ []
+  kinds-none : ((x : List ℕ) → part (declare_integer x) ≡ []) → ((x : List ℕ) → part (declare_semi x) ≡ []) →
+      (name : List ℕ) (kind : Kind) → flat_map part (kind_stated name kind) ≡ []
   kinds-none = grind arith
 
   -- cells put nothing into it
   head-only : ((key : CoefficientKey) (value : Number) → part (declare_coefficient key value) ≡ [])
-      → (m : LinearModel) (column : List ℕ × Column) → flat_map part (column_stated m column) ≡ flat_map part (head_stated m column)
-  head-only none m column = let cells = column_elements m column.0 in flat_map-append part (head_stated m column) (map cell_stated cells)
-      ∙ ap (λ (ys : List Y). flat_map part (head_stated m column) ++ ys) (mapped cell_stated (λ _. []) (λ cell. none cell.0 cell.1) cells
-      ∙ flat_map-none cells) ∙ append-nil (flat_map part (head_stated m column))
+      → (m : LinearModel) (column : List ℕ × Column) →
+      flat_map part (column_stated m column) ≡ flat_map part (head_stated m column)
+  head-only none m column = let cells = column_elements m column.0 in
+      flat_map-append part (head_stated m column) (map cell_stated cells)
+      ∙ ap (λ (ys : List Y). flat_map part (head_stated m column) ++ ys)
+      (mapped cell_stated (λ _. []) (λ cell. none cell.0 cell.1) cells ∙ flat_map-none cells)
+      ∙ append-nil (flat_map part (head_stated m column))
 
   -- by rows and columns
-  parts : (m : LinearModel) (row : List ℕ × Row → List Y) (column : List ℕ × Column → List Y) → flat_map part (objective_stated m) ≡ []
-      → ((r : List ℕ × Row) → part (row_stated r) ≡ row r) → ((c : List ℕ × Column) → flat_map part (column_stated m c) ≡ column c)
-      → flat_map part (stated_declarations m) ≡ flat_map row (maps.entries m.rows) ++ flat_map column (maps.entries m.columns)
-  parts m row column front of_row of_column = let rows = maps.entries m.rows in let columns = maps.entries m.columns in
+  parts : (m : LinearModel) (row : List ℕ × Row → List Y) (column : List ℕ × Column → List Y) →
+      flat_map part (objective_stated m) ≡ [] → ((r : List ℕ × Row) → part (row_stated r) ≡ row r) →
+      ((c : List ℕ × Column) → flat_map part (column_stated m c) ≡ column c) →
+      flat_map part (stated_declarations m) ≡ flat_map row (maps.entries m.rows) ++ flat_map column
+      (maps.entries m.columns)
+  parts m row column front of_row of_column = let rows = maps.entries m.rows in
+      let columns = maps.entries m.columns in
       flat_map-append part (objective_stated m) (map row_stated rows ++ flat_map (column_stated m) columns)
       ∙ (λ i. front i ++ flat_map part (map row_stated rows ++ flat_map (column_stated m) columns))
-      ∙ flat_map-append part (map row_stated rows) (flat_map (column_stated m) columns) ∙ (λ i. mapped row_stated row of_row rows i
-      ++ (flat_map-flat_map part (column_stated m) columns ∙ flat-same (λ c. flat_map part (column_stated m c)) column of_column columns) i)
+      ∙ flat_map-append part (map row_stated rows) (flat_map (column_stated m) columns)
+      ∙ (λ i. mapped row_stated row of_row rows i ++ (flat_map-flat_map part (column_stated m) columns
+      ∙ flat-same (λ c. flat_map part (column_stated m c)) column of_column columns) i)
 
   column-parts : (m : LinearModel) (column : List ℕ × Column → List Y) → flat_map part (objective_stated m) ≡ []
       → ((r : List ℕ × Row) → part (row_stated r) ≡ []) → ((c : List ℕ × Column) → flat_map part (column_stated m c) ≡ column c)
@@ -287,35 +309,42 @@ module _ (m : LinearModel) where
   cells_sorted = true_from (is_sorted key_cmp cells) (maps.entries_sorted m.coefficients)
 
   -- entries that columns make
-  by-columns : {V : Type 0} (f : Column → Option V) (es : List (List ℕ × V)) → es ≡ all_stated f columns → puts bytes_cmp es [] ≡ all_stated f columns
+  by-columns : {V : Type 0} (f : Column → Option V) (es : List (List ℕ × V)) → es ≡ all_stated f columns →
+      puts bytes_cmp es [] ≡ all_stated f columns
   by-columns = grind (arith, puts, puts-own, bytes_total, tied_names, all_stated, sorted-stated, columns_sorted)
 
   pub rows-drafted : (drafted m).rows ≡ map own_form rows
   rows-drafted = rows-all (stated_declarations m) empty_draft
-      ∙ ap (λ (es : List (List ℕ × RowDefinition)). puts bytes_cmp es []) (parts row_part m (λ row. own_form row ∷ []) (λ _. []) refl
-      (λ _. refl) (λ c. head-only row_part (λ _ _. refl) m c ∙ kinds-none row_part (λ _. refl) (λ _. refl) c.0 c.1.kind)
-      ∙ (λ i. flat_map_single own_form rows i ++ flat_map-none columns i) ∙ append-nil (map own_form rows)) ∙ puts-own bytes_cmp bytes_total
-      tied_names (map own_form rows) (sorted-mapped (λ row. by_limits row.1.lower row.1.upper) rows ∙ rows_sorted)
+      ∙ ap (λ (es : List (List ℕ × RowDefinition)). puts bytes_cmp es [])
+      (parts row_part m (λ row. own_form row ∷ []) (λ _. []) refl (λ _. refl)
+      (λ c. head-only row_part (λ _ _. refl) m c ∙ kinds-none row_part (λ _. refl) (λ _. refl) c.0 c.1.kind)
+      ∙ (λ i. flat_map_single own_form rows i ++ flat_map-none columns i) ∙ append-nil (map own_form rows))
+      ∙ puts-own bytes_cmp bytes_total tied_names (map own_form rows)
+      (sorted-mapped (λ row. by_limits row.1.lower row.1.upper) rows ∙ rows_sorted)
 
   lowers-drafted : (drafted m).lowers ≡ all_stated (λ column. Some column.lower) columns
   lowers-drafted = lowers-all (stated_declarations m) empty_draft
       ∙ by-columns (λ column. Some column.lower) (flat_map lower_part (stated_declarations m))
-      (column-parts lower_part m (λ column. stated column.0 (Some column.1.lower)) refl (λ _. refl) (λ c. head-only lower_part (λ _ _. refl)
-      m c ∙ ap (λ (es : List (List ℕ × Limit)). (c.0, c.1.lower) ∷ es) (kinds-none lower_part (λ _. refl) (λ _. refl) c.0 c.1.kind)))
+      (column-parts lower_part m (λ column. stated column.0 (Some column.1.lower)) refl (λ _. refl)
+      (λ c. head-only lower_part (λ _ _. refl) m c ∙ ap (λ (es : List (List ℕ × Limit)). (c.0, c.1.lower) ∷ es)
+      (kinds-none lower_part (λ _. refl) (λ _. refl) c.0 c.1.kind)))
 
   uppers-drafted : (drafted m).uppers ≡ all_stated (λ column. Some column.upper) columns
   uppers-drafted = uppers-all (stated_declarations m) empty_draft
       ∙ by-columns (λ column. Some column.upper) (flat_map upper_part (stated_declarations m))
-      (column-parts upper_part m (λ column. stated column.0 (Some column.1.upper)) refl (λ _. refl) (λ c. head-only upper_part (λ _ _. refl)
-      m c ∙ ap (λ (es : List (List ℕ × Limit)). (c.0, c.1.upper) ∷ es) (kinds-none upper_part (λ _. refl) (λ _. refl) c.0 c.1.kind)))
+      (column-parts upper_part m (λ column. stated column.0 (Some column.1.upper)) refl (λ _. refl)
+      (λ c. head-only upper_part (λ _ _. refl) m c ∙ ap (λ (es : List (List ℕ × Limit)). (c.0, c.1.upper) ∷ es)
+      (kinds-none upper_part (λ _. refl) (λ _. refl) c.0 c.1.kind)))
 
   integers-drafted : (drafted m).integers ≡ all_stated integer_by columns
   integers-drafted = integers-all (stated_declarations m) empty_draft ∙ by-columns integer_by
-      (flat_map integer_part (stated_declarations m)) (column-parts integer_part m (λ column. stated column.0 (integer_by column.1)) refl
-      (λ _. refl) (λ c. head-only integer_part (λ _ _. refl) m c ∙ of_kind c.0 c.1.lower c.1.upper c.1.kind))
+      (flat_map integer_part (stated_declarations m))
+      (column-parts integer_part m (λ column. stated column.0 (integer_by column.1)) refl (λ _. refl)
+      (λ c. head-only integer_part (λ _ _. refl) m c ∙ of_kind c.0 c.1.lower c.1.upper c.1.kind))
     where
       of_kind : (name : List ℕ) (l u : Limit) (kind : Kind)
-          → flat_map integer_part (kind_stated name kind) ≡ stated name (integer_by (record { kind = kind; lower = l; upper = u }))
+          → flat_map integer_part (kind_stated name kind) ≡ stated name
+          (integer_by (record { kind = kind; lower = l; upper = u }))
       of_kind = grind arith
 
   semis-drafted : (drafted m).semis ≡ all_stated semi_by columns
@@ -328,22 +357,27 @@ module _ (m : LinearModel) where
       of_kind = grind arith
 
   pub columns-drafted : (drafted m).columns ≡ map named columns
-  columns-drafted = columns-all (stated_declarations m) empty_draft ∙ by-columns (λ _. Some tt) (flat_map column_part (stated_declarations m))
-      (column-parts column_part m (λ column. stated column.0 (Some tt)) refl (λ _. refl) (λ c. head-only column_part (λ _ _. refl) m c
-      ∙ ap (λ (es : List (List ℕ × Unit {0})). (c.0, tt) ∷ es) (kinds-none column_part (λ _. refl) (λ _. refl) c.0 c.1.kind)))
-      ∙ flat_map_single named columns
+  columns-drafted = columns-all (stated_declarations m) empty_draft
+      ∙ by-columns (λ _. Some tt) (flat_map column_part (stated_declarations m))
+      (column-parts column_part m (λ column. stated column.0 (Some tt)) refl (λ _. refl)
+      (λ c. head-only column_part (λ _ _. refl) m c ∙ ap (λ (es : List (List ℕ × Unit {0})). (c.0, tt) ∷ es)
+      (kinds-none column_part (λ _. refl) (λ _. refl) c.0 c.1.kind))) ∙ flat_map_single named columns
 
   pub rhs_values-none : (drafted m).rhs_values ≡ []
-  rhs_values-none = rhs_values-all (stated_declarations m) empty_draft ∙ ap (λ (es : List (List ℕ × Number)). puts bytes_cmp es [])
-      (no-parts rhs_part m refl (λ _. refl) (λ c. head-only rhs_part (λ _ _. refl) m c ∙ kinds-none rhs_part (λ _. refl) (λ _. refl) c.0 c.1.kind))
+  rhs_values-none = rhs_values-all (stated_declarations m) empty_draft
+      ∙ ap (λ (es : List (List ℕ × Number)). puts bytes_cmp es [])
+      (no-parts rhs_part m refl (λ _. refl) (λ c. head-only rhs_part (λ _ _. refl) m c
+      ∙ kinds-none rhs_part (λ _. refl) (λ _. refl) c.0 c.1.kind))
 
   marked-none : (drafted m).marked ≡ []
   marked-none = marked-all (stated_declarations m) empty_draft ∙ ap (λ (es : List (List ℕ × Unit {0})). puts bytes_cmp es [])
-      (no-parts marked_part m refl (λ _. refl) (λ c. head-only marked_part (λ _ _. refl) m c ∙ kinds-none marked_part (λ _. refl) (λ _. refl) c.0 c.1.kind))
+      (no-parts marked_part m refl (λ _. refl) (λ c. head-only marked_part (λ _ _. refl) m c
+      ∙ kinds-none marked_part (λ _. refl) (λ _. refl) c.0 c.1.kind))
 
   pub binaries-none : (drafted m).binaries ≡ []
   binaries-none = binaries-all (stated_declarations m) empty_draft ∙ ap (λ (es : List (List ℕ × Unit {0})). puts bytes_cmp es [])
-      (no-parts binary_part m refl (λ _. refl) (λ c. head-only binary_part (λ _ _. refl) m c ∙ kinds-none binary_part (λ _. refl) (λ _. refl) c.0 c.1.kind))
+      (no-parts binary_part m refl (λ _. refl) (λ c. head-only binary_part (λ _ _. refl) m c
+      ∙ kinds-none binary_part (λ _. refl) (λ _. refl) c.0 c.1.kind))
 
   -- ---- what is found of a column
 
@@ -357,7 +391,8 @@ module _ (m : LinearModel) where
       → IsOwn column → at_name es column.0 ≡ f column.1
   found = grind (arith, find-stated, bytes_total, tied_names, columns_sorted, then_stated)
 
-  integer-by : (kind : Kind) (l u : Limit) → is_some (integer_by (record { kind = kind; lower = l; upper = u })) ≡ is_integer_kind kind
+  integer-by : (kind : Kind) (l u : Limit) →
+      is_some (integer_by (record { kind = kind; lower = l; upper = u })) ≡ is_integer_kind kind
   integer-by = grind arith
 
   semi-by : (kind : Kind) (l u : Limit) → is_some (semi_by (record { kind = kind; lower = l; upper = u })) ≡ is_semi_kind kind
@@ -388,7 +423,8 @@ module _ (m : LinearModel) where
       back [] = refl
       back (row ∷ rs) = grind (arith, back rs)
 
-  each-form : (p : List ℕ × RowDefinition → Bool) → ((row : List ℕ × Row) → p (own_form row) ≡ true) → list_all p (drafted m).rows ≡ true
+  each-form : (p : List ℕ × RowDefinition → Bool) → ((row : List ℕ × Row) → p (own_form row) ≡ true) →
+      list_all p (drafted m).rows ≡ true
   each-form p h = ap (list_all p) rows-drafted ∙ list_all-from_Each p (map own_form rows)
       (Each-map (λ row. p row ≡ true) own_form rows (Each-all (λ row. p (own_form row) ≡ true) h rows))
 
@@ -416,8 +452,10 @@ module _ (m : LinearModel) where
     sound-cells : Each (λ cell. is_sound_coefficient m cell ≡ true) cells
     sound-cells = Each-from_list_all (is_sound_coefficient m) cells sound.coefficients
 
-    sound-at : (key : CoefficientKey) (value : Number) → find key_cmp key cells ≡ Some value → is_sound_coefficient m (key, value) ≡ true
-    sound-at key value is = found-each key_cmp key_total same_key (λ k v. is_sound_coefficient m (k, v) ≡ true) cells sound-cells key value is
+    sound-at : (key : CoefficientKey) (value : Number) → find key_cmp key cells ≡ Some value →
+        is_sound_coefficient m (key, value) ≡ true
+    sound-at key value is = found-each key_cmp key_total same_key (λ k v. is_sound_coefficient m (k, v) ≡ true) cells
+        sound-cells key value is
 
     kept-of : (cell : CoefficientKey × Number) → is_sound_coefficient m cell ≡ true → is_kept cell.1 ≡ true
     kept-of = grind arith
@@ -429,16 +467,23 @@ module _ (m : LinearModel) where
             → o ≡ cond (is_kept (unwrap_or o zero_number)) (Some (unwrap_or o zero_number)) None
         by None is = refl
         by (Some value) is =
-            sym (ap (λ (b : Bool). cond b (Some value) None) (kept-of (cost_key m column, value) (sound-at (cost_key m column) value is)))
+            sym (ap (λ (b : Bool). cond b (Some value) None)
+            (kept-of (cost_key m column, value) (sound-at (cost_key m column) value is)))
 
     cells-true : Each IsTrueCell cells
-    cells-true = Each-both (λ cell. find key_cmp cell.0 cells ≡ Some cell.1) (λ cell. is_sound_coefficient m cell ≡ true) IsTrueCell
+    cells-true = Each-both (λ cell. find key_cmp cell.0 cells ≡ Some cell.1)
+        (λ cell. is_sound_coefficient m cell ≡ true) IsTrueCell
         (λ cell is fine. is ∙ sym (ap (λ (b : Bool). cond b (Some cell.1) None) (kept-of cell fine))) cells
         (finds_own key_cmp key_total same_key cells (T_from (is_sorted key_cmp cells) cells_sorted)) sound-cells
 
     all-true : Each IsTrueCell (flat_map own_cells columns)
     all-true = Each-flat_map IsTrueCell own_cells columns (Each-all (λ column. Each IsTrueCell (own_cells column))
-        (λ column. (cost-true column.0, Each-filter IsTrueCell (λ e. is_element m e && same_bytes column.0 e.0.column) cells (Each-weaker IsTrueCell (λ e. (is_element m e && same_bytes column.0 e.0.column) ≡ true → IsTrueCell e) (λ e is _. is) cells cells-true))) columns)
+        (λ column. (
+          cost-true column.0,
+          Each-filter IsTrueCell (λ e. is_element m e && same_bytes column.0 e.0.column)
+              cells (Each-weaker IsTrueCell (λ e. (is_element m e && same_bytes column.0 e.0.column) ≡ true →
+              IsTrueCell e) (λ e is _. is) cells cells-true),
+        )) columns)
 
     -- each coefficient is declared
 
@@ -446,7 +491,8 @@ module _ (m : LinearModel) where
     IsAmong key es = is_some (find key_cmp key es) ≡ true
 
     -- an entry that passes is among those that do
-    among-passing : (p : CoefficientKey × Number → Bool) (es : List (CoefficientKey × Number)) → Each (λ e. p e ≡ true → IsAmong e.0 (filter p es)) es
+    among-passing : (p : CoefficientKey × Number → Bool) (es : List (CoefficientKey × Number)) →
+        Each (λ e. p e ≡ true → IsAmong e.0 (filter p es)) es
     among-passing p [] = tt
     among-passing p (e ∷ es) =
         elim (p e) as (λ b. p e ≡ b → Each (λ d. p d ≡ true → IsAmong d.0 (cond b (e ∷ filter p es) (filter p es))) (e ∷ es)) [
@@ -474,7 +520,8 @@ module _ (m : LinearModel) where
         ] refl h
 
     cell-among : (cell : CoefficientKey × Number) → ((c : List ℕ × Column) → cell.0.column ≡ c.0 → is_element m cell ≡ true
-        → IsAmong cell.0 (column_elements m c.0)) → is_sound_coefficient m cell ≡ true → IsAmong cell.0 (flat_map own_cells columns)
+        → IsAmong cell.0 (column_elements m c.0)) → is_sound_coefficient m cell ≡ true →
+        IsAmong cell.0 (flat_map own_cells columns)
     cell-among = search (rules, among-columns, named, same_name, find-front, key_total, same_key, some_cons)
 
     each-for : {X C : Type 0} (P : C → X → Type 0) (xs : List X) → ((c : C) → Each (P c) xs) → Each (λ x. (c : C) → P c x) xs
@@ -485,23 +532,30 @@ module _ (m : LinearModel) where
     each-among = Each-both (λ cell. (c : List ℕ × Column) → (is_element m cell && same_bytes c.0 cell.0.column) ≡ true
         → IsAmong cell.0 (column_elements m c.0)) (λ cell. is_sound_coefficient m cell ≡ true)
         (λ cell. IsAmong cell.0 (flat_map own_cells columns)) (λ cell passing fine. cell-among cell (λ c named element. passing c
-        (both_so (is_element m cell) (same_bytes c.0 cell.0.column) element (ap (same_bytes c.0) named ∙ itself_named c.0))) fine) cells
-        (each-for (λ (c : List ℕ × Column) (cell : CoefficientKey × Number). (is_element m cell && same_bytes c.0 cell.0.column) ≡ true
-        → IsAmong cell.0 (column_elements m c.0)) cells (λ c. among-passing (λ e. is_element m e && same_bytes c.0 e.0.column) cells)) sound-cells
+        (both_so (is_element m cell) (same_bytes c.0 cell.0.column) element
+        (ap (same_bytes c.0) named ∙ itself_named c.0))) fine) cells
+        (each-for (λ (c : List ℕ × Column) (cell : CoefficientKey × Number).
+        (is_element m cell && same_bytes c.0 cell.0.column) ≡ true →
+        IsAmong cell.0 (column_elements m c.0)) cells
+        (λ c. among-passing (λ e. is_element m e && same_bytes c.0 e.0.column) cells)) sound-cells
 
     -- The coefficients that are declared, without zeros, are those of the model.
     coefficients-kept : filter (λ entry. not (is_zero entry.1)) (drafted m).coefficients ≡ cells
-    coefficients-kept = ap (filter (λ (entry : CoefficientKey × Number). not (is_zero entry.1))) (coefficients-all (stated_declarations m)
-        empty_draft ∙ ap (λ (es : List (CoefficientKey × Number)). puts key_cmp es []) cells-part) ∙ puts-kept key_cmp key_total same_key
-        is_kept cells (flat_map own_cells columns) cells_sorted all-true (λ key some. let there = value_in (find key_cmp key cells) some in
-        found-each key_cmp key_total same_key (λ k v. IsAmong k (flat_map own_cells columns)) cells each-among key there.0 there.1)
+    coefficients-kept = ap (filter (λ (entry : CoefficientKey × Number). not (is_zero entry.1)))
+        (coefficients-all (stated_declarations m) empty_draft
+        ∙ ap (λ (es : List (CoefficientKey × Number)). puts key_cmp es []) cells-part) ∙ puts-kept key_cmp key_total same_key
+        is_kept cells (flat_map own_cells columns) cells_sorted all-true (λ key some. let there =
+        value_in (find key_cmp key cells) some in
+        found-each key_cmp key_total same_key (λ k v. IsAmong k (flat_map own_cells columns)) cells each-among key
+        there.0 there.1)
 
   -- ---- the objective
 
   -- a property of what is declared of rows and columns
   each-later : (P : Declaration → Type 0) → ((x : List ℕ) (form : RowDefinition) → P (declare_row x form)) → ((x : List ℕ)
-      → P (declare_column x)) → ((x : List ℕ) (l : Limit) → P (declare_lower x l)) → ((x : List ℕ) (l : Limit) → P (declare_upper x l))
-      → ((key : CoefficientKey) (v : Number) → P (declare_coefficient key v)) → ((x : List ℕ) → P (declare_integer x))
+      → P (declare_column x)) → ((x : List ℕ) (l : Limit) → P (declare_lower x l)) →
+      ((x : List ℕ) (l : Limit) → P (declare_upper x l)) →
+      ((key : CoefficientKey) (v : Number) → P (declare_coefficient key v)) → ((x : List ℕ) → P (declare_integer x))
       → ((x : List ℕ) → P (declare_semi x)) → Each P (map row_stated rows ++ flat_map (column_stated m) columns)
   each-later P row column lower upper cell whole semi =
       Each-append P (map row_stated rows) (flat_map (column_stated m) columns)
@@ -525,24 +579,28 @@ module _ (m : LinearModel) where
       kinds : (name : List ℕ) (kind : Kind) → Each P (kind_stated name kind)
       kinds = grind arith
 
-  stays : {X : Type 0} (part : Draft → X) (value : X) → ((x : List ℕ) (form : RowDefinition) → Stays part value (declare_row x form))
-      → ((x : List ℕ) → Stays part value (declare_column x)) → ((x : List ℕ) (l : Limit) → Stays part value (declare_lower x l))
+  stays : {X : Type 0} (part : Draft → X) (value : X) →
+      ((x : List ℕ) (form : RowDefinition) → Stays part value (declare_row x form)) →
+      ((x : List ℕ) → Stays part value (declare_column x)) → ((x : List ℕ) (l : Limit) → Stays part value (declare_lower x l))
       → ((x : List ℕ) (l : Limit) → Stays part value (declare_upper x l)) → ((key : CoefficientKey) (v : Number)
       → Stays part value (declare_coefficient key v)) → ((x : List ℕ) → Stays part value (declare_integer x))
-      → ((x : List ℕ) → Stays part value (declare_semi x)) → part (draft_of (objective_stated m)) ≡ value → part (drafted m) ≡ value
-  stays part value row column lower upper cell whole semi is = stays-all part value (map row_stated rows ++ flat_map (column_stated m)
-      columns) (each-later (Stays part value) row column lower upper cell whole semi) (draft_of (objective_stated m)) is
+      → ((x : List ℕ) → Stays part value (declare_semi x)) → part (draft_of (objective_stated m)) ≡ value →
+      part (drafted m) ≡ value
+  stays part value row column lower upper cell whole semi is =
+      stays-all part value (map row_stated rows ++ flat_map (column_stated m) columns)
+      (each-later (Stays part value) row column lower upper cell whole semi) (draft_of (objective_stated m)) is
 
   pub sense-drafted : (drafted m).sense ≡ Some m.sense
-  sense-drafted = stays (λ all. all.sense) (Some m.sense) (λ _ _ _ h. h) (λ _ _ h. h) (λ _ _ _ h. h) (λ _ _ _ h. h) (λ _ _ _ h. h) (λ _ _ h. h) (λ _ _ h. h) refl
+  sense-drafted = stays (λ all. all.sense) (Some m.sense) (λ _ _ _ h. h) (λ _ _ h. h) (λ _ _ _ h. h) (λ _ _ _ h. h)
+      (λ _ _ _ h. h) (λ _ _ h. h) (λ _ _ h. h) refl
 
   pub objective-drafted : (drafted m).objective ≡ Some m.objective
   objective-drafted = stays (λ all. all.objective) (Some m.objective) (λ _ _ _ h. h) (λ _ _ h. h) (λ _ _ _ h. h) (λ _ _ _ h. h)
       (λ _ _ _ h. h) (λ _ _ h. h) (λ _ _ h. h) refl
 
   constant-drafted : (drafted m).constant ≡ Some m.constant
-  constant-drafted = stays (λ all. all.constant) (Some m.constant) (λ _ _ _ h. h) (λ _ _ h. h) (λ _ _ _ h. h) (λ _ _ _ h. h) (λ _ _ _ h. h)
-      (λ _ _ h. h) (λ _ _ h. h) refl
+  constant-drafted = stays (λ all. all.constant) (Some m.constant) (λ _ _ _ h. h) (λ _ _ h. h) (λ _ _ _ h. h)
+      (λ _ _ _ h. h) (λ _ _ _ h. h) (λ _ _ h. h) (λ _ _ h. h) refl
 
   -- The draft means the model.
   pub draft-means : IsSound m → DraftMeans (drafted m) m

@@ -81,7 +81,8 @@ Pairs P _ _ = ⊥
 pairs-from : {X Y : Type 0} (P : X → Y → Type 0) (xs : List X) (ys : List Y) → length ys ≡ length xs
     → ((i : ℕ) (x : X) (y : Y) → slice_get xs i ≡ Some x → slice_get ys i ≡ Some y → P x y) → Pairs P xs ys
 pairs-from P [] [] same each = tt
-pairs-from P (x ∷ xs) (y ∷ ys) same each = (each 0 x y refl refl, pairs-from P xs ys (omega (arith, same)) (λ i a b at there. each (suc i) a b at there))
+pairs-from P (x ∷ xs) (y ∷ ys) same each =
+    (each 0 x y refl refl, pairs-from P xs ys (omega (arith, same)) (λ i a b at there. each (suc i) a b at there))
 pairs-from P [] (y ∷ ys) same each = grind arith
 pairs-from P (x ∷ xs) [] same each = grind arith
 
@@ -124,12 +125,16 @@ row-stated = grind (arith, value-at, name-at, side-of)
 row-steps : (names : List ℕ) (row : List ℕ × Row) (in_c : MpslpRow) → is_sound_row row ≡ true → IsRowStated names row in_c
     → Give (row_steps names in_c) (row_stated row ∷ [])
 row-steps names row in_c sound represents = let sides = row_sides row sound in
-    give_with _ (name-stated names row.0 in_c.name (row_named row sound) represents.name) (give_with _ (limit-stated row.1.lower in_c.lower
-    (lower-given row.1.lower (lower_of row.1.lower row.1.upper sides)) represents.lower) (give_with _ (limit-stated row.1.upper in_c.upper
-    (upper-given row.1.upper (upper_of row.1.lower row.1.upper sides)) represents.upper) (record { good = refl; declared = refl })))
+    give_with _ (name-stated names row.0 in_c.name (row_named row sound) represents.name)
+    (give_with _ (limit-stated row.1.lower in_c.lower
+    (lower-given row.1.lower (lower_of row.1.lower row.1.upper sides)) represents.lower)
+    (give_with _ (limit-stated row.1.upper in_c.upper
+    (upper-given row.1.upper (upper_of row.1.lower row.1.upper sides)) represents.upper)
+    (record { good = refl; declared = refl })))
 
-rows-items : (names : List ℕ) (i : ℕ) (rows : List (List ℕ × Row)) (in_c : List MpslpRow) → Each (λ row. is_sound_row row ≡ true) rows
-    → Pairs (IsRowStated names) rows in_c → GiveItems (row_items names i in_c) (map row_stated rows)
+rows-items : (names : List ℕ) (i : ℕ) (rows : List (List ℕ × Row)) (in_c : List MpslpRow) →
+    Each (λ row. is_sound_row row ≡ true) rows → Pairs (IsRowStated names) rows in_c →
+    GiveItems (row_items names i in_c) (map row_stated rows)
 rows-items names i [] [] sound pairs = no_items
 rows-items names i (row ∷ rows) (t ∷ in_c) sound pairs =
     give_item (row-steps names row t sound.0 pairs.0) (rows-items names (suc i) rows in_c sound.1 pairs.1)
@@ -141,7 +146,8 @@ rows-items names i (row ∷ rows) [] sound pairs = grind arith
 sense-stated : (sense : Sense) → Give (sense_steps (sense_number sense)) (declare_sense sense ∷ [])
 sense-stated = grind arith
 
-objective-steps : (m : LinearModel) (in_c : MpslpModel) → IsSound m → RepresentsModel m in_c → Give (objective_steps in_c) (objective_stated m)
+objective-steps : (m : LinearModel) (in_c : MpslpModel) → IsSound m → RepresentsModel m in_c →
+    Give (objective_steps in_c) (objective_stated m)
 objective-steps = grind (arith, sense-stated, name-stated, number-stated)
 
 -- ---- elements
@@ -155,9 +161,11 @@ slice_get-take (suc n) (x ∷ xs) (suc k) h = slice_get-take n xs k (omega arith
 slice_get-drop : {X : Type 0} (a : ℕ) (xs : List X) (k : ℕ) → slice_get (drop a xs) k ≡ slice_get xs (a + k)
 slice_get-drop zero xs k = let same : k ≡ 0 + k = omega arith in ap (slice_get xs) same
 slice_get-drop (suc a) [] k = refl
-slice_get-drop (suc a) (x ∷ xs) k = let same : suc (a + k) ≡ suc a + k = omega arith in slice_get-drop a xs k ∙ ap (slice_get (x ∷ xs)) same
+slice_get-drop (suc a) (x ∷ xs) k = let same : suc (a + k) ≡ suc a + k = omega arith in
+    slice_get-drop a xs k ∙ ap (slice_get (x ∷ xs)) same
 
-module _ (m : LinearModel) (sound : IsSound m) (names : List ℕ) (rows : List MpslpRow) (counted : length rows ≡ length (row_names m)) (states_rows : RepresentsRows m names rows) where
+module _ (m : LinearModel) (sound : IsSound m) (names : List ℕ) (rows : List MpslpRow)
+    (counted : length rows ≡ length (row_names m)) (states_rows : RepresentsRows m names rows) where
   record IsElementStated (column : List ℕ) (cell : CoefficientKey × Number) (element : MpslpElement) : Type 0 where
     of_column : same_bytes column cell.0.column ≡ true
     decimal : IsDecimal cell.1
@@ -165,21 +173,25 @@ module _ (m : LinearModel) (sound : IsSound m) (names : List ℕ) (rows : List M
     value : RepresentsNumber cell.1 element.value
 
   -- the row of a number
-  row-there : (name : List ℕ) (i : ℕ) → row_index m name ≡ Some i → (row : MpslpRow) × (slice_get rows i ≡ Some row) × (bytes_at names row.name ≡ name)
+  row-there : (name : List ℕ) (i : ℕ) → row_index m name ≡ Some i →
+      (row : MpslpRow) × (slice_get rows i ≡ Some row) × (bytes_at names row.name ≡ name)
   row-there name i is = let found = position-Some (same_bytes name) (row_names m) i [] is in by (slice_get rows i) refl found
     where
-      by : (o : Option MpslpRow) → slice_get rows i ≡ o → (i < length (row_names m)) × (same_bytes name (get_or (row_names m) i []) ≡ true)
-          × ((k : ℕ) → k < i → same_bytes name (get_or (row_names m) k []) ≡ false)
-          → (row : MpslpRow) × (slice_get rows i ≡ Some row) × (bytes_at names row.name ≡ name)
+      by : (o : Option MpslpRow) → slice_get rows i ≡ o →
+          (i < length (row_names m)) × (same_bytes name (get_or (row_names m) i []) ≡ true) × ((k : ℕ) → k < i →
+          same_bytes name (get_or (row_names m) k []) ≡ false) →
+          (row : MpslpRow) × (slice_get rows i ≡ Some row) × (bytes_at names row.name ≡ name)
       by (Some row) at found = (row, at, (states_rows i row at).name.bytes ∙ sym (same_name name (row_name m i) found.1))
       by None at found = grind (arith, none-beyond)
 
   element-steps : (column : List ℕ) (own : List ℕ) (cell : CoefficientKey × Number) (element : MpslpElement) → own ≡ column
-      → IsElementStated column cell element → Give (element_steps names own (slice_get rows element.row) element) (cell_stated cell ∷ [])
+      → IsElementStated column cell element →
+      Give (element_steps names own (slice_get rows element.row) element) (cell_stated cell ∷ [])
   element-steps column own cell element is represents = search (rules, row-there, cell_stated, number-stated, same_name)
 
-  elements-items : (column own : List ℕ) (k : ℕ) (cells : List (CoefficientKey × Number)) (elements : List MpslpElement) → own ≡ column
-      → Pairs (IsElementStated column) cells elements → GiveItems (element_items names rows own k elements) (map cell_stated cells)
+  elements-items : (column own : List ℕ) (k : ℕ) (cells : List (CoefficientKey × Number)) (elements : List MpslpElement)
+      → own ≡ column → Pairs (IsElementStated column) cells elements →
+      GiveItems (element_items names rows own k elements) (map cell_stated cells)
   elements-items column own k [] [] is pairs = no_items
   elements-items column own k (cell ∷ cells) (element ∷ elements) is pairs =
       give_item (element-steps column own cell element is pairs.0) (elements-items column own (suc k) cells elements is pairs.1)
@@ -188,16 +200,19 @@ module _ (m : LinearModel) (sound : IsSound m) (names : List ℕ) (rows : List M
 
 -- ---- columns
 
-record IsColumnStated (m : LinearModel) (names : List ℕ) (all : List MpslpElement) (column : List ℕ × Column) (in_c : MpslpColumn) : Type 0 where
+record IsColumnStated (m : LinearModel) (names : List ℕ) (all : List MpslpElement) (column : List ℕ × Column)
+    (in_c : MpslpColumn) : Type 0 where
   name : RepresentsName names column.0 in_c.name
   lower : RepresentsLimit column.1.lower in_c.lower
   upper : RepresentsLimit column.1.upper in_c.upper
   cost : RepresentsNumber (cost_at m column.0) in_c.cost
   kind : in_c.kind ≡ kind_number column.1.kind
-  elements : (k : ℕ) → k < column_len m column.0 → RepresentsElement (slice_get (numbered_elements m column.0) k) (slice_get all (in_c.first + k))
+  elements : (k : ℕ) → k < column_len m column.0 →
+      RepresentsElement (slice_get (numbered_elements m column.0) k) (slice_get all (in_c.first + k))
 
-column-stated : (m : LinearModel) (names : List ℕ) (all : List MpslpElement) (j : ℕ) (column : List ℕ × Column) (in_c : MpslpColumn)
-    → slice_get (maps.entries m.columns) j ≡ Some column → RepresentsColumn m names all j in_c → IsColumnStated m names all column in_c
+column-stated : (m : LinearModel) (names : List ℕ) (all : List MpslpElement) (j : ℕ) (column : List ℕ × Column)
+    (in_c : MpslpColumn) → slice_get (maps.entries m.columns) j ≡ Some column → RepresentsColumn m names all j in_c →
+    IsColumnStated m names all column in_c
 column-stated = grind (arith, value-at, name-at, side-of, cost_at, same_some)
 
 -- Where the elements of each column begin, from the first of these columns on, and where all end.
@@ -206,8 +221,10 @@ Starts m start [] [] end = start ≡ end
 Starts m start (column ∷ columns) (t ∷ in_c) end = (t.first ≡ start) × Starts m (start + column_len m column.0) columns in_c end
 Starts m start _ _ end = ⊥
 
-starts-from : (m : LinearModel) (start end : ℕ) (columns : List (List ℕ × Column)) (in_c : List MpslpColumn) → length in_c ≡ length columns
-    → ((j : ℕ) (t : MpslpColumn) → slice_get in_c j ≡ Some t → t.first ≡ start + sum_by (column_len m) (take j (map (λ (c : List ℕ × Column). c.0) columns)))
+starts-from : (m : LinearModel) (start end : ℕ) (columns : List (List ℕ × Column)) (in_c : List MpslpColumn) →
+    length in_c ≡ length columns →
+    ((j : ℕ) (t : MpslpColumn) → slice_get in_c j ≡ Some t →
+    t.first ≡ start + sum_by (column_len m) (take j (map (λ (c : List ℕ × Column). c.0) columns)))
     → start + sum_by (column_len m) (map (λ (c : List ℕ × Column). c.0) columns) ≡ end → Starts m start columns in_c end
 starts-from m start end [] [] same each last = grind arith
 starts-from m start end (column ∷ columns) (t ∷ in_c) same each last =
@@ -226,12 +243,13 @@ starts-from m start end (column ∷ columns) [] same each last = grind arith
 starts-within : (m : LinearModel) (start end : ℕ) (columns : List (List ℕ × Column)) (in_c : List MpslpColumn)
     → Starts m start columns in_c end → start ≤ end
 starts-within m start end [] [] starts = omega (arith, starts)
-starts-within m start end (column ∷ columns) (t ∷ in_c) starts = grind (arith, starts-within m (start + column_len m column.0) end columns in_c starts.1)
+starts-within m start end (column ∷ columns) (t ∷ in_c) starts =
+    grind (arith, starts-within m (start + column_len m column.0) end columns in_c starts.1)
 starts-within m start end [] (t ∷ in_c) starts = grind arith
 starts-within m start end (column ∷ columns) [] starts = grind arith
 
-ends-at : (m : LinearModel) (start end : ℕ) (columns : List (List ℕ × Column)) (in_c : List MpslpColumn) → Starts m start columns in_c end
-    → elements_end in_c end ≡ start
+ends-at : (m : LinearModel) (start end : ℕ) (columns : List (List ℕ × Column)) (in_c : List MpslpColumn) →
+    Starts m start columns in_c end → elements_end in_c end ≡ start
 ends-at m start end [] [] starts = sym starts
 ends-at m start end (column ∷ columns) (t ∷ in_c) starts = starts.0
 ends-at m start end [] (t ∷ in_c) starts = grind arith
@@ -246,10 +264,13 @@ zero_is = refl
 cost-decimal : (m : LinearModel) → IsSound m → (column : List ℕ) → IsDecimal (cost_at m column)
 cost-decimal m sound column = by (maps.find key_cmp (cost_key m column) (maps.entries m.coefficients)) refl
   where
-    by : (o : Option Number) → maps.find key_cmp (cost_key m column) (maps.entries m.coefficients) ≡ o → is_decimal (unwrap_or o zero_number) ≡ true
+    by : (o : Option Number) → maps.find key_cmp (cost_key m column) (maps.entries m.coefficients) ≡ o →
+        is_decimal (unwrap_or o zero_number) ≡ true
     by None is = zero_is
-    by (Some value) is = first_so (is_decimal value) _ (found-each key_cmp key_total same_key (λ k v. is_sound_coefficient m (k, v) ≡ true)
-        (maps.entries m.coefficients) (Each-from_list_all (is_sound_coefficient m) (maps.entries m.coefficients) sound.coefficients) (cost_key m column) value is)
+    by (Some value) is = first_so (is_decimal value) _
+        (found-each key_cmp key_total same_key (λ k v. is_sound_coefficient m (k, v) ≡ true)
+        (maps.entries m.coefficients) (Each-from_list_all (is_sound_coefficient m) (maps.entries m.coefficients)
+        sound.coefficients) (cost_key m column) value is)
 
 column-steps : (m : LinearModel) (sound : IsSound m) (names : List ℕ) (all : List MpslpElement) (column : List ℕ × Column)
     (in_c : MpslpColumn) → is_sound_column column ≡ true → IsColumnStated m names all column in_c
@@ -259,26 +280,28 @@ column-steps m sound names all column in_c fine represents =
     let kind = subst (λ (n : ℕ). Give (kind_steps column.0 n) (kind_stated column.0 column.1.kind)) (sym represents.kind)
     (kind-stated column.0 column.1.kind) in
     give_with _ (name-stated names column.0 in_c.name (column_named column fine) represents.name)
-    (give_with _ (limit-stated column.1.lower in_c.lower (lower-given column.1.lower (lower_of column.1.lower column.1.upper sides))
-    represents.lower)
-    (give_with _ (limit-stated column.1.upper in_c.upper (upper-given column.1.upper (upper_of column.1.lower column.1.upper sides))
-    represents.upper)
+    (give_with _ (limit-stated column.1.lower in_c.lower
+    (lower-given column.1.lower (lower_of column.1.lower column.1.upper sides)) represents.lower)
+    (give_with _ (limit-stated column.1.upper in_c.upper
+    (upper-given column.1.upper (upper_of column.1.lower column.1.upper sides)) represents.upper)
     (give_with _ (number-stated (cost_at m column.0) in_c.cost (cost-decimal m sound column.0) represents.cost) (record {
       good = kind.good;
       declared = λ i. declare_column column.0 ∷ declare_lower column.0 column.1.lower ∷ declare_upper column.0 column.1.upper
           ∷ declare_coefficient (cost_key m column.0) (cost_at m column.0) ∷ kind.declared i;
     }))))
 
-module _ (m : LinearModel) (sound : IsSound m) (names : List ℕ) (rows : List MpslpRow) (counted : length rows ≡ length (row_names m)) (states_rows : RepresentsRows m names rows)
-    (all : List MpslpElement) where
+module _ (m : LinearModel) (sound : IsSound m) (names : List ℕ) (rows : List MpslpRow)
+    (counted : length rows ≡ length (row_names m)) (states_rows : RepresentsRows m names rows) (all : List MpslpElement) where
   -- the nonzeros of a column
   cells-stated : (column : List ℕ × Column) (in_c : MpslpColumn) (end : ℕ) → IsColumnStated m names all column in_c
       → in_c.first + column_len m column.0 ≡ end → end ≤ length all → Pairs
-      (IsElementStated m sound names rows counted states_rows column.0) (column_elements m column.0) (slice_range all in_c.first end)
+      (IsElementStated m sound names rows counted states_rows column.0) (column_elements m column.0)
+      (slice_range all in_c.first end)
   cells-stated column in_c end represents is within =
       let cells = column_elements m column.0 in
       let sum : in_c.first + length cells ≡ end = is in
-      let own : Each (λ (e : CoefficientKey × Number). (is_sound_coefficient m e ≡ true) × (same_bytes column.0 e.0.column ≡ true)) cells =
+      let own : Each (λ (e : CoefficientKey × Number). (is_sound_coefficient m e ≡ true)
+      × (same_bytes column.0 e.0.column ≡ true)) cells =
       Each-filter (λ (e : CoefficientKey × Number). (is_sound_coefficient m e ≡ true) × (same_bytes column.0 e.0.column ≡ true))
       (λ e. is_element m e && same_bytes column.0 e.0.column) (maps.entries m.coefficients)
       (Each-weaker (λ (e : CoefficientKey × Number). is_sound_coefficient m e ≡ true) (λ e. (is_element m e
@@ -305,60 +328,79 @@ module _ (m : LinearModel) (sound : IsSound m) (names : List ℕ) (rows : List M
         value = both.1;
       })
     where
-      both-stated : {o : Option (Option ℕ × Number)} {p : Option MpslpElement} {entry : Option ℕ × Number} {element : MpslpElement} → o
-          ≡ Some entry → p ≡ Some element → RepresentsElement o p → (entry.0 ≡ Some element.row) × RepresentsNumber entry.1 element.value
+      both-stated : {o : Option (Option ℕ × Number)} {p : Option MpslpElement} {entry : Option ℕ × Number}
+          {element : MpslpElement} → o ≡ Some entry → p ≡ Some element → RepresentsElement o p →
+          (entry.0 ≡ Some element.row) × RepresentsNumber entry.1 element.value
       both-stated = grind arith
 
   own-items : (j : ℕ) (column : List ℕ × Column) (in_c : MpslpColumn) (end : ℕ) → IsColumnStated m names all column in_c
       → in_c.first + column_len m column.0 ≡ end → end ≤ length all
       → GiveItems (own_items names rows all j in_c end) (map cell_stated (column_elements m column.0))
-  own-items j column in_c end represents is within = let low : nat_le in_c.first end ≡ true = le-leb in_c.first end (omega (arith, is)) in
+  own-items j column in_c end represents is within = let low : nat_le in_c.first end ≡ true =
+      le-leb in_c.first end (omega (arith, is)) in
       let high : nat_le end (length all) ≡ true = le-leb end (length all) within in subst
-      (λ (b : Bool). GiveItems (if b then element_items names rows (bytes_at names in_c.name) in_c.first (slice_range all in_c.first end)
-      else record { place = AT_COLUMN; number = j; steps = fails ColumnSplit ∷ [] } ∷ []) (map cell_stated (column_elements m column.0)))
+      (λ (b : Bool). GiveItems (if b then element_items names rows (bytes_at names in_c.name) in_c.first
+      (slice_range all in_c.first end)
+      else record { place = AT_COLUMN; number = j; steps = fails ColumnSplit ∷ [] } ∷ [])
+      (map cell_stated (column_elements m column.0)))
       (sym (both_so (nat_le in_c.first end) (nat_le end (length all)) low high))
-      (elements-items m sound names rows counted states_rows column.0 (bytes_at names in_c.name) in_c.first (column_elements m column.0)
-      (slice_range all in_c.first end) represents.name.bytes (cells-stated column in_c end represents is within))
+      (elements-items m sound names rows counted states_rows column.0 (bytes_at names in_c.name) in_c.first
+      (column_elements m column.0) (slice_range all in_c.first end) represents.name.bytes
+      (cells-stated column in_c end represents is within))
 
   columns-items : (j start : ℕ) (columns : List (List ℕ × Column)) (in_c : List MpslpColumn)
-      → Each (λ column. is_sound_column column ≡ true) columns → Pairs (IsColumnStated m names all) columns in_c → Starts m start columns
+      → Each (λ column. is_sound_column column ≡ true) columns → Pairs (IsColumnStated m names all) columns in_c →
+      Starts m start columns
       in_c (length all) → GiveItems (column_items names m.objective rows all j in_c) (flat_map (column_stated m) columns)
   columns-items j start [] [] fine pairs starts = no_items
   columns-items j start (column ∷ columns) (t ∷ in_c) fine pairs starts = let next = start + column_len m column.0 in
       let ends : elements_end in_c (length all) ≡ next = ends-at m next (length all) columns in_c starts.1 in
       let within : next ≤ length all = starts-within m next (length all) columns in_c starts.1 in give_then {xs =
-      record { place = AT_COLUMN; number = j; steps = column_steps names m.objective t } ∷ own_items names rows all j t (elements_end in_c (length all))}
-      (give_item (column-steps m sound names all column t fine.0 pairs.0) (own-items j column t (elements_end in_c (length all)) pairs.0
-      (omega (arith, ends, starts.0)) (omega (arith, ends, within)))) (columns-items (suc j) next columns in_c fine.1 pairs.1 starts.1)
+      record { place = AT_COLUMN; number = j; steps = column_steps names m.objective t } ∷ own_items names rows all j t
+      (elements_end in_c (length all))} (give_item (column-steps m sound names all column t fine.0 pairs.0)
+      (own-items j column t (elements_end in_c (length all)) pairs.0 (omega (arith, ends, starts.0))
+      (omega (arith, ends, within)))) (columns-items (suc j) next columns in_c fine.1 pairs.1 starts.1)
   columns-items j start [] (t ∷ in_c) fine pairs starts = grind arith
   columns-items j start (column ∷ columns) [] fine pairs starts = grind arith
 
 -- ---- all items
 
-first-steps : (m : LinearModel) (end : ℕ) (columns : List (List ℕ × Column)) (in_c : List MpslpColumn) → Starts m 0 columns in_c end
-    → Give (first_column_steps in_c) []
+first-steps : (m : LinearModel) (end : ℕ) (columns : List (List ℕ × Column)) (in_c : List MpslpColumn) →
+    Starts m 0 columns in_c end → Give (first_column_steps in_c) []
 first-steps m end [] [] starts = record { good = refl; declared = refl }
 first-steps m end (column ∷ columns) (t ∷ in_c) starts =
-    subst (λ (n : ℕ). Give (if nat_le n 0 then [] else fails ColumnSplit ∷ []) []) (sym starts.0) (record { good = refl; declared = refl })
+    subst (λ (n : ℕ). Give (if nat_le n 0 then [] else fails ColumnSplit ∷ []) []) (sym starts.0)
+    (record { good = refl; declared = refl })
 first-steps m end [] (t ∷ in_c) starts = grind arith
 first-steps m end (column ∷ columns) [] starts = grind arith
 
-pub items-stated : (m : LinearModel) (in_c : MpslpModel) → IsSound m → RepresentsModel m in_c → GiveItems (items in_c) (stated_declarations m)
-items-stated m in_c sound represents = let names = in_c.names.now in let rows = maps.entries m.rows in
-    let columns = maps.entries m.columns in let all = in_c.elements.now in let f = column_len m in
-    let row_pairs = pairs-from (IsRowStated names) rows in_c.rows.now (represents.num_rows ∙ length-map rows (λ (e : List ℕ × Row). e.0))
+pub items-stated : (m : LinearModel) (in_c : MpslpModel) → IsSound m → RepresentsModel m in_c →
+    GiveItems (items in_c) (stated_declarations m)
+items-stated m in_c sound represents =
+    let names = in_c.names.now in
+    let rows = maps.entries m.rows in
+    let columns = maps.entries m.columns in
+    let all = in_c.elements.now in
+    let f = column_len m in
+    let row_pairs = pairs-from (IsRowStated names) rows in_c.rows.now
+    (represents.num_rows ∙ length-map rows (λ (e : List ℕ × Row). e.0))
     (λ i row t at there. row-stated m names i row t at (represents.rows i t there)) in
-    let column_pairs = pairs-from (IsColumnStated m names all) columns in_c.columns.now (represents.num_columns ∙ length-map columns
-    (λ (e : List ℕ × Column). e.0)) (λ j column t at there. column-stated m names all j column t at (represents.columns j t there)) in
-    let total : sum_by f (column_names m) ≡ length all = sym (ap (sum_by f) (take_all (num_columns m) (column_names m) (omega arith)))
-    ∙ all_counted m sound ∙ sym represents.num_elements in let starts : Starts m 0 columns in_c.columns.now (length all) = starts-from m 0
+    let column_pairs = pairs-from (IsColumnStated m names all) columns in_c.columns.now
+    (represents.num_columns ∙ length-map columns (λ (e : List ℕ × Column). e.0))
+    (λ j column t at there. column-stated m names all j column t at (represents.columns j t there)) in
+    let total : sum_by f (column_names m) ≡ length all =
+    sym (ap (sum_by f) (take_all (num_columns m) (column_names m) (omega arith)))
+    ∙ all_counted m sound ∙ sym represents.num_elements in
+    let starts : Starts m 0 columns in_c.columns.now (length all) = starts-from m 0
     (length all) columns in_c.columns.now (represents.num_columns ∙ length-map columns (λ (e : List ℕ × Column). e.0))
     (λ j t there. let first = (represents.columns j t there).head.first in omega (arith, first)) (omega (arith, total)) in
     give_item (objective-steps m in_c sound represents) (give_then (rows-items names 0 rows in_c.rows.now
-    (Each-from_list_all is_sound_row rows sound.rows) row_pairs) (give_item (first-steps m (length all) columns in_c.columns.now starts)
+    (Each-from_list_all is_sound_row rows sound.rows) row_pairs)
+    (give_item (first-steps m (length all) columns in_c.columns.now starts)
     (subst (λ (objective : List ℕ). GiveItems (column_items names objective in_c.rows.now all 0 in_c.columns.now)
-    (flat_map (column_stated m) columns)) (sym represents.objective.bytes) (columns-items m sound names in_c.rows.now represents.num_rows
-    represents.rows all 0 0 columns in_c.columns.now (Each-from_list_all is_sound_column columns sound.columns) column_pairs starts))))
+    (flat_map (column_stated m) columns)) (sym represents.objective.bytes)
+    (columns-items m sound names in_c.rows.now represents.num_rows represents.rows all 0 0 columns in_c.columns.now
+    (Each-from_list_all is_sound_column columns sound.columns) column_pairs starts))))
 
 -- ---- the arrays of a well-formed model define it: what they declare is consistent and means the model
 
@@ -381,7 +423,8 @@ owned-apart {X} owner f own (e ∷ es) h = (
   Each-weaker (IsOwnedBy owner e.0) (λ slot. Each (λ later. IsNew same_slot slot (f later)) es)
       (λ slot is. Each-weaker (λ later. same_bytes later.0 e.0 ≡ false) (λ later. IsNew same_slot slot (f later)) (λ later other.
       new-from_others slot (f later) (Each-weaker (IsOwnedBy owner later.0) (λ x. x ≡ slot → ⊥)
-      (λ x its same. some_name e.0 later.0 (sym is ∙ ap owner (sym same) ∙ its) other) (f later) (own later))) es h.0) (f e) (own e),
+      (λ x its same. some_name e.0 later.0 (sym is ∙ ap owner (sym same) ∙ its) other) (f later) (own later))) es h.0)
+      (f e) (own e),
   owned-apart owner f own es h.1,
 )
 
@@ -414,7 +457,8 @@ abbrev cell_slot : CoefficientKey × Number → Slot
 cell_slot cell = coefficient_slot cell.0
 
 abbrev column_slots : LinearModel → List ℕ × Column → List Slot
-column_slots m column = lower_slot column.0 ∷ upper_slot column.0 ∷ coefficient_slot (cost_key m column.0) ∷ map cell_slot (column_elements m column.0)
+column_slots m column = lower_slot column.0 ∷ upper_slot column.0 ∷ coefficient_slot (cost_key m column.0) ∷ map
+    cell_slot (column_elements m column.0)
 
 rows-fill : (rows : List (List ℕ × Row)) → all_slots (map row_stated rows) ≡ flat_map row_slots rows
 rows-fill [] = refl
@@ -442,15 +486,18 @@ one_place = search (rules, same_name)
 abbrev keys_of : List (CoefficientKey × Number) → List CoefficientKey
 keys_of cells = map (λ cell. cell.0) cells
 
-cells-once : (cells : List (CoefficientKey × Number)) → is_sorted key_cmp cells ≡ true → are_distinct same_slot (map cell_slot cells) ≡ true
+cells-once : (cells : List (CoefficientKey × Number)) → is_sorted key_cmp cells ≡ true →
+    are_distinct same_slot (map cell_slot cells) ≡ true
 cells-once cells sorted = as-keys cells ∙ distinct-sorted key_cmp key_total same_place one_place cells sorted
   where
-    any-key : (key : CoefficientKey) (es : List (CoefficientKey × Number)) → list_any (λ later. same_slot later (coefficient_slot key))
-        (map cell_slot es) ≡ list_any (λ later. same_place later key) (keys_of es)
+    any-key : (key : CoefficientKey) (es : List (CoefficientKey × Number)) →
+        list_any (λ later. same_slot later (coefficient_slot key)) (map cell_slot es) ≡ list_any
+        (λ later. same_place later key) (keys_of es)
     any-key key [] = refl
     any-key key (e ∷ es) = grind (arith, any-key key es)
 
-    as-keys : (es : List (CoefficientKey × Number)) → are_distinct same_slot (map cell_slot es) ≡ are_distinct same_place (keys_of es)
+    as-keys : (es : List (CoefficientKey × Number)) →
+        are_distinct same_slot (map cell_slot es) ≡ are_distinct same_place (keys_of es)
     as-keys [] = refl
     as-keys (e ∷ es) = λ i. not (any-key e.0 es i) && as-keys es i
 
@@ -469,25 +516,40 @@ module _ (m : LinearModel) (sound : IsSound m) where
 
   -- the nonzeros of a column are sound, of rows, and its own
   abbrev IsOwnCell : List ℕ → CoefficientKey × Number → Type 0
-  IsOwnCell name cell = (is_sound_coefficient m cell ≡ true) × (not (same_bytes m.objective cell.0.row) ≡ true) × (same_bytes name cell.0.column ≡ true)
+  IsOwnCell name cell = (is_sound_coefficient m cell ≡ true) × (not (same_bytes m.objective cell.0.row) ≡ true)
+      × (same_bytes name cell.0.column ≡ true)
 
   own-cells : (name : List ℕ) → Each (IsOwnCell name) (column_elements m name)
   own-cells name = Each-filter (IsOwnCell name) (λ e. is_element m e && same_bytes name e.0.column) cells
-      (Each-weaker (λ e. is_sound_coefficient m e ≡ true) (λ e. (is_element m e && same_bytes name e.0.column) ≡ true → IsOwnCell name e)
-      (λ e fine passes. (fine, first_so (is_element m e) (same_bytes name e.0.column) passes, second_so (is_element m e) (same_bytes name e.0.column) passes))
-      cells (Each-from_list_all (is_sound_coefficient m) cells sound.coefficients))
+      (Each-weaker (λ e. is_sound_coefficient m e ≡ true) (λ e. (is_element m e && same_bytes name e.0.column) ≡ true →
+      IsOwnCell name e) (λ e fine passes. (
+        fine,
+        first_so (is_element m e) (same_bytes name e.0.column) passes,
+        second_so (is_element m e)
+            (same_bytes name e.0.column) passes,
+      )) cells
+      (Each-from_list_all (is_sound_coefficient m) cells sound.coefficients))
 
   column-once : (column : List ℕ × Column) → are_distinct same_slot (column_slots m column) ≡ true
-  column-once column = let own = column_elements m column.0 in let slots = map cell_slot own in let key = cost_key m column.0 in
-      let sorted = sorted-kept key_cmp (λ e. is_element m e && same_bytes column.0 e.0.column) cells (true_from (is_sorted key_cmp cells) (maps.entries_sorted m.coefficients)) in
-      let no_lower = no-cell (lower_slot column.0) own (Each-all (λ cell. same_slot (cell_slot cell) (lower_slot column.0) ≡ false) (λ _. refl) own) in
-      let no_upper = no-cell (upper_slot column.0) own (Each-all (λ cell. same_slot (cell_slot cell) (upper_slot column.0) ≡ false) (λ _. refl) own) in
-      let no_cost = no-cell (coefficient_slot key) own (Each-weaker (IsOwnCell column.0) (λ cell. same_slot (cell_slot cell) (coefficient_slot key) ≡ false)
-      (λ cell is. ap (λ (b : Bool). b && same_bytes cell.0.column column.0) (not-same m.objective cell.0.row is.1)) own (own-cells column.0)) in
+  column-once column = let own = column_elements m column.0 in
+      let slots = map cell_slot own in
+      let key = cost_key m column.0 in
+      let sorted = sorted-kept key_cmp (λ e. is_element m e && same_bytes column.0 e.0.column) cells
+      (true_from (is_sorted key_cmp cells) (maps.entries_sorted m.coefficients)) in
+      let no_lower = no-cell (lower_slot column.0) own
+      (Each-all (λ cell. same_slot (cell_slot cell) (lower_slot column.0) ≡ false) (λ _. refl) own) in
+      let no_upper = no-cell (upper_slot column.0) own
+      (Each-all (λ cell. same_slot (cell_slot cell) (upper_slot column.0) ≡ false) (λ _. refl) own) in
+      let no_cost = no-cell (coefficient_slot key) own
+      (Each-weaker (IsOwnCell column.0) (λ cell. same_slot (cell_slot cell) (coefficient_slot key) ≡ false)
+      (λ cell is. ap (λ (b : Bool). b && same_bytes cell.0.column column.0) (not-same m.objective cell.0.row is.1)) own
+      (own-cells column.0)) in
       both_so (not (list_any (λ later. same_slot later (lower_slot column.0)) slots)) (are_distinct same_slot (upper_slot column.0
-      ∷ coefficient_slot key ∷ slots)) (so_not _ no_lower) (both_so (not (list_any (λ later. same_slot later (upper_slot column.0)) slots))
+      ∷ coefficient_slot key ∷ slots)) (so_not _ no_lower)
+      (both_so (not (list_any (λ later. same_slot later (upper_slot column.0)) slots))
       (are_distinct same_slot (coefficient_slot key ∷ slots)) (so_not _ no_upper)
-      (both_so (not (list_any (λ later. same_slot later (coefficient_slot key)) slots)) (are_distinct same_slot slots) (so_not _ no_cost) (cells-once own sorted)))
+      (both_so (not (list_any (λ later. same_slot later (coefficient_slot key)) slots))
+      (are_distinct same_slot slots) (so_not _ no_cost) (cells-once own sorted)))
 
   columns-section : Section (rank m.objective) 2 (flat_map (column_slots m) columns)
   columns-section = record {
@@ -497,7 +559,17 @@ module _ (m : LinearModel) (sound : IsSound m) where
         (other-from_sorted columns (true_from (is_sorted bytes_cmp columns) (maps.entries_sorted m.columns))));
     ranked = Each-flat_map (λ slot. rank m.objective slot ≡ 2) (column_slots m) columns
         (Each-all (λ c. Each (λ slot. rank m.objective slot ≡ 2) (column_slots m c))
-        (λ c. (refl, (refl, (refl, Each-map (λ slot. rank m.objective slot ≡ 2) cell_slot (column_elements m c.0) (Each-all (λ e. rank m.objective (cell_slot e) ≡ 2) (λ _. refl) (column_elements m c.0)))))) columns);
+        (λ c. (
+          refl,
+          (
+            refl,
+            (
+              refl,
+              Each-map (λ slot. rank m.objective slot ≡ 2) cell_slot (column_elements m c.0)
+                  (Each-all (λ e. rank m.objective (cell_slot e) ≡ 2) (λ _. refl) (column_elements m c.0)),
+            ),
+          ),
+        )) columns);
   }
     where
       owned : (c : List ℕ × Column) → Each (IsOwnedBy column_owner c.0) (column_slots m c)
@@ -509,23 +581,27 @@ module _ (m : LinearModel) (sound : IsSound m) where
             refl,
             Each-map (IsOwnedBy column_owner c.0) cell_slot (column_elements m c.0)
                 (Each-weaker (IsOwnCell c.0) (λ e. IsOwnedBy column_owner c.0 (cell_slot e))
-                (λ e is. ap (λ (n : List ℕ). Some n) (sym (same_name c.0 e.0.column is.2))) (column_elements m c.0) (own-cells c.0)),
+                (λ e is. ap (λ (n : List ℕ). Some n) (sym (same_name c.0 e.0.column is.2))) (column_elements m c.0)
+                (own-cells c.0)),
           ),
         ),
       )
 
-  other-rows : (es : List (List ℕ × Row)) → is_one_of (names_in es) m.objective ≡ false → Each (λ row. same_bytes row.0 m.objective ≡ false) es
+  other-rows : (es : List (List ℕ × Row)) → is_one_of (names_in es) m.objective ≡ false →
+      Each (λ row. same_bytes row.0 m.objective ≡ false) es
   other-rows [] h = tt
   other-rows (e ∷ es) h = let apart = nor (same_bytes m.objective e.0) (is_one_of (names_in es) m.objective) h in
       (nat_list_eq_equiv.symm e.0 m.objective ∙ apart.0, other-rows es apart.1)
 
   rows-section : Section (rank m.objective) 1 (flat_map row_slots rows)
   rows-section = record {
-    once = distinct-flat_map same_slot row_slots rows (Each-all (λ r. are_distinct same_slot (row_slots r) ≡ true) (λ _. refl) rows)
+    once = distinct-flat_map same_slot row_slots rows
+        (Each-all (λ r. are_distinct same_slot (row_slots r) ≡ true) (λ _. refl) rows)
         (owned-apart row_owner row_slots (λ _. (refl, (refl, (refl, tt)))) rows
         (other-from_sorted rows (true_from (is_sorted bytes_cmp rows) (maps.entries_sorted m.rows))));
     ranked = Each-flat_map (λ slot. rank m.objective slot ≡ 1) row_slots rows
-        (Each-weaker (λ row. same_bytes row.0 m.objective ≡ false) (λ row. Each (λ slot. rank m.objective slot ≡ 1) (row_slots row))
+        (Each-weaker (λ row. same_bytes row.0 m.objective ≡ false)
+        (λ row. Each (λ slot. rank m.objective slot ≡ 1) (row_slots row))
         (λ row other. (ap (λ (b : Bool). cond b 0 1) other, (refl, (refl, tt)))) rows
         (other-rows rows sound.objective_is_no_row));
   }
@@ -539,16 +615,19 @@ module _ (m : LinearModel) (sound : IsSound m) where
   stated-once : are_distinct same_slot (all_slots (stated_declarations m)) ≡ true
   stated-once = let front = objective_slot ∷ row_slot m.objective ∷ constant_slot ∷ sense_slot ∷ [] in ap (λ (slots : List Slot).
       are_distinct same_slot (front ++ slots)) (slots-append (map row_stated rows) (flat_map (column_stated m) columns)
-      ∙ (λ i. rows-fill rows i ++ (slots-flat (column_stated m) columns ∙ flat-same (λ c. all_slots (column_stated m c)) (column_slots m)
-      (column-fills m) columns ∙ sym (append-nil (flat_map (column_slots m) columns))) i)) ∙ joined-once (rank m.objective) 0
-      (front ∷ flat_map row_slots rows ∷ flat_map (column_slots m) columns ∷ []) (objective-section, (rows-section, (columns-section, tt)))
+      ∙ (λ i. rows-fill rows i ++ (slots-flat (column_stated m) columns ∙ flat-same (λ c. all_slots (column_stated m c))
+      (column_slots m) (column-fills m) columns ∙ sym (append-nil (flat_map (column_slots m) columns))) i))
+      ∙ joined-once (rank m.objective) 0
+      (front ∷ flat_map row_slots rows ∷ flat_map (column_slots m) columns ∷ [])
+      (objective-section, (rows-section, (columns-section, tt)))
 
   -- ---- each name that is used is declared, and nothing is declared that may not be
 
   has-row : (name : List ℕ) → has_row (drafted m) name ≡ is_one_of (m.objective ∷ maps.keys m.rows) name
   has-row name = (λ i. option_map_or (same_bytes name) (objective-drafted m i) false || has_name (rows-drafted m i) name)
       ∙ ap (λ (b : Bool). same_bytes name m.objective || b)
-      (ap is_some (at-mapped (λ (r : Row). by_limits r.lower r.upper) name rows) ∙ there (at_name rows name) ∙ sym (one_of-names name rows))
+      (ap is_some (at-mapped (λ (r : Row). by_limits r.lower r.upper) name rows) ∙ there (at_name rows name)
+      ∙ sym (one_of-names name rows))
     where
       there : (o : Option Row) → is_some (then_stated (λ (r : Row). Some (by_limits r.lower r.upper)) o) ≡ is_some o
       there = grind arith
@@ -559,21 +638,26 @@ module _ (m : LinearModel) (sound : IsSound m) where
 
   -- a property of all that is declared
   each-stated : (P : Declaration → Type 0) → Each P (objective_stated m) → Each (λ row. P (row_stated row)) rows
-      → ((c : List ℕ × Column) → IsOwn m c → is_sound_column c ≡ true → Each P (column_stated m c)) → Each P (stated_declarations m)
-  each-stated P front row column = Each-append P (objective_stated m) (map row_stated rows ++ flat_map (column_stated m) columns) front
+      → ((c : List ℕ × Column) → IsOwn m c → is_sound_column c ≡ true → Each P (column_stated m c)) →
+      Each P (stated_declarations m)
+  each-stated P front row column =
+      Each-append P (objective_stated m) (map row_stated rows ++ flat_map (column_stated m) columns) front
       (Each-append P (map row_stated rows) (flat_map (column_stated m) columns) (Each-map P row_stated rows row)
-      (Each-flat_map P (column_stated m) columns (Each-both (IsOwn m) (λ c. is_sound_column c ≡ true) (λ c. Each P (column_stated m c))
-      column columns (own-columns m) (Each-from_list_all is_sound_column columns sound.columns))))
+      (Each-flat_map P (column_stated m) columns
+      (Each-both (IsOwn m) (λ c. is_sound_column c ≡ true) (λ c. Each P (column_stated m c)) column columns
+      (own-columns m) (Each-from_list_all is_sound_column columns sound.columns))))
 
   all-known : list_all (is_known (drafted m)) (stated_declarations m) ≡ true
   all-known = list_all-from_Each (is_known (drafted m)) (stated_declarations m) (each-stated (λ d. is_known (drafted m) d ≡ true)
       (refl, (refl, (refl, tt))) (Each-all (λ row. is_known (drafted m) (row_stated row) ≡ true) (λ _. refl) rows) of-column)
     where
-      of-column : (c : List ℕ × Column) → IsOwn m c → is_sound_column c ≡ true → Each (λ d. is_known (drafted m) d ≡ true) (column_stated m c)
+      of-column : (c : List ℕ × Column) → IsOwn m c → is_sound_column c ≡ true →
+          Each (λ d. is_known (drafted m) d ≡ true) (column_stated m c)
       of-column c own fine =
           let here = has-own c own in
           let objective : has_row (drafted m) m.objective ≡ true = has-row m.objective
-          ∙ or_left (same_bytes m.objective m.objective) (is_one_of (maps.keys m.rows) m.objective) (itself_named m.objective) in (
+          ∙ or_left (same_bytes m.objective m.objective) (is_one_of (maps.keys m.rows) m.objective)
+          (itself_named m.objective) in (
             refl,
             (
               here,
@@ -581,10 +665,11 @@ module _ (m : LinearModel) (sound : IsSound m) where
                 here,
                 (
                   both_so (has_row (drafted m) m.objective) (has_column (drafted m) c.0) objective here,
-                  Each-append (λ d. is_known (drafted m) d ≡ true) (kind_stated c.0 c.1.kind) (map cell_stated (column_elements m c.0))
-                      (kinds c.1.kind)
-                      (Each-map (λ d. is_known (drafted m) d ≡ true) cell_stated (column_elements m c.0) (Each-weaker (IsOwnCell c.0)
-                      (λ e. is_known (drafted m) (cell_stated e) ≡ true) of-cell (column_elements m c.0) (own-cells c.0))),
+                  Each-append (λ d. is_known (drafted m) d ≡ true) (kind_stated c.0 c.1.kind)
+                      (map cell_stated (column_elements m c.0)) (kinds c.1.kind)
+                      (Each-map (λ d. is_known (drafted m) d ≡ true) cell_stated (column_elements m c.0)
+                      (Each-weaker (IsOwnCell c.0) (λ e. is_known (drafted m) (cell_stated e) ≡ true) of-cell
+                      (column_elements m c.0) (own-cells c.0))),
                 ),
               ),
             ),
@@ -595,8 +680,10 @@ module _ (m : LinearModel) (sound : IsSound m) where
 
           of-cell : (e : CoefficientKey × Number) → IsOwnCell c.0 e → is_known (drafted m) (cell_stated e) ≡ true
           of-cell e is = let names = is_one_of (maps.keys m.columns) e.0.column in
-              let places = is_one_of (m.objective ∷ maps.keys m.rows) e.0.row in let row : places ≡ true = second_so names places
-              (second_so (not (is_zero e.1)) (names && places) (second_so (is_decimal e.1) (not (is_zero e.1) && (names && places)) is.0)) in
+              let places = is_one_of (m.objective ∷ maps.keys m.rows) e.0.row in
+              let row : places ≡ true = second_so names places
+              (second_so (not (is_zero e.1)) (names && places)
+              (second_so (is_decimal e.1) (not (is_zero e.1) && (names && places)) is.0)) in
               both_so (has_row (drafted m) e.0.row) (has_column (drafted m) e.0.column) (has-row e.0.row ∙ row)
               (ap (has_column (drafted m)) (sym (same_name c.0 e.0.column is.2)) ∙ has-own c own)
 
@@ -609,12 +696,14 @@ module _ (m : LinearModel) (sound : IsSound m) where
   all-allowed : list_all (is_allowed (drafted m)) (stated_declarations m) ≡ true
   all-allowed = list_all-from_Each (is_allowed (drafted m)) (stated_declarations m)
       (each-stated (λ d. is_allowed (drafted m) d ≡ true) (refl, (refl, (refl, tt))) (Each-weaker (λ row. is_sound_row row ≡ true)
-      (λ row. is_allowed (drafted m) (row_stated row) ≡ true) of-row rows (Each-from_list_all is_sound_row rows sound.rows)) of-column)
+      (λ row. is_allowed (drafted m) (row_stated row) ≡ true) of-row rows
+      (Each-from_list_all is_sound_row rows sound.rows)) of-column)
     where
       of-row : (row : List ℕ × Row) → is_sound_row row ≡ true → is_allowed (drafted m) (row_stated row) ≡ true
       of-row = grind arith
 
-      of-column : (c : List ℕ × Column) → IsOwn m c → is_sound_column c ≡ true → Each (λ d. is_allowed (drafted m) d ≡ true) (column_stated m c)
+      of-column : (c : List ℕ × Column) → IsOwn m c → is_sound_column c ≡ true →
+          Each (λ d. is_allowed (drafted m) d ≡ true) (column_stated m c)
       of-column c own fine =
           let sides = column_sides c fine in (
             refl,
@@ -624,8 +713,8 @@ module _ (m : LinearModel) (sound : IsSound m) where
                 so_not (is_minus_infinite c.1.upper) (upper-allowed c.1.upper (upper_of c.1.lower c.1.upper sides)),
                 (
                   refl,
-                  Each-append (λ d. is_allowed (drafted m) d ≡ true) (kind_stated c.0 c.1.kind) (map cell_stated (column_elements m c.0))
-                      (kinds c.1.kind refl)
+                  Each-append (λ d. is_allowed (drafted m) d ≡ true) (kind_stated c.0 c.1.kind)
+                      (map cell_stated (column_elements m c.0)) (kinds c.1.kind refl)
                       (Each-map (λ d. is_allowed (drafted m) d ≡ true) cell_stated (column_elements m c.0)
                       (Each-all (λ e. is_allowed (drafted m) (cell_stated e) ≡ true) (λ _. refl) (column_elements m c.0))),
                 ),
@@ -659,5 +748,6 @@ declared-once Lp bytes m n one other = one.means.meant.model ∙ sym other.means
 
 pub stored-as-texts : AreStoredAsTheirTexts
 stored-as-texts from to bytes m arrays text declares loaded stored = let same : stored.0
-    ≡ m = one_model arrays stored.0 loaded.0 stored.1 (arrays-define loaded.0 arrays (declared-sound from bytes loaded.0 loaded.1) loaded.2)
+    ≡ m = one_model arrays stored.0 loaded.0 stored.1
+    (arrays-define loaded.0 arrays (declared-sound from bytes loaded.0 loaded.1) loaded.2)
     ∙ declared-once from bytes loaded.0 m loaded.1 declares in stored.3 ∙ ap (text_in to) same

@@ -23,7 +23,8 @@ use Rattle.mpslp_canonical_lp.proofs.{PhraseWalk.{one-general, one-semi}, TextWa
 
 printed-terminals : (n : ℕ) (lines : Lines) → AllPrintable lines → terminals_at n lines ≡ all_terminals n lines
 printed-terminals n [] h = refl
-printed-terminals n (line ∷ lines) h = λ i. (line-terminals n line h.0.each ∙ line-seen n line h.0.each) i ++ printed-terminals (n + 1) lines h.1 i
+printed-terminals n (line ∷ lines) h =
+    λ i. (line-terminals n line h.0.each ∙ line-seen n line h.0.each) i ++ printed-terminals (n + 1) lines h.1 i
 
 derive : (from to : Point) (n : ℕ) (lines : Lines) (made : Declarations)
     → AllPrintable lines → Walks from (all_terminals n lines) made to → AreDerived from n lines made to
@@ -31,7 +32,8 @@ derive = grind (arith, printed-terminals, all-faultless)
 
 one-line : (from to : Point) (n : ℕ) (line : PrintedLine) (made : Declarations)
     → Walks from (line_terminals_in n line) made to → Walks from (all_terminals n (line ∷ [])) made to
-one-line from to n line made walk = subst (λ (tokens : List TerminalAt). Walks from tokens made to) (sym (append-nil (line_terminals_in n line))) walk
+one-line from to n line made walk =
+    subst (λ (tokens : List TerminalAt). Walks from tokens made to) (sym (append-nil (line_terminals_in n line))) walk
 
 -- ---- the objective
 
@@ -40,7 +42,8 @@ legal-term term h = (good-name term.0 (first_so _ _ h), second_so _ _ h)
 
 -- before the first item, or after one
 objective-term : (started : Bool) (name : List ℕ) (term : Term)
-    → is_legal_term term ≡ true → AreDerivedAt (items_at name started) (term_line term ∷ []) (term_declared name term) (InObjective name)
+    → is_legal_term term ≡ true → AreDerivedAt (items_at name started) (term_line term ∷ []) (term_declared name term)
+    (InObjective name)
 objective-term started name term legal n seen earlier h = let good = legal-term term legal in
     let from = point_at (items_at name started) seen earlier in
     let to = point_at (InObjective name) seen (with_declarations earlier (term_declared name term)) in
@@ -67,17 +70,24 @@ objectives-derived name legal = record {
 -- ---- rows
 
 some-terms : (terms : List Term) → AreLegalTerms terms → Each IsTerm terms
-some-terms terms h = Each-weaker (λ term. is_legal_term term ≡ true) IsTerm legal-term terms (Each-from_list_all is_legal_term terms h.legal)
+some-terms terms h = Each-weaker (λ term. is_legal_term term ≡ true) IsTerm legal-term terms
+    (Each-from_list_all is_legal_term terms h.legal)
 
 are-row : (terms : List Term) → AreLegalTerms terms → IsRow terms
 are-row [] h = absurd (cc)
 are-row (term ∷ terms) h = (some-terms (term ∷ terms) h, h.new)
 
 pub rows-derived : DeriveRows
-rows-derived m row legal sides terms = subst (λ (made : Declarations). AreDerivedAt BetweenRows (row_lines m row) made BetweenRows) (grind
-    (arith, limits-back)) (λ n seen earlier h. derive _ _ n (row_lines m row) (row_by row.0 row.1.lower row.1.upper (row_terms m row.0))
-    (row-printable m row (record { name = good-name row.0 legal; limits = sides-decimal row.1.lower row.1.upper sides }) (some-terms
-    (row_terms m row.0) terms)) (row-walk seen earlier row.0 n row.1.lower row.1.upper (row_terms m row.0) (are-row (row_terms m row.0)
+rows-derived m row legal sides terms =
+    subst (λ (made : Declarations). AreDerivedAt BetweenRows (row_lines m row) made BetweenRows) (grind
+    (arith, limits-back)) (λ n seen earlier h. derive _ _ n (row_lines m row)
+    (row_by row.0 row.1.lower row.1.upper (row_terms m row.0))
+    (row-printable m row (record {
+      name = good-name row.0 legal;
+      limits =
+          sides-decimal row.1.lower row.1.upper sides;
+    }) (some-terms (row_terms m row.0) terms))
+    (row-walk seen earlier row.0 n row.1.lower row.1.upper (row_terms m row.0) (are-row (row_terms m row.0)
     terms) h))
 
 -- ---- bounds and types of columns
@@ -92,19 +102,25 @@ bounds-said column lower upper h = by lower upper (lower_of lower upper h) (uppe
         ≡ declare_column column ∷ declare_lower column (Finite a) ∷ declare_upper column (Finite b) ∷ []
     between a b p q true e = grind
         (arith, bounded_finite b q, same_decimal a b (bounded_so a p) (bounded_so b q) e, bounded_so a p, bounded_so b q)
-    between a b p q false e = λ i. declare_column column ∷ declare_lower column (bounded_finite a p i) ∷ declare_upper column (bounded_finite b q i) ∷ []
+    between a b p q false e = λ i. declare_column column ∷ declare_lower column (bounded_finite a p i) ∷ declare_upper
+        column (bounded_finite b q i) ∷ []
 
     by : (l u : Limit) → is_lower_side l ≡ true → is_upper_side u ≡ true → bound_made column l u ≡ column_and_bounds column l u
-    by MinusInf (Finite b) p q = λ i. declare_column column ∷ declare_lower column MinusInf ∷ declare_upper column (bounded_finite b q i) ∷ []
+    by MinusInf (Finite b) p q = λ i. declare_column column ∷ declare_lower column MinusInf ∷ declare_upper column
+        (bounded_finite b q i) ∷ []
     by MinusInf PlusInf p q = refl
     by (Finite a) (Finite b) p q = between a b p q (have_same_value a b) refl
-    by (Finite a) PlusInf p q = ap (λ (l : Limit). if is_zero a then [] else declare_column column ∷ declare_lower column l ∷ []) (bounded_finite a p)
+    by (Finite a) PlusInf p q = ap (λ (l : Limit). if is_zero a then [] else declare_column column ∷ declare_lower
+        column l ∷ []) (bounded_finite a p)
     by MinusInf MinusInf p q = absurd (cc)
     by (Finite a) MinusInf p q = absurd (cc)
     by PlusInf u p q = absurd (cc)
 
 pub bounds-derived : DeriveBounds
-bounds-derived column legal sides = let l = column.1.lower in let u = column.1.upper in let name = good-name column.0 legal in
+bounds-derived column legal sides =
+    let l = column.1.lower in
+    let u = column.1.upper in
+    let name = good-name column.0 legal in
     subst (λ (made : Declarations). AreDerivedAt (InBounds None) (bound_lines column) made (InBounds None))
     (bounds-said column.0 l u sides) (λ n seen earlier h. derive _ _ n (bound_lines column) (bound_made column.0 l u)
     (bound-printable column.0 l u name.word_is (sides-decimal l u sides)) (column-walk seen earlier n column.0 l u name h))

@@ -78,7 +78,8 @@ token-stops kind byte bytes rest h stops =
     let all : longest_token ((byte ∷ bytes) ++ rest) ≡ Some (front_of kind (byte ∷ bytes)) =
     ap (λ (n : ℕ). longest_within n ((byte ∷ bytes) ++ rest)) (length-append (byte ∷ bytes) rest)
     ∙ longest-stops kind byte bytes rest (length rest) (length (byte ∷ bytes) + length rest) h stops (omega arith) refl in
-    ap (λ (o : Option Front). elim o as (λ _. Front) [ Some front ↦ front | None ↦ record { kind = kinds.Unknown; size = 1 } ]) all
+    ap (λ (o : Option Front). elim o as (λ _. Front)
+    [ Some front ↦ front | None ↦ record { kind = kinds.Unknown; size = 1 } ]) all
 
 -- ---- reading further
 
@@ -146,9 +147,13 @@ word-token text h = record { is = word-kind text h; begins = word-begins text h 
 pub name-word : (name : List ℕ) → is_lp_name name ≡ true → is_word name ≡ true
 name-word [] h = cc
 name-word (b ∷ bytes) h = let no_marker = not (same_bytes (b ∷ bytes) marker) in
-    let t4 = no_marker && not (is_reserved (b ∷ bytes)) in let t3 = not (is_like_exponent (b ∷ bytes)) && t4 in
-    let t2 = not (begins_a_number (b ∷ bytes)) && t3 in let more = second_so _ _ h in let all = first_so _ _ more in
-    let number = not_so _ (first_so _ _ (second_so _ _ more)) in both_so _ _ (name-begins b (first_so _ _ all) number) (second_so _ _ all)
+    let t4 = no_marker && not (is_reserved (b ∷ bytes)) in
+    let t3 = not (is_like_exponent (b ∷ bytes)) && t4 in
+    let t2 = not (begins_a_number (b ∷ bytes)) && t3 in
+    let more = second_so _ _ h in
+    let all = first_so _ _ more in
+    let number = not_so _ (first_so _ _ (second_so _ _ more)) in
+    both_so _ _ (name-begins b (first_so _ _ all) number) (second_so _ _ all)
 
 -- ---- numbers
 
@@ -175,8 +180,10 @@ scaled-begins ds (pos n) h some = grind (arith, replicate, digits-begin, append_
 scaled-begins ds (negsuc n) h some = by (nat_lt n 18)
   where
     by : (b : Bool) → begins_a_number (if b then with_point (n + 1) ds else ds ++ codes "e-" ++ decimal (n + 1)) ≡ true
-    by true = point-begins (length (replicate (n + 1 + 1 - length ds) 48 ++ ds) - (n + 1)) (replicate (n + 1 + 1 - length ds) 48 ++ ds) _
-        (Each-append (λ b. is_digit b ≡ true) (replicate (n + 1 + 1 - length ds) 48) ds (zeros_are_digits (n + 1 + 1 - length ds)) h)
+    by true = point-begins (length (replicate (n + 1 + 1 - length ds) 48 ++ ds) - (n + 1))
+        (replicate (n + 1 + 1 - length ds) 48 ++ ds) _
+        (Each-append (λ b. is_digit b ≡ true) (replicate (n + 1 + 1 - length ds) 48) ds
+        (zeros_are_digits (n + 1 + 1 - length ds)) h)
     by false = grind (arith, append_assoc, digits-begin)
 
 mantissa-small : (d : Number) → IsDecimal d → unsigned_abs d.mantissa < 10 ^ 64
@@ -217,14 +224,18 @@ module _ (P : ℕ → Type 0) (digit : (b : ℕ) → is_digit b ≡ true → P b
   none-marked (x ∷ xs) h = let both = nor _ _ h in (both.0, none-marked xs both.1)
 
   exponent-each : (text : List ℕ)
-      → (not (list_any is_exponent_mark text) || are_digits (without_sign (exponent_part text))) ≡ true → Each P (exponent_part text)
+      → (not (list_any is_exponent_mark text) || are_digits (without_sign (exponent_part text))) ≡ true →
+      Each P (exponent_part text)
   exponent-each text h = elim (list_any is_exponent_mark text) as (λ b. list_any is_exponent_mark text ≡ b
-      → (not b || are_digits (without_sign (exponent_part text))) ≡ true → Each P (exponent_part text))
-      [ true ↦ λ _ digits. signed-each (exponent_part text) (digits-each (without_sign (exponent_part text)) digits) | false ↦ λ none _. subst (Each P) (sym (after-none is_exponent_mark text (none-marked text none))) tt ]
+      → (not b || are_digits (without_sign (exponent_part text))) ≡ true → Each P (exponent_part text)) [
+        | true ↦ λ _ digits. signed-each (exponent_part text) (digits-each (without_sign (exponent_part text)) digits)
+        | false ↦ λ none _. subst (Each P) (sym (after-none is_exponent_mark text (none-marked text none))) tt
+      ]
       refl h
 
   pub literal-each : (text : List ℕ) → is_literal text ≡ true → Each P text
-  literal-each text h = let exponent : Bool = not (list_any is_exponent_mark text) || are_digits (without_sign (exponent_part text)) in
+  literal-each text h = let exponent : Bool =
+      not (list_any is_exponent_mark text) || are_digits (without_sign (exponent_part text)) in
       let digits = digits-each (mantissa_digits text) (first_so _ _ h) in
       let parts = both-parts (before_first is_point (unsigned_part text)) (after_first is_point (unsigned_part text)) digits in
       let front = signed-each (before_first is_exponent_mark text) (around is_point point (unsigned_part text) parts.0 parts.1) in
@@ -254,9 +265,6 @@ none-found : {X : Type 0} (p : X → Bool) (table : List X) → Each (λ (entry 
 none-found p [] h = refl
 none-found p (entry ∷ table) h = rw h.0 (none-found p table h.1)
 
-and-false : (a : Bool) → (a && false) ≡ false
-and-false = grind arith
-
 -- ---- a space
 
 abbrev NotBlank : ℕ → Type 0
@@ -285,7 +293,8 @@ operator-blank (c ∷ d ∷ []) _ = refl
 operator-blank (c ∷ d ∷ e ∷ _) _ = refl
 
 pub stops-blank : (text : List ℕ) → StopsAt text 32
-stops-blank text more = no-kind (text ++ 32 ∷ more) (word-broken text more 32 refl refl) (number-blank text more) (operator-blank text more)
+stops-blank text more = no-kind (text ++ 32 ∷ more) (word-broken text more 32 refl refl) (number-blank text more)
+    (operator-blank text more)
 
 -- ---- a colon after a name
 
@@ -322,8 +331,9 @@ begins-word : (c : ℕ) → begins_word c ≡ true → (is_digit c || c == 46) �
 begins-word c h = not_so _ (begins-no_number c h)
 
 pub stops-colon : (c : ℕ) (text : List ℕ) → begins_word c ≡ true → StopsAt (c ∷ text) 58
-stops-colon c text h more = no-kind ((c ∷ text) ++ 58 ∷ more) (word-broken (c ∷ text) more 58 refl refl) (ap (λ (b : Bool). elim b as (λ _.
-    Bool) [ true ↦ is_literal ((c ∷ text) ++ 58 ∷ more) | false ↦ false ]) (begins-word c h)) (operator-colon c text more (first-apart c h))
+stops-colon c text h more = no-kind ((c ∷ text) ++ 58 ∷ more) (word-broken (c ∷ text) more 58 refl refl)
+    (ap (λ (b : Bool). elim b as (λ _. Bool) [ true ↦ is_literal ((c ∷ text) ++ 58 ∷ more) | false ↦ false ])
+    (begins-word c h)) (operator-colon c text more (first-apart c h))
 
 -- ---- a minus
 
@@ -396,12 +406,14 @@ pub negative-text : (value : Number) → is_negative value ≡ true → number_t
 negative-text = grind arith
 
 number-read : (value : Number) (rest : List ℕ) (expected : List SeenToken)
-    → IsDecimal value → Apart rest → Reads rest expected → Reads (number_text value ++ rest) (tokens_in (number value) ++ expected)
+    → IsDecimal value → Apart rest → Reads rest expected →
+    Reads (number_text value ++ rest) (tokens_in (number value) ++ expected)
 number-read value rest expected h apart more = by (is_negative value) refl
   where
     size-read : Reads (number_text (size_of value) ++ rest) ((kinds.Number, number_text (size_of value)) ∷ expected)
     size-read = reads-token kinds.Number (number_text (size_of value)) rest expected
-        (unsigned-token (size_of value) h (size-positive value.mantissa)) (stops-apart (number_text (size_of value)) rest apart) more
+        (unsigned-token (size_of value) h (size-positive value.mantissa))
+        (stops-apart (number_text (size_of value)) rest apart) more
 
     by : (b : Bool) → is_negative value ≡ b → Reads (number_text value ++ rest) ((if b then (kinds.Minus, codes "-")
         ∷ (kinds.Number, number_text (size_of value)) ∷ [] else (kinds.Number, number_text value) ∷ []) ++ expected)
@@ -409,7 +421,8 @@ number-read value rest expected h apart more = by (is_negative value) refl
         subst (λ (text : List ℕ). Reads (text ++ rest) ((kinds.Minus, codes "-") ∷ (kinds.Number, number_text (size_of value)) ∷ expected))
         (sym (negative-text value e)) (minus-read (number_text (size_of value)) rest ((kinds.Number, number_text (size_of value))
         ∷ expected) (unsigned-begins (size_of value) h (size-positive value.mantissa)) size-read)
-    by false e = reads-token kinds.Number (number_text value) rest expected (unsigned-token value h e) (stops-apart (number_text value) rest apart) more
+    by false e = reads-token kinds.Number (number_text value) rest expected (unsigned-token value h e)
+        (stops-apart (number_text value) rest apart) more
 
 sign-token : (minus : Bool) → IsToken (sign_kind minus) (sign_bytes minus)
 sign-token = grind arith
@@ -423,17 +436,21 @@ stops-semi _ = refl
 
 pub piece-read : (piece : Lexeme) (rest : List ℕ) (expected : List SeenToken)
     → IsPrintable piece → Apart rest → Reads rest expected → Reads (lexeme_text piece ++ rest) (tokens_in piece ++ expected)
-piece-read (word text) rest expected h apart more = reads-token kinds.Word text rest expected (word-token text h.is) (stops-apart text rest apart) more
+piece-read (word text) rest expected h apart more =
+    reads-token kinds.Word text rest expected (word-token text h.is) (stops-apart text rest apart) more
 piece-read (label name) rest expected h apart more = label-read name rest expected h.word_is.is apart more
 piece-read (number value) rest expected h apart more = number-read value rest expected h apart more
 piece-read (sign minus) rest expected h apart more =
-    reads-token (sign_kind minus) (sign_bytes minus) rest expected (sign-token minus) (stops-apart (sign_bytes minus) rest apart) more
+    reads-token (sign_kind minus) (sign_bytes minus) rest expected (sign-token minus)
+    (stops-apart (sign_bytes minus) rest apart) more
 piece-read (sense relation) rest expected h apart more = reads-token
-    (sense_kind relation) (sense_bytes relation) rest expected (sense-token relation) (stops-apart (sense_bytes relation) rest apart) more
+    (sense_kind relation) (sense_bytes relation) rest expected (sense-token relation)
+    (stops-apart (sense_bytes relation) rest apart) more
 piece-read minus_infinity rest expected h apart more = reads-token kinds.Minus (codes "-")
     (codes "infinity" ++ rest) ((kinds.Word, codes "infinity") ∷ expected) minus-token (stops-minus 105 refl) (reads-token kinds.Word
     (codes "infinity") rest expected (word-token (codes "infinity") refl) (stops-apart (codes "infinity") rest apart) more)
-piece-read semi_continuous rest expected h apart more = reads-token kinds.Word (codes "Semi") (codes "-Continuous" ++ rest) ((kinds.Minus, codes "-")
+piece-read semi_continuous rest expected h apart more =
+    reads-token kinds.Word (codes "Semi") (codes "-Continuous" ++ rest) ((kinds.Minus, codes "-")
     ∷ (kinds.Word, codes "Continuous") ∷ expected) (word-token (codes "Semi") refl) stops-semi (reads-token kinds.Minus (codes "-")
     (codes "Continuous" ++ rest) ((kinds.Word, codes "Continuous") ∷ expected) minus-token (stops-minus 67 refl) (reads-token kinds.Word
     (codes "Continuous") rest expected (word-token (codes "Continuous") refl) (stops-apart (codes "Continuous") rest apart) more))
@@ -449,7 +466,8 @@ after-apart [] = tt
 after-apart (piece ∷ _) = refl
 
 from-read : (piece : Lexeme) (lexemes : List Lexeme) → IsPrintable piece
-    → Each IsPrintable lexemes → Reads (lexeme_text piece ++ after_first_piece lexemes) (tokens_in piece ++ flat_map tokens_in lexemes)
+    → Each IsPrintable lexemes → Reads (lexeme_text piece ++ after_first_piece lexemes)
+    (tokens_in piece ++ flat_map tokens_in lexemes)
 from-read piece [] h k = piece-read piece [] [] h tt reads-nil
 from-read piece (next ∷ lexemes) h k = grind (arith, piece-read, after-apart, reads-blank, from-read next lexemes k.0 k.1)
 

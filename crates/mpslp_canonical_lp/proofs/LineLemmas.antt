@@ -12,7 +12,7 @@ use Prelude.{zero_number, class_of, SignOf, Plus, Minus, Terminal, word_terminal
 use Prelude.{apply_sign, ◌<◌, cond, filter, position, position_or_len, option_map, Ordering, entries, find, leb-true, lt-ltb}
 use Prelude.{have_same_value, marker, same_bytes, has_name_length, is_mps_name, is_like_exponent, is_reserved, begins_a_number, is_lp_name}
 use Prelude.{LinearModel, Row, Column, key_cmp, is_sound_row, is_sound_column, is_sound_coefficient, IsSound, Listing, listing_of}
-use Prelude.{is_bounded_decimal, is_lower_side, are_sides, Sense, Limit, MinusInf, Finite, PlusInf, not_so, nor, Each-both, Each-map}
+use Prelude.{are_sides, Sense, Limit, MinusInf, Finite, PlusInf, not_so, nor, Each-both, Each-map}
 use Prelude.{Each-filter, name_fault, word_fault, Lines, heading, under_heading, label_line, Term, term_line, sense_word, term_in}
 use Prelude.{objective_term, objective_terms, constant_lines, objective_section, left_lines, last_line, some_term, row_terms, row_lines}
 use Prelude.{rows_section, bound_lexemes, line_of_some, bound_lines, bounds_section, is_integer_column, name_line, generals_section}
@@ -47,9 +47,11 @@ letter-plain = grind (arith, nat_tests)
 digit-plain : (b : ℕ) → is_digit b ≡ true → is_plain b ≡ true
 digit-plain = grind (arith, nat_tests)
 
-symbol-plain : (symbols : List ℕ) (b : ℕ) → list_all is_plain symbols ≡ true → list_any (λ s. s == b) symbols ≡ true → is_plain b ≡ true
+symbol-plain : (symbols : List ℕ) (b : ℕ) → list_all is_plain symbols ≡ true → list_any (λ s. s == b) symbols ≡ true →
+    is_plain b ≡ true
 symbol-plain [] b all any = cc
-symbol-plain (s ∷ symbols) b all any = grind (arith, eqb-true, symbol-plain symbols b (second_so (is_plain s) (list_all is_plain symbols) all))
+symbol-plain (s ∷ symbols) b all any =
+    grind (arith, eqb-true, symbol-plain symbols b (second_so (is_plain s) (list_all is_plain symbols) all))
 
 lp-plain : (b : ℕ) → is_lp_byte b ≡ true → is_plain b ≡ true
 lp-plain = search (rules, letter-plain, digit-plain, symbol-plain)
@@ -60,7 +62,8 @@ module _ (P : ℕ → Type 0) (plain : (b : ℕ) → is_plain b ≡ true → P b
   each-word [] h = tt
   each-word (b ∷ bytes) h = (
     plain b (lp-plain b (begins-lp b (first_so _ _ h))),
-    Each-weaker (λ c. is_lp_byte c ≡ true) P (λ c k. plain c (lp-plain c k)) bytes (Each-from_list_all is_lp_byte bytes (second_so _ _ h)),
+    Each-weaker (λ c. is_lp_byte c ≡ true) P (λ c k. plain c (lp-plain c k)) bytes
+        (Each-from_list_all is_lp_byte bytes (second_so _ _ h)),
   )
 
   each-code : (text : List ℕ) → list_all is_plain text ≡ true → Each P text
@@ -68,7 +71,8 @@ module _ (P : ℕ → Type 0) (plain : (b : ℕ) → is_plain b ≡ true → P b
 
   each-number : (value : Number) → IsDecimal value → Each P (number_text value)
   each-number value h = literal-each P (λ b k. plain b (grind (arith, nat_tests))) (λ b k. plain b (grind (arith, nat_tests)))
-      (λ b k. plain b (grind (arith, nat_tests))) (λ b k. plain b (grind (arith, nat_tests))) (number_text value) (text-literal value h)
+      (λ b k. plain b (grind (arith, nat_tests))) (λ b k. plain b (grind (arith, nat_tests))) (number_text value)
+      (text-literal value h)
 
   each-piece : (piece : Lexeme) → IsPrintable piece → Each P (lexeme_text piece)
   each-piece (word text) h = each-word text h.is
@@ -84,11 +88,13 @@ module _ (P : ℕ → Type 0) (plain : (b : ℕ) → is_plain b ≡ true → P b
 
   each-after : (lexemes : List Lexeme) → Each IsPrintable lexemes → Each P (after_first_piece lexemes)
   each-after [] h = tt
-  each-after (piece ∷ lexemes) h = (blank, Each-append P (lexeme_text piece) (after_first_piece lexemes) (each-piece piece h.0) (each-after lexemes h.1))
+  each-after (piece ∷ lexemes) h =
+      (blank, Each-append P (lexeme_text piece) (after_first_piece lexemes) (each-piece piece h.0) (each-after lexemes h.1))
 
   each-joined : (lexemes : List Lexeme) → Each IsPrintable lexemes → Each P (join_by lexeme_text (codes " ") lexemes)
   each-joined [] h = tt
-  each-joined (piece ∷ lexemes) h = Each-append P (lexeme_text piece) (after_first_piece lexemes) (each-piece piece h.0) (each-after lexemes h.1)
+  each-joined (piece ∷ lexemes) h = Each-append P (lexeme_text piece) (after_first_piece lexemes) (each-piece piece h.0)
+      (each-after lexemes h.1)
 
   each-blank : (n : ℕ) → Each P (replicate n 32)
   each-blank zero = tt
@@ -174,7 +180,8 @@ piece-faultless semi_continuous h = (refl, (refl, (refl, tt)))
 
 lexemes-faultless : (lexemes : List Lexeme) → Each IsPrintable lexemes
     → Each (λ piece. Each (λ token. seen_fault token ≡ None) (tokens_in piece)) lexemes
-lexemes-faultless lexemes h = Each-weaker IsPrintable (λ piece. Each (λ token. seen_fault token ≡ None) (tokens_in piece)) piece-faultless lexemes h
+lexemes-faultless lexemes h = Each-weaker IsPrintable
+    (λ piece. Each (λ token. seen_fault token ≡ None) (tokens_in piece)) piece-faultless lexemes h
 
 -- a printed line has no error of its own
 pub line-faultless : (line : PrintedLine) → IsPrintableLine line → lexical_fault (line_text line) ≡ None
@@ -182,8 +189,9 @@ line-faultless line h =
     let none : filter_map (λ (token : Token). token_fault token.kind token.text) (tokens (line_text line)) ≡ [] =
     faults-seen (tokens (line_text line)) ∙ ap (filter_map seen_fault) (line-read line h.each) ∙ none-faulty (line_tokens line)
     (Each-flat_map (λ token. seen_fault token ≡ None) tokens_in line.lexemes (lexemes-faultless line.lexemes h.each)) in λ i.
-    elim (first_held ((not (length-legal line h i), faults.LineTooLong) ∷ (not (bytes-legal line h.each i), faults.BadByte) ∷ [])) as (λ _.
-    Option FaultKind) [ Some kind ↦ Some kind | None ↦ least_kind (none i) ]
+    elim (first_held ((not (length-legal line h i), faults.LineTooLong) ∷
+    (not (bytes-legal line h.each i), faults.BadByte) ∷ [])) as (λ _. Option FaultKind)
+    [ Some kind ↦ Some kind | None ↦ least_kind (none i) ]
 
 -- ---- terminals
 
@@ -191,7 +199,8 @@ abbrev pub seen_at : ℕ → SeenToken → TerminalAt
 seen_at n token = record { line = n; terminal = terminal_of token.0 token.1 }
 
 terminals-seen : (n : ℕ) (found : List Token)
-    → map (λ (token : Token). record { line = n; terminal = terminal_of token.kind token.text }) found ≡ map (seen_at n) (seen found)
+    → map (λ (token : Token). record { line = n; terminal = terminal_of token.kind token.text }) found ≡ map (seen_at n)
+    (seen found)
 terminals-seen n [] = refl
 terminals-seen n (token ∷ found) = grind (arith, terminals-seen n found)
 
@@ -214,7 +223,8 @@ all-plain (l ∷ ls) h = (each-line_text IsPlain plain-whole (refl, refl) l h.0.
 pub lines-text : (ls : List PrintedLine) → Each IsPrintableLine ls → lines (text_of ls) ≡ map line_text ls
 lines-text ls h = lines-with_line_feeds (map line_text ls) (all-plain ls h)
 
-pub all-faultless : (ls : List PrintedLine) → Each IsPrintableLine ls → list_all (λ line. is_none (lexical_fault line)) (map line_text ls) ≡ true
+pub all-faultless : (ls : List PrintedLine) → Each IsPrintableLine ls →
+    list_all (λ line. is_none (lexical_fault line)) (map line_text ls) ≡ true
 all-faultless [] h = refl
 all-faultless (l ∷ ls) h = grind (arith, both_so, line-faultless, all-faultless ls h.1)
 
@@ -229,7 +239,8 @@ abbrev pub terminals_from : ℕ → List PrintedLine → List TerminalAt
 terminals_from n [] = []
 terminals_from n (l ∷ ls) = map (seen_at n) (line_tokens l) ++ terminals_from (n + 1) ls
 
-pub sound-terminals : (n : ℕ) (ls : List PrintedLine) → Each IsPrintableLine ls → sound_terminals (enumerate_from n (map line_text ls)) ≡ terminals_from n ls
+pub sound-terminals : (n : ℕ) (ls : List PrintedLine) → Each IsPrintableLine ls →
+    sound_terminals (enumerate_from n (map line_text ls)) ≡ terminals_from n ls
 sound-terminals n [] h = refl
 sound-terminals n (l ∷ ls) h = grind (arith, line-faultless, line-terminals, sound-terminals (n + 1) ls h.1)
 
@@ -247,7 +258,8 @@ sign_of false = Plus
 abbrev pub terminals_in : Lexeme → List Terminal
 terminals_in (word text) = word_terminal text (class_of text) ∷ []
 terminals_in (label name) = Name name ∷ Colon ∷ []
-terminals_in (number value) = if is_negative value then Sign Minus ∷ Number_terminal (size_of value) ∷ [] else Number_terminal value ∷ []
+terminals_in (number value) = if is_negative value then Sign Minus ∷ Number_terminal (size_of value) ∷ []
+    else Number_terminal value ∷ []
 terminals_in (sign minus) = Sign (sign_of minus) ∷ []
 terminals_in (sense relation) = Compares relation ∷ []
 terminals_in minus_infinity = Sign Minus ∷ Infinity ∷ []
@@ -280,7 +292,8 @@ lexemes-seen : (n : ℕ) (lexemes : List Lexeme)
 lexemes-seen n [] h = refl
 lexemes-seen n (piece ∷ lexemes) h = grind (arith, mapped-append, seen_at, piece-seen, lexemes-seen n lexemes h.1)
 
-pub line-seen : (n : ℕ) (line : PrintedLine) → Each IsPrintable line.lexemes → map (seen_at n) (line_tokens line) ≡ line_terminals_in n line
+pub line-seen : (n : ℕ) (line : PrintedLine) → Each IsPrintable line.lexemes →
+    map (seen_at n) (line_tokens line) ≡ line_terminals_in n line
 line-seen n line h = lexemes-seen n line.lexemes h
 
 -- the terminals of printed lines, with line numbers from here on
@@ -315,13 +328,19 @@ record IsName (name : List ℕ) : Type 0 where
   free : is_reserved name ≡ false
 
 name-parts : (name : List ℕ) → is_lp_name name ≡ true → IsName name
-name-parts name h = let no_marker = not (same_bytes name marker) in let t4 = no_marker && not (is_reserved name) in
-    let t3 = not (is_like_exponent name) && t4 in let t2 = not (begins_a_number name) && t3 in let t1 = list_all is_lp_byte name && t2 in
-    let h3 = second_so (not (begins_a_number name)) t3 (second_so (list_all is_lp_byte name) t2 (second_so (has_name_length name) t1 h)) in
+name-parts name h =
+    let no_marker = not (same_bytes name marker) in
+    let t4 = no_marker && not (is_reserved name) in
+    let t3 = not (is_like_exponent name) && t4 in
+    let t2 = not (begins_a_number name) && t3 in
+    let t1 = list_all is_lp_byte name && t2 in
+    let h3 = second_so (not (begins_a_number name)) t3
+    (second_so (list_all is_lp_byte name) t2 (second_so (has_name_length name) t1 h)) in
     record {
       sized = first_so (has_name_length name) t1 h;
       plain = not_so (is_like_exponent name) (first_so (not (is_like_exponent name)) t4 h3);
-      free = not_so (is_reserved name) (second_so no_marker (not (is_reserved name)) (second_so (not (is_like_exponent name)) t4 h3));
+      free = not_so (is_reserved name)
+          (second_so no_marker (not (is_reserved name)) (second_so (not (is_like_exponent name)) t4 h3));
     }
 
 good-word : (name : List ℕ) → is_lp_name name ≡ true → IsGoodWord name
@@ -340,13 +359,15 @@ abbrev pub AllPrintable : Lines → Type 0
 AllPrintable lines = Each IsPrintableLine lines
 
 pub a-line : (indent : ℕ) (lexemes : List Lexeme) → nat_le indent 2 ≡ true
-    → nat_le (length lexemes) 5 ≡ true → Each IsPrintable lexemes → IsPrintableLine (record { indent = indent; lexemes = lexemes })
+    → nat_le (length lexemes) 5 ≡ true → Each IsPrintable lexemes →
+    IsPrintableLine (record { indent = indent; lexemes = lexemes })
 a-line indent lexemes near few each = record { near = leb-true indent 2 near; few = leb-true (length lexemes) 5 few; each = each }
 
 pub heading-printable : (w : List ℕ) → IsGoodWord w → IsPrintableLine (heading (w ∷ []))
 heading-printable w h = a-line 0 (word w ∷ []) refl refl (h, tt)
 
-under-printable : (section : List ℕ) (lines : Lines) → IsGoodWord section → AllPrintable lines → AllPrintable (under_heading section lines)
+under-printable : (section : List ℕ) (lines : Lines) → IsGoodWord section → AllPrintable lines →
+    AllPrintable (under_heading section lines)
 under-printable = grind arith
 
 pub label-printable : (name : List ℕ) → IsGoodName name → IsPrintableLine (label_line name)
@@ -356,10 +377,12 @@ abbrev pub IsTerm : Term → Type 0
 IsTerm term = IsGoodName term.0 × IsDecimal term.1
 
 pub term-printable : (term : Term) → IsTerm term → IsPrintableLine (term_line term)
-term-printable term h = a-line 2 (sign (is_negative term.1) ∷ number (size_of term.1) ∷ word term.0 ∷ []) refl refl (tt, (h.1, (h.0.word_is, tt)))
+term-printable term h = a-line 2 (sign (is_negative term.1) ∷ number (size_of term.1) ∷ word term.0 ∷ []) refl refl
+    (tt, (h.1, (h.0.word_is, tt)))
 
 terms-printable : (terms : List Term) → Each IsTerm terms → AllPrintable (map term_line terms)
-terms-printable terms h = Each-map IsPrintableLine term_line terms (Each-weaker IsTerm (λ term. IsPrintableLine (term_line term)) term-printable terms h)
+terms-printable terms h = Each-map IsPrintableLine term_line terms
+    (Each-weaker IsTerm (λ term. IsPrintableLine (term_line term)) term-printable terms h)
 
 pub constant-printable : (value : Number) → IsDecimal value → AllPrintable (constant_lines value)
 constant-printable = grind arith
@@ -370,12 +393,6 @@ abbrev pub IsDecimalLimit : Limit → Type 0
 IsDecimalLimit MinusInf = Unit {0}
 IsDecimalLimit (Finite a) = IsDecimal a
 IsDecimalLimit PlusInf = Unit {0}
-
-bounded-decimal : (d : Number) → is_bounded_decimal d ≡ true → IsDecimal d
-bounded-decimal d h = first_so _ _ h
-
-lower-decimal : (lower : Limit) → is_lower_side lower ≡ true → IsDecimalLimit lower
-lower-decimal = grind arith
 
 -- two limits
 abbrev pub IsLimits : Limit → Limit → Type 0
@@ -397,8 +414,16 @@ pub bound-printable : (column : List ℕ) (lower upper : Limit)
     → IsGoodWord column → IsLimits lower upper → AllPrintable (line_of_some (bound_lexemes column lower upper))
 bound-printable column MinusInf (Finite b) w h = grind (arith, a-line)
 bound-printable column (Finite a) (Finite b) w h = elim (have_same_value a b) as (λ t. AllPrintable (line_of_some
-    (cond t (word column ∷ sense EqualTo ∷ number b ∷ []) (number a ∷ sense AtMost ∷ word column ∷ sense AtMost ∷ number b ∷ []))))
-    [ true ↦ (a-line 1 (word column ∷ sense EqualTo ∷ number b ∷ []) refl refl (w, (tt, (h.1, tt))), tt) | false ↦ (a-line 1 (number a ∷ sense AtMost ∷ word column ∷ sense AtMost ∷ number b ∷ []) refl refl (h.0, (tt, (w, (tt, (h.1, tt))))), tt) ]
+    (cond t (word column ∷ sense EqualTo ∷ number b ∷ [])
+    (number a ∷ sense AtMost ∷ word column ∷ sense AtMost ∷ number b ∷ [])))) [
+      | true ↦ (a-line 1 (word column ∷ sense EqualTo ∷ number b ∷ []) refl refl (w, (tt, (h.1, tt))), tt)
+      | false
+          ↦ (
+            a-line 1 (number a ∷ sense AtMost ∷ word column ∷ sense AtMost ∷ number b ∷ []) refl refl
+                (h.0, (tt, (w, (tt, (h.1, tt))))),
+            tt,
+          )
+    ]
 bound-printable column (Finite a) MinusInf w h = grind (arith, a-line)
 bound-printable column (Finite a) PlusInf w h = grind (arith, a-line)
 bound-printable column _ _ w h = (a-line 1 (word column ∷ word (codes "free") ∷ []) refl refl (w, (free-word, tt)), tt)
@@ -409,11 +434,13 @@ abbrev pub Holds : {X : Type 0} → (X → Type 0) → Option X → Type 0
 Holds P None = Unit {0}
 Holds P (Some x) = P x
 
-each-found : {K X : Type 0} (R : K → K → Ordering) (P : X → Type 0) (k : K) (es : List (K × X)) → Each (λ e. P e.1) es → Holds P (find R k es)
+each-found : {K X : Type 0} (R : K → K → Ordering) (P : X → Type 0) (k : K) (es : List (K × X)) → Each (λ e. P e.1) es →
+    Holds P (find R k es)
 each-found R P k [] h = tt
 each-found {K} {X} R P k (e ∷ es) h = grind (arith, each-found R P k es h.1)
 
-pub each-filter_map : {X Y : Type 0} (P : Y → Type 0) (f : X → Option Y) (xs : List X) → Each (λ x. Holds P (f x)) xs → Each P (filter_map f xs)
+pub each-filter_map : {X Y : Type 0} (P : Y → Type 0) (f : X → Option Y) (xs : List X) → Each (λ x. Holds P (f x)) xs →
+    Each P (filter_map f xs)
 each-filter_map P f [] h = tt
 each-filter_map {X} {Y} P f (x ∷ xs) h = grind (arith, each-filter_map P f xs h.1)
 
@@ -437,7 +464,8 @@ pub record IsFit (m : Listing) : Type 0 where
 zero-decimal : IsDecimal zero_number
 zero-decimal = refl
 
-term-fits : (m : Listing) → IsFit m → (row : List ℕ) (column : List ℕ × Column) → IsFitColumn column → Holds IsTerm (term_in m row column)
+term-fits : (m : Listing) → IsFit m → (row : List ℕ) (column : List ℕ × Column) → IsFitColumn column →
+    Holds IsTerm (term_in m row column)
 term-fits m h row column c = by (find key_cmp (record { row = row; column = column.0 }) m.coefficients)
     (each-found key_cmp IsDecimal (record { row = row; column = column.0 }) m.coefficients h.coefficients)
   where
@@ -447,16 +475,19 @@ term-fits m h row column c = by (find key_cmp (record { row = row; column = colu
 
 pub terms-fit : (m : Listing) → IsFit m → (row : List ℕ) → Each IsTerm (filter_map (term_in m row) m.columns)
 terms-fit m h row = each-filter_map IsTerm (term_in m row) m.columns
-    (Each-weaker IsFitColumn (λ column. Holds IsTerm (term_in m row column)) (λ column c. term-fits m h row column c) m.columns h.columns)
+    (Each-weaker IsFitColumn (λ column. Holds IsTerm (term_in m row column)) (λ column c. term-fits m h row column c)
+    m.columns h.columns)
 
-objective-term-fits : (m : Listing) → IsFit m → (column : List ℕ × Column) → IsFitColumn column → Holds IsTerm (objective_term m column)
+objective-term-fits : (m : Listing) → IsFit m → (column : List ℕ × Column) → IsFitColumn column →
+    Holds IsTerm (objective_term m column)
 objective-term-fits m h column c = search (rules, term-fits, zero-decimal)
 
 pub objective-fits : (m : Listing) → IsFit m → Each IsTerm (objective_terms m)
 objective-fits m h = each-filter_map IsTerm (objective_term m) m.columns (Each-weaker IsFitColumn
     (λ column. Holds IsTerm (objective_term m column)) (λ column c. objective-term-fits m h column c) m.columns h.columns)
 
-pub some-fits : (columns : List (List ℕ × Column)) (terms : List Term) → Each IsFitColumn columns → Each IsTerm terms → Each IsTerm (some_term columns terms)
+pub some-fits : (columns : List (List ℕ × Column)) (terms : List Term) → Each IsFitColumn columns → Each IsTerm terms →
+    Each IsTerm (some_term columns terms)
 some-fits = grind arith
 
 -- ---- all lines
@@ -468,9 +499,19 @@ pub sense-good : (s : Sense) → IsGoodWord (sense_word s)
 sense-good = grind arith
 
 objective-printable : (m : Listing) → IsFit m → AllPrintable (objective_section m)
-objective-printable = grind (arith, heading-printable, sense-good, label-printable, in-turn, terms-printable, objective-fits, constant-printable)
+objective-printable = grind (
+  arith,
+  heading-printable,
+  sense-good,
+  label-printable,
+  in-turn,
+  terms-printable,
+  objective-fits,
+  constant-printable,
+)
 
-pub row-printable : (m : Listing) (row : List ℕ × Row) → IsFitRow row → Each IsTerm (row_terms m row.0) → AllPrintable (row_lines m row)
+pub row-printable : (m : Listing) (row : List ℕ × Row) → IsFitRow row → Each IsTerm (row_terms m row.0) →
+    AllPrintable (row_lines m row)
 row-printable = grind (arith, label-printable, in-turn, left-printable, terms-printable, last-printable)
 
 pub subject-printable : IsPrintableLine (heading (codes "Subject" ∷ codes "To" ∷ []))
@@ -480,7 +521,8 @@ rows-printable : (m : Listing) → IsFit m → AllPrintable (rows_section m)
 rows-printable m h = (
   subject-printable,
   Each-flat_map IsPrintableLine (row_lines m) m.rows (Each-weaker IsFitRow (λ row. AllPrintable (row_lines m row)) (λ row r.
-      row-printable m row r (some-fits m.columns (filter_map (term_in m row.0) m.columns) h.columns (terms-fit m h row.0))) m.rows h.rows),
+      row-printable m row r (some-fits m.columns (filter_map (term_in m row.0) m.columns) h.columns
+      (terms-fit m h row.0))) m.rows h.rows),
 )
 
 bounds-printable : (m : Listing) → IsFit m → AllPrintable (bounds_section m)
@@ -491,15 +533,18 @@ bounds-printable m h = under-printable (codes "Bounds") (flat_map bound_lines m.
 generals-printable : (m : Listing) → IsFit m → AllPrintable (generals_section m)
 generals-printable m h = under-printable (codes "Generals") (map name_line (filter is_integer_column m.columns)) (code-word
     (codes "Generals") refl refl refl) (Each-map IsPrintableLine name_line (filter is_integer_column m.columns) (Each-filter (λ column.
-    IsPrintableLine (name_line column)) is_integer_column m.columns (Each-weaker IsFitColumn (λ column. is_integer_column column ≡ true →
-    IsPrintableLine (name_line column)) (λ column c _. a-line 1 (word column.0 ∷ []) refl refl (c.name.word_is, tt)) m.columns h.columns)))
+    IsPrintableLine (name_line column)) is_integer_column m.columns
+    (Each-weaker IsFitColumn (λ column. is_integer_column column ≡ true →
+    IsPrintableLine (name_line column))
+    (λ column c _. a-line 1 (word column.0 ∷ []) refl refl (c.name.word_is, tt)) m.columns h.columns)))
 
 semis-printable : (m : Listing) → IsFit m → AllPrintable (semis_section m)
 semis-printable m h = under (map name_line (filter is_semi_column m.columns)) names
   where
     names : AllPrintable (map name_line (filter is_semi_column m.columns))
-    names = Each-map IsPrintableLine name_line (filter is_semi_column m.columns) (Each-filter (λ column. IsPrintableLine (name_line column))
-        is_semi_column m.columns (Each-weaker IsFitColumn (λ column. is_semi_column column ≡ true → IsPrintableLine (name_line column))
+    names = Each-map IsPrintableLine name_line (filter is_semi_column m.columns)
+        (Each-filter (λ column. IsPrintableLine (name_line column)) is_semi_column m.columns
+        (Each-weaker IsFitColumn (λ column. is_semi_column column ≡ true → IsPrintableLine (name_line column))
         (λ column c _. a-line 1 (word column.0 ∷ []) refl refl (c.name.word_is, tt)) m.columns h.columns))
 
     under : (lines : Lines) → AllPrintable lines → AllPrintable (under_semi_heading lines)
@@ -508,10 +553,13 @@ semis-printable m h = under (map name_line (filter is_semi_column m.columns)) na
 
 listed-printable : (m : Listing) → IsFit m → AllPrintable (listed_lines m)
 listed-printable m h = let ending : Lines = heading (codes "End" ∷ []) ∷ [] in
-    let semis_on = semis_section m ++ ending in let generals_on = generals_section m ++ semis_on in
-    let bounds_on = bounds_section m ++ generals_on in let rows_on = rows_section m ++ bounds_on in
+    let semis_on = semis_section m ++ ending in
+    let generals_on = generals_section m ++ semis_on in
+    let bounds_on = bounds_section m ++ generals_on in
+    let rows_on = rows_section m ++ bounds_on in
     in-turn (objective_section m) rows_on (objective-printable m h) (in-turn (rows_section m) bounds_on (rows-printable m h)
-    (in-turn (bounds_section m) generals_on (bounds-printable m h) (in-turn (generals_section m) semis_on (generals-printable m h) (in-turn
+    (in-turn (bounds_section m) generals_on (bounds-printable m h)
+    (in-turn (generals_section m) semis_on (generals-printable m h) (in-turn
     (semis_section m) ending (semis-printable m h) (heading-printable (codes "End") (code-word (codes "End") refl refl refl), tt)))))
 
 -- ---- a well-formed model whose names are LP names
@@ -547,8 +595,9 @@ record HasLpNames (m : Listing) : Type 0 where
 is-lp : (b : Bool) → not b ≡ false → b ≡ true
 is-lp = grind arith
 
-each-named : {X : Type 0} (named : List (List ℕ × X)) → Each (λ name. is_lp_name name ≡ true) (map (λ (entry : List ℕ × X). entry.0) named)
-    → Each (λ (entry : List ℕ × X). is_lp_name entry.0 ≡ true) named
+each-named : {X : Type 0} (named : List (List ℕ × X)) →
+    Each (λ name. is_lp_name name ≡ true) (map (λ (entry : List ℕ × X). entry.0) named) →
+    Each (λ (entry : List ℕ × X). is_lp_name entry.0 ≡ true) named
 each-named [] h = tt
 each-named (entry ∷ named) h = (h.0, each-named named h.1)
 
@@ -556,19 +605,26 @@ lp-names : (m : Listing) → unfit_in m ≡ None → HasLpNames m
 lp-names m h = by (is_no_lp_name m.objective) (first_unfit (map (λ (row : List ℕ × Row). row.0) m.rows))
     (first_unfit (map (λ (column : List ℕ × Column). column.0) m.columns)) refl refl refl h
   where
-    by : (b : Bool) (row column : Option ℕ) → is_no_lp_name m.objective ≡ b → first_unfit (map (λ (row : List ℕ × Row). row.0) m.rows) ≡ row
-        → first_unfit (map (λ (column : List ℕ × Column). column.0) m.columns) ≡ column
-        → (if b then Some places.Objective else or_else (option_map places.Row row) (option_map places.Column column)) ≡ None → HasLpNames m
+    by : (b : Bool) (row column : Option ℕ) → is_no_lp_name m.objective ≡ b →
+        first_unfit (map (λ (row : List ℕ × Row). row.0) m.rows) ≡ row →
+        first_unfit (map (λ (column : List ℕ × Column). column.0) m.columns) ≡ column →
+        (if b then Some places.Objective else or_else (option_map places.Row row)
+        (option_map places.Column column)) ≡ None → HasLpNames m
     by true row column e f g k = cc
     by false (Some i) column e f g k = cc
     by false None (Some j) e f g k = cc
     by false None None e f g k = grind (arith, is-lp, each-named, fit-names)
 
 row-fits : (row : List ℕ × Row) → is_lp_name row.0 ≡ true → is_sound_row row ≡ true → IsFitRow row
-row-fits row name h = record { name = good-name row.0 name; limits = sides-decimal row.1.lower row.1.upper (first_so _ _ (second_so _ _ h)) }
+row-fits row name h = record {
+  name = good-name row.0 name;
+  limits =
+      sides-decimal row.1.lower row.1.upper (first_so _ _ (second_so _ _ h));
+}
 
 column-fits : (column : List ℕ × Column) → is_lp_name column.0 ≡ true → is_sound_column column ≡ true → IsFitColumn column
-column-fits column name h = record { name = good-name column.0 name; limits = sides-decimal column.1.lower column.1.upper (first_so _ _ (second_so _ _ h)) }
+column-fits column name h = record
+    { name = good-name column.0 name; limits = sides-decimal column.1.lower column.1.upper (first_so _ _ (second_so _ _ h)) }
 
 pub fit-from_sound : (m : LinearModel) → IsSound m → unfit m ≡ None → IsFit (listing_of m)
 fit-from_sound m sound fits = let names = lp-names (listing_of m) fits in record {
@@ -578,8 +634,9 @@ fit-from_sound m sound fits = let names = lp-names (listing_of m) fits in record
       (entries m.rows) names.rows (Each-from_list_all is_sound_row (entries m.rows) sound.rows);
   columns = Each-both (λ column. is_lp_name column.0 ≡ true) (λ column. is_sound_column column ≡ true) IsFitColumn column-fits
       (entries m.columns) names.columns (Each-from_list_all is_sound_column (entries m.columns) sound.columns);
-  coefficients = Each-weaker (λ entry. is_sound_coefficient m entry ≡ true) (λ entry. IsDecimal entry.1) (λ entry k. first_so _ _ k)
-      (entries m.coefficients) (Each-from_list_all (is_sound_coefficient m) (entries m.coefficients) sound.coefficients);
+  coefficients = Each-weaker (λ entry. is_sound_coefficient m entry ≡ true) (λ entry. IsDecimal entry.1)
+      (λ entry k. first_so _ _ k) (entries m.coefficients)
+      (Each-from_list_all (is_sound_coefficient m) (entries m.coefficients) sound.coefficients);
 }
 
 -- each canonical line of a well-formed model with LP names can be printed

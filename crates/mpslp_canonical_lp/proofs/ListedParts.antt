@@ -22,7 +22,8 @@ use Rattle.mpslp_canonical_lp.proofs.TextWalk.{row_left, row_relation, row_right
 -- ---- what is declared of a row and of a column
 
 abbrev pub limits_stated : Limit → Limit → Limits
-limits_stated lower upper = row_limits (left_of (row_left lower upper)) (row_relation lower upper) (limit_of (row_right lower upper))
+limits_stated lower upper = row_limits (left_of (row_left lower upper)) (row_relation lower upper)
+    (limit_of (row_right lower upper))
 
 abbrev pub form_of : Limits → RowDefinition
 form_of limits = by_limits (unwrap_or limits.lower MinusInf) (unwrap_or limits.upper PlusInf)
@@ -67,8 +68,10 @@ pub record PartsOf {Y : Type 0} (part : Declaration → List Y)
   pub of_general : (column : List ℕ × Column) → flat_map part (general_made column) ≡ general column
   pub of_semi : (column : List ℕ × Column) → flat_map part (semi_made column) ≡ semi column
 
-module _ {Y : Type 0} (part : Declaration → List Y) (row : List ℕ × Row → List Y) (term : List ℕ → Term → List Y) (bound general semi : List ℕ × Column → List Y) where
-  follow : (xs ys : Declarations) (us vs : List Y) → flat_map part xs ≡ us → flat_map part ys ≡ vs → flat_map part (xs ++ ys) ≡ us ++ vs
+module _ {Y : Type 0} (part : Declaration → List Y) (row : List ℕ × Row → List Y) (term : List ℕ → Term →
+    List Y) (bound general semi : List ℕ × Column → List Y) where
+  follow : (xs ys : Declarations) (us vs : List Y) → flat_map part xs ≡ us → flat_map part ys ≡ vs →
+      flat_map part (xs ++ ys) ≡ us ++ vs
   follow xs ys _ _ h k = flat_map-append part xs ys ∙ (λ i. h i ++ k i)
 
   section : {X : Type 0} (made : X → Declarations) (own : X → List Y)
@@ -85,22 +88,29 @@ module _ {Y : Type 0} (part : Declaration → List Y) (row : List ℕ × Row →
 
   objective-parts : (h : PartsOf part row term bound general semi) (m : Listing)
       → flat_map part (objective_made m) ≡ flat_map (term m.objective) (objective_terms m)
-  objective-parts h m = follow (objective_declared m.sense m.objective) (terms_declared m.objective (objective_terms m) ++ constant_declared
-      m.constant) [] (flat_map (term m.objective) (objective_terms m) ++ []) (λ i. h.of_sense m.sense i ++ (h.of_objective m.objective i ++
-      [])) (follow (terms_declared m.objective (objective_terms m)) (constant_declared m.constant) _ _ (section (term_declared m.objective)
-      (term m.objective) (h.of_term m.objective) (objective_terms m)) (grind arith)) ∙ append-nil (flat_map (term m.objective)
-      (objective_terms m))
+  objective-parts h m = follow (objective_declared m.sense m.objective)
+      (terms_declared m.objective (objective_terms m) ++ constant_declared m.constant) []
+      (flat_map (term m.objective) (objective_terms m) ++ []) (λ i. h.of_sense m.sense i ++ (h.of_objective m.objective i ++
+      [])) (follow (terms_declared m.objective (objective_terms m)) (constant_declared m.constant) _ _
+      (section (term_declared m.objective) (term m.objective) (h.of_term m.objective) (objective_terms m))
+      (grind arith)) ∙ append-nil (flat_map (term m.objective) (objective_terms m))
 
-  rows-parts : (h : PartsOf part row term bound general semi) (m : Listing) (entry : List ℕ × Row) → flat_map part (row_made m entry) ≡ row_parts m entry
-  rows-parts h m entry = λ i. h.of_row entry i ++ section (term_declared entry.0) (term entry.0) (h.of_term entry.0) (row_terms m entry.0) i
+  rows-parts : (h : PartsOf part row term bound general semi) (m : Listing) (entry : List ℕ × Row) →
+      flat_map part (row_made m entry) ≡ row_parts m entry
+  rows-parts h m entry = λ i. h.of_row entry i ++ section (term_declared entry.0) (term entry.0) (h.of_term entry.0)
+      (row_terms m entry.0) i
 
   -- the sections one after another
-  pub listed-parts : PartsOf part row term bound general semi → (m : Listing) → flat_map part (listed_declarations m) ≡ all_parts m
+  pub listed-parts : PartsOf part row term bound general semi → (m : Listing) →
+      flat_map part (listed_declarations m) ≡ all_parts m
   listed-parts h m = follow (objective_made m) _ _ _
-      (objective-parts h m) (follow (flat_map (row_made m) m.rows) _ _ _ (section (row_made m) (row_parts m) (rows-parts h m) m.rows)
-      (follow (flat_map column_made m.columns) _ _ _ (section column_made bound h.of_bound m.columns) (follow (flat_map general_made
-      (filter is_integer_column m.columns)) (flat_map semi_made (filter is_semi_column m.columns)) _ _ (section general_made
-      general h.of_general (filter is_integer_column m.columns)) (section semi_made semi h.of_semi (filter is_semi_column m.columns)))))
+      (objective-parts h m) (follow (flat_map (row_made m) m.rows) _ _ _
+      (section (row_made m) (row_parts m) (rows-parts h m) m.rows)
+      (follow (flat_map column_made m.columns) _ _ _ (section column_made bound h.of_bound m.columns)
+      (follow (flat_map general_made (filter is_integer_column m.columns))
+      (flat_map semi_made (filter is_semi_column m.columns)) _ _ (section general_made
+      general h.of_general (filter is_integer_column m.columns))
+      (section semi_made semi h.of_semi (filter is_semi_column m.columns)))))
 
 -- ---- if some sections put nothing into a map
 
@@ -121,14 +131,17 @@ without-rows = search (rules, flat_map-none)
 -- a map into which only the lines of columns put something
 pub columns-parts : {Y : Type 0} (part : Declaration → List Y) (bound general semi : List ℕ × Column → List Y)
     → PartsOf part nothing nothing_of bound general semi → (m : Listing) → flat_map part (listed_declarations m)
-    ≡ flat_map bound m.columns ++ (flat_map general (filter is_integer_column m.columns) ++ flat_map semi (filter is_semi_column m.columns))
+    ≡ flat_map bound m.columns ++ (flat_map general (filter is_integer_column m.columns) ++ flat_map semi
+    (filter is_semi_column m.columns))
 columns-parts part bound general semi h m = listed-parts part nothing nothing_of bound general semi h m ∙ without-rows m _
 
 -- only the lines of bounds
 pub bounds-parts : {Y : Type 0} (part : Declaration → List Y) (bound : List ℕ × Column → List Y) → PartsOf
-    part nothing nothing_of bound nothing nothing → (m : Listing) → flat_map part (listed_declarations m) ≡ flat_map bound m.columns
+    part nothing nothing_of bound nothing nothing → (m : Listing) →
+    flat_map part (listed_declarations m) ≡ flat_map bound m.columns
 bounds-parts part bound h m = columns-parts part bound nothing nothing h m ∙ (λ i. flat_map bound m.columns ++ (flat_map-none
-    (filter is_integer_column m.columns) i ++ flat_map-none (filter is_semi_column m.columns) i)) ∙ append-nil (flat_map bound m.columns)
+    (filter is_integer_column m.columns) i ++ flat_map-none (filter is_semi_column m.columns) i))
+    ∙ append-nil (flat_map bound m.columns)
 
 -- ---- each map of the draft that the declarations of the canonical text of a listing make
 
@@ -208,14 +221,16 @@ abbrev pub bound_names : List ℕ × Column → List (List ℕ × Unit {0})
 bound_names column = flat_map column_part (column_made column)
 
 -- columns are named by terms, by bounds and by their types
-pub columns-part : (m : Listing) → flat_map column_part (listed_declarations m) ≡ all_parts column_part nothing (λ _. own_name) bound_names own_name own_name m
+pub columns-part : (m : Listing) →
+    flat_map column_part (listed_declarations m) ≡ all_parts column_part nothing (λ _. own_name) bound_names own_name own_name m
 columns-part = grind (arith, listed-parts column_part nothing, column_part)
 
 abbrev pub own_coefficient : List ℕ → Term → List (CoefficientKey × Number)
 own_coefficient row term = (record { row = row; column = term.0 }, term.1) ∷ []
 
 pub coefficients-part : (m : Listing) → flat_map coefficient_part (listed_declarations m) ≡ flat_map
-    (own_coefficient m.objective) (objective_terms m) ++ flat_map (λ row. flat_map (own_coefficient row.0) (row_terms m row.0)) m.rows
+    (own_coefficient m.objective) (objective_terms m) ++ flat_map
+    (λ row. flat_map (own_coefficient row.0) (row_terms m row.0)) m.rows
 coefficients-part m = let rows = flat_map (λ row. flat_map (own_coefficient row.0) (row_terms m row.0)) m.rows in
     listed-parts coefficient_part nothing own_coefficient nothing nothing nothing (record {
       of_sense = λ _. refl;
@@ -228,7 +243,8 @@ coefficients-part m = let rows = flat_map (λ row. flat_map (own_coefficient row
       of_semi = λ _. refl;
     }) m ∙ (λ i. flat_map (own_coefficient m.objective) (objective_terms m) ++ (rows ++ (flat_map-none m.columns i
     ++ (flat_map-none (filter is_integer_column m.columns) i ++ flat_map-none (filter is_semi_column m.columns) i))))
-    ∙ ap (λ (es : List (CoefficientKey × Number)). flat_map (own_coefficient m.objective) (objective_terms m) ++ es) (append-nil rows)
+    ∙ ap (λ (es : List (CoefficientKey × Number)). flat_map (own_coefficient m.objective) (objective_terms m) ++ es)
+    (append-nil rows)
 
 -- nothing is declared of these kinds
 abbrev HasNoPart : {Y : Type 0} → (Declaration → List Y) → Type 0
@@ -278,7 +294,8 @@ no-binaries = no-part binary_part (record {
 -- a decimal other than 0, of a row or the objective and of a column that exist
 abbrev pub is_sound_entry : Listing → CoefficientKey × Number → Bool
 is_sound_entry m entry = is_decimal entry.1
-    && (not (is_zero entry.1) && (is_one_of (names_in m.columns) entry.0.column && is_one_of (m.objective ∷ names_in m.rows) entry.0.row))
+    && (not (is_zero entry.1) && (is_one_of (names_in m.columns) entry.0.column && is_one_of
+    (m.objective ∷ names_in m.rows) entry.0.row))
 
 pub record IsSoundListing (m : Listing) : Type 0 where
   pub constant : IsDecimal m.constant
@@ -316,8 +333,9 @@ place_at row column = record { row = row; column = column }
 
 -- ---- columns without coefficients
 
-has-some : (row column : List ℕ) (value : Number) (es : List (CoefficientKey × Number)) → find key_cmp (place_at row column) es ≡ Some value
-    → list_any (λ (entry : CoefficientKey × Number). same_bytes entry.0.column column) es ≡ true
+has-some : (row column : List ℕ) (value : Number) (es : List (CoefficientKey × Number)) →
+    find key_cmp (place_at row column) es ≡ Some value →
+    list_any (λ (entry : CoefficientKey × Number). same_bytes entry.0.column column) es ≡ true
 has-some row column value [] is = grind (arith)
 has-some row column value (e ∷ es) is = grind (
   arith,
@@ -336,7 +354,8 @@ no-coefficient = grind (arith, has-some)
 
 -- ---- what terms put into a map
 
-module _ {K X : Type 0} (R : K → K → Ordering) (total : IsTotalOrder R) (same : (x y : K) → R x y ≡ Equal → x ≡ y) (key_of : List ℕ → List ℕ → K) (entry_of : Term → X) where
+module _ {K X : Type 0} (R : K → K → Ordering) (total : IsTotalOrder R) (same : (x y : K) → R x y ≡ Equal →
+    x ≡ y) (key_of : List ℕ → List ℕ → K) (entry_of : Term → X) where
   -- an entry for each term, by its row or the objective, and its column
   abbrev pub own_entry : List ℕ → Term → List (K × X)
   own_entry row term = (key_of row term.0, entry_of term) ∷ []
@@ -353,7 +372,8 @@ module _ {K X : Type 0} (R : K → K → Ordering) (total : IsTotalOrder R) (sam
   -- the columns of this name have terms, so there is an entry for it
   pub hit : (row q : List ℕ) (f : List ℕ × Column → Option Term) (columns : List (List ℕ × Column))
       → list_any (λ column. same_bytes q column.0) columns ≡ true → ((column : List ℕ × Column) → same_bytes q column.0 ≡ true
-      → (value : Number) × (f column ≡ Some (column.0, value))) → SomeAt (key_of row q) (flat_map (own_entry row) (filter_map f columns))
+      → (value : Number) × (f column ≡ Some (column.0, value))) →
+      SomeAt (key_of row q) (flat_map (own_entry row) (filter_map f columns))
   hit row q f [] h some = cc
   hit row q f (column ∷ columns) h some = by (same_bytes q column.0) refl h (f column) refl (λ k. hit row q f columns k some)
     where
@@ -367,8 +387,9 @@ module _ {K X : Type 0} (R : K → K → Ordering) (total : IsTotalOrder R) (sam
       by false e k None _ more = more k
       by false e k (Some t) _ more = some_cons R total same (key_of row q) (key_of row t.0) (entry_of t) rest (more k)
 
-  in-rows : (q : K) (row : List ℕ) (f : List ℕ × Row → List (K × X)) (rows : List (List ℕ × Row)) → list_any (λ r. same_bytes row r.0) rows
-      ≡ true → ((r : List ℕ × Row) → same_bytes row r.0 ≡ true → SomeAt q (f r)) → SomeAt q (flat_map f rows)
+  in-rows : (q : K) (row : List ℕ) (f : List ℕ × Row → List (K × X)) (rows : List (List ℕ × Row)) →
+      list_any (λ r. same_bytes row r.0) rows ≡ true →
+      ((r : List ℕ × Row) → same_bytes row r.0 ≡ true → SomeAt q (f r)) → SomeAt q (flat_map f rows)
   in-rows q row f [] h some = cc
   in-rows q row f (r ∷ rows) h some = by (same_bytes row r.0) refl h (λ k. in-rows q row f rows k some)
     where
@@ -384,14 +405,21 @@ module _ {K X : Type 0} (R : K → K → Ordering) (total : IsTotalOrder R) (sam
 
   module _ (m : Listing) (h : IsSoundListing m) where
     term-there : (key : CoefficientKey) (value : Number) → find key_cmp key m.coefficients ≡ Some value → (row : List ℕ)
-        → key.row ≡ row → (column : List ℕ × Column) → same_bytes key.column column.0 ≡ true → term_in m row column ≡ Some (column.0, value)
+        → key.row ≡ row → (column : List ℕ × Column) → same_bytes key.column column.0 ≡ true →
+        term_in m row column ≡ Some (column.0, value)
     term-there key value is row named column e = grind (arith, named, same_name key.column column.0 e)
 
     in-objective : (key : CoefficientKey) (value : Number) → find key_cmp key m.coefficients ≡ Some value → key.row ≡ m.objective
-        → (column : List ℕ × Column) → same_bytes key.column column.0 ≡ true → (v : Number) × (objective_term m column ≡ Some (column.0, v))
+        → (column : List ℕ × Column) → same_bytes key.column column.0 ≡ true →
+        (v : Number) × (objective_term m column ≡ Some (column.0, v))
     in-objective key value is named column e =
-        elim (has_coefficients m column) as (λ b. (v : Number) × ((if b then term_in m m.objective column else Some (column.0, zero_number))
-        ≡ Some (column.0, v))) [ true ↦ (value, term-there key value is m.objective named column e) | false ↦ (zero_number, refl) ]
+        elim (has_coefficients m column) as
+        (λ b. (v : Number) × ((if b then term_in m m.objective column else Some (column.0, zero_number))
+        ≡ Some (column.0, v))) [
+          | true ↦ (value, term-there key value is m.objective named column e)
+          | false ↦
+              (zero_number, refl)
+        ]
 
     -- an entry for each coefficient
     pub each-line_text : (key : CoefficientKey) (value : Number)
@@ -402,7 +430,8 @@ module _ {K X : Type 0} (R : K → K → Ordering) (total : IsTotalOrder R) (sam
         names = is_one_of (names_in m.columns) key.column
 
         sound : is_sound_entry m (key, value) ≡ true
-        sound = found-each key_cmp key_total same_key (λ k v. is_sound_entry m (k, v) ≡ true) m.coefficients h.coefficients key value is
+        sound = found-each key_cmp key_total same_key (λ k v. is_sound_entry m (k, v) ≡ true) m.coefficients
+            h.coefficients key value is
 
         placed : (names && is_one_of (m.objective ∷ names_in m.rows) key.row) ≡ true
         placed = grind (arith, names, sound)
@@ -415,14 +444,17 @@ module _ {K X : Type 0} (R : K → K → Ordering) (total : IsTotalOrder R) (sam
 
         at_row : (row : List ℕ × Row) → same_bytes key.row row.0 ≡ true → SomeAt (key_of key.row key.column) (row_entries m row)
         at_row row e = let named = same_name key.row row.0 e in ap (λ (name : List ℕ). is_some (find R (key_of name key.column)
-            (row_entries m row))) named ∙ some-kept (key_of row.0 key.column) row.0 m.columns (filter_map (term_in m row.0) m.columns)
-            (hit row.0 key.column (term_in m row.0) m.columns columns (λ column k. (value, term-there key value is row.0 named column k)))
+            (row_entries m row))) named ∙ some-kept (key_of row.0 key.column) row.0 m.columns
+            (filter_map (term_in m row.0) m.columns)
+            (hit row.0 key.column (term_in m row.0) m.columns columns
+            (λ column k. (value, term-there key value is row.0 named column k)))
 
         by : (b : Bool) → same_bytes key.row m.objective ≡ b
             → (b || is_one_of (names_in m.rows) key.row) ≡ true → SomeAt (key_of key.row key.column) (all_entries m)
         by true e k = let named = same_name key.row m.objective e in some_append_left R total same
             (key_of key.row key.column) (flat_map (own_entry m.objective) (objective_terms m)) (flat_map (row_entries m) m.rows)
-            (ap (λ (name : List ℕ). is_some (find R (key_of name key.column) (flat_map (own_entry m.objective) (objective_terms m)))) named
+            (ap (λ (name : List ℕ). is_some
+            (find R (key_of name key.column) (flat_map (own_entry m.objective) (objective_terms m)))) named
             ∙ hit m.objective key.column (objective_term m) m.columns columns (in-objective key value is named))
         by false e k = some_append_right R total same
             (key_of key.row key.column) (flat_map (own_entry m.objective) (objective_terms m)) (flat_map (row_entries m) m.rows)

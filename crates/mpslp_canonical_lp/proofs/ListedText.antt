@@ -19,7 +19,9 @@ abbrev pub is_in_order : Listing → Bool
 is_in_order m = is_sorted bytes_cmp m.rows && (is_sorted bytes_cmp m.columns && is_sorted key_cmp m.coefficients)
 
 pub listing_of-model_in : (m : Listing) → is_in_order m ≡ true → listing_of (model_in m) ≡ m
-listing_of-model_in m h = let more = second_so _ _ h in let rows = entries-from_sorted bytes_cmp m.rows (T_from _ (first_so _ _ h)) in
+listing_of-model_in m h =
+    let more = second_so _ _ h in
+    let rows = entries-from_sorted bytes_cmp m.rows (T_from _ (first_so _ _ h)) in
     let columns = entries-from_sorted bytes_cmp m.columns (T_from _ (first_so _ _ more)) in
     let coefficients = entries-from_sorted key_cmp m.coefficients (T_from _ (second_so _ _ more)) in λ i. record {
       sense = m.sense;
@@ -36,8 +38,8 @@ pub record IsPrinted (m : Listing) (output : List ℕ) : Type 0 where
   pub declares : DeclaresLp output (model_in m)
   pub fits : unfit (model_in m) ≡ None
 
-pub line_text-from_passes : (m : Listing) (output : List ℕ) → is_in_order m ≡ true → text_of (listed_lines m) ≡ output → unfit_in m ≡ None
-    → Passes output (model_in m) → IsPrinted m output
+pub line_text-from_passes : (m : Listing) (output : List ℕ) → is_in_order m ≡ true → text_of (listed_lines m) ≡ output →
+    unfit_in m ≡ None → Passes output (model_in m) → IsPrinted m output
 line_text-from_passes m output sorted text fits passes = record {
   prints = ap (λ (l : Listing). text_of (listed_lines l)) (listing_of-model_in m sorted) ∙ text;
   declares = subst (DeclaresLp output) passes.model (declares-from_passes output (model_in m) passes);
@@ -45,5 +47,6 @@ line_text-from_passes m output sorted text fits passes = record {
 }
 
 -- if a name of the model of these lists is not an LP name
-pub unfit-listed : (m : Listing) (place : NameAt) → is_in_order m ≡ true → unfit_in m ≡ Some place → unfit (model_in m) ≡ Some place
+pub unfit-listed : (m : Listing) (place : NameAt) → is_in_order m ≡ true → unfit_in m ≡ Some place →
+    unfit (model_in m) ≡ Some place
 unfit-listed m _ sorted h = ap unfit_in (listing_of-model_in m sorted) ∙ h

@@ -32,7 +32,8 @@ pub use Rattle.mpslp_builder.proofs.SlotLemmas.{flat_map-none, flat_map-flat_map
 pub use Rattle.mpslp_builder.proofs.EntryLemmas.{IsNew, Apart, distinct-append, distinct-flat_map}
 pub use Rattle.mpslp_builder.proofs.DraftEntries.{same_key}
 pub use Rattle.mpslp_builder.proofs.DraftEntries.{row_part, rhs_part, column_part, coefficient_part, lower_part, upper_part, marked_part}
-pub use Rattle.mpslp_builder.proofs.DraftEntries.{integer_part, binary_part, semi_part, coefficients-all, lowers-all, uppers-all, marked-all}
+pub use Rattle.mpslp_builder.proofs.DraftEntries.{integer_part, binary_part, semi_part, coefficients-all, lowers-all}
+pub use Rattle.mpslp_builder.proofs.DraftEntries.{uppers-all, marked-all}
 pub use Rattle.mpslp_builder.proofs.DraftEntries.{integers-all, binaries-all, semis-all, rhs_values-all, rows-all, columns-all}
 pub use Rattle.mpslp_builder.proofs.EntryLemmas.{stated, all_stated, puts-kept, found-each, then_stated, puts-own, find-kept, find-stated}
 pub use Rattle.mpslp_builder.proofs.EntryLemmas.{sorted-stated, sorted-kept}

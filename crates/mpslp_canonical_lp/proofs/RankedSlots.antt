@@ -39,18 +39,24 @@ module _ (rank : Slot → ℕ) where
   Sections n (section ∷ sections) = Section n section × Sections (suc n) sections
 
   none-above : (low n : ℕ) → low < n
-      → (sections : List (List Slot)) → Sections n sections → Each (λ slot. rank slot ≡ low → ⊥) (flat_map (λ section. section) sections)
+      → (sections : List (List Slot)) → Sections n sections →
+      Each (λ slot. rank slot ≡ low → ⊥) (flat_map (λ section. section) sections)
   none-above _ n _ [] h = tt
   none-above low n below (section ∷ sections) h = Each-append
-      (λ slot. rank slot ≡ low → ⊥) section (flat_map (λ s. s) sections) (Each-weaker (λ slot. rank slot ≡ n) (λ slot. rank slot ≡ low → ⊥)
-      (λ slot is other. omega (arith, is, other, below)) section h.0.ranked) (none-above low (suc n) (omega (arith, below)) sections h.1)
+      (λ slot. rank slot ≡ low → ⊥) section (flat_map (λ s. s) sections)
+      (Each-weaker (λ slot. rank slot ≡ n) (λ slot. rank slot ≡ low →
+      ⊥) (λ slot is other. omega (arith, is, other, below)) section h.0.ranked)
+      (none-above low (suc n) (omega (arith, below)) sections h.1)
 
-  pub joined-once : (n : ℕ) (sections : List (List Slot)) → Sections n sections → are_distinct same_slot (flat_map (λ section. section) sections) ≡ true
+  pub joined-once : (n : ℕ) (sections : List (List Slot)) → Sections n sections →
+      are_distinct same_slot (flat_map (λ section. section) sections) ≡ true
   joined-once n [] h = refl
   joined-once n (section ∷ sections) h = let later = flat_map (λ (s : List Slot). s) sections in distinct-append same_slot
-      section later h.0.once (joined-once (suc n) sections h.1) (Each-weaker (λ slot. rank slot ≡ n) (λ slot. IsNew same_slot slot later)
+      section later h.0.once (joined-once (suc n) sections h.1)
+      (Each-weaker (λ slot. rank slot ≡ n) (λ slot. IsNew same_slot slot later)
       (λ slot is. new-from_others slot later (Each-weaker (λ other. rank other ≡ n → ⊥) (λ other. other ≡ slot → ⊥)
-      (λ other not_n same. not_n (ap rank same ∙ is)) later (none-above n (suc n) (omega arith) sections h.1))) section h.0.ranked)
+      (λ other not_n same. not_n (ap rank same ∙ is)) later (none-above n (suc n) (omega arith) sections h.1))) section
+      h.0.ranked)
 
 -- ---- names
 
@@ -59,14 +65,22 @@ abbrev pub AreOther : {X : Type 0} → List (List ℕ × X) → Type 0
 AreOther [] = Unit {0}
 AreOther (e ∷ es) = Each (λ later. same_bytes later.0 e.0 ≡ false) es × AreOther es
 
-above-other : {X : Type 0} (name : List ℕ) (es : List (List ℕ × X)) → below_all bytes_cmp name es ≡ true → Each (λ later. same_bytes later.0 name ≡ false) es
+above-other : {X : Type 0} (name : List ℕ) (es : List (List ℕ × X)) → below_all bytes_cmp name es ≡ true →
+    Each (λ later. same_bytes later.0 name ≡ false) es
 above-other _ [] h = tt
 above-other name (e ∷ es) h =
-    grind (arith, same_name, bytes_total, above-other name es (second_so (is_lt (bytes_cmp name e.0)) (below_all bytes_cmp name es) h))
+    grind (
+      arith,
+      same_name,
+      bytes_total,
+      above-other name es
+          (second_so (is_lt (bytes_cmp name e.0)) (below_all bytes_cmp name es) h),
+    )
 
 pub other-from_sorted : {X : Type 0} (es : List (List ℕ × X)) → is_sorted bytes_cmp es ≡ true → AreOther es
 other-from_sorted [] h = tt
-other-from_sorted (e ∷ es) h = grind (arith, above-other, other-from_sorted es (second_so (below_all bytes_cmp e.0 es) (is_sorted bytes_cmp es) h))
+other-from_sorted (e ∷ es) h =
+    grind (arith, above-other, other-from_sorted es (second_so (below_all bytes_cmp e.0 es) (is_sorted bytes_cmp es) h))
 
 none_named : {X : Type 0} (name : List ℕ) (es : List (List ℕ × X))
     → Each (λ later. same_bytes later.0 name ≡ false) es → list_any (λ later. same_bytes later name) (names_in es) ≡ false
@@ -91,7 +105,8 @@ owner _ = None
 
 -- The slots of entries of different names are different, if each has the name of its entry.
 pub owners-apart : {X : Type 0} (f : List ℕ × X → List Slot)
-    → ((e : List ℕ × X) → Each (λ slot. owner slot ≡ Some e.0) (f e)) → (es : List (List ℕ × X)) → AreOther es → Apart same_slot f es
+    → ((e : List ℕ × X) → Each (λ slot. owner slot ≡ Some e.0) (f e)) → (es : List (List ℕ × X)) → AreOther es →
+    Apart same_slot f es
 owners-apart f _ [] h = tt
 owners-apart {X} f own (e ∷ es) h = (
   Each-weaker (λ slot. owner slot ≡ Some e.0) (λ slot. Each (λ later. IsNew same_slot slot (f later)) es)
@@ -105,11 +120,14 @@ owners-apart {X} f own (e ∷ es) h = (
 
 pub slots-append : (xs ys : Declarations) → all_slots (xs ++ ys) ≡ all_slots xs ++ all_slots ys
 slots-append [] _ = refl
-slots-append (x ∷ xs) ys = ap (λ (slots : List Slot). slots_of x ++ slots) (slots-append xs ys) ∙ sym (append_assoc (slots_of x) (all_slots xs) (all_slots ys))
+slots-append (x ∷ xs) ys = ap (λ (slots : List Slot). slots_of x ++ slots) (slots-append xs ys)
+    ∙ sym (append_assoc (slots_of x) (all_slots xs) (all_slots ys))
 
-pub slots-flat : {X : Type 0} (f : X → Declarations) (xs : List X) → all_slots (flat_map f xs) ≡ flat_map (λ x. all_slots (f x)) xs
+pub slots-flat : {X : Type 0} (f : X → Declarations) (xs : List X) →
+    all_slots (flat_map f xs) ≡ flat_map (λ x. all_slots (f x)) xs
 slots-flat f [] = refl
-slots-flat f (x ∷ xs) = slots-append (f x) (flat_map f xs) ∙ ap (λ (slots : List Slot). all_slots (f x) ++ slots) (slots-flat f xs)
+slots-flat f (x ∷ xs) = slots-append (f x) (flat_map f xs) ∙ ap (λ (slots : List Slot). all_slots (f x) ++ slots)
+    (slots-flat f xs)
 
 -- ---- the terms that are printed of the objective or of a row are of different columns
 
@@ -122,7 +140,8 @@ each-term : (P : List ℕ → Type 0) (value_of : List ℕ × Column → Option 
 each-term P _ [] h = tt
 each-term P value_of (column ∷ columns) h = grind (arith, each-term P value_of columns h.1)
 
-other-terms : (value_of : List ℕ × Column → Option Number) (columns : List (List ℕ × Column)) → AreOther columns → AreOther (terms_by value_of columns)
+other-terms : (value_of : List ℕ × Column → Option Number) (columns : List (List ℕ × Column)) → AreOther columns →
+    AreOther (terms_by value_of columns)
 other-terms _ [] h = tt
 other-terms value_of (column ∷ columns) h = by (value_of column) (other-terms value_of columns h.1)
   where
@@ -134,13 +153,16 @@ other-terms value_of (column ∷ columns) h = by (value_of column) (other-terms 
 -- ---- the objective
 
 abbrev objective_value : Listing → List ℕ × Column → Option Number
-objective_value m column = if has_coefficients m column then find key_cmp (record { row = m.objective; column = column.0 }) m.coefficients else Some zero_number
+objective_value m column = if has_coefficients m column then find key_cmp
+    (record { row = m.objective; column = column.0 }) m.coefficients else Some zero_number
 
-objective-by : (m : Listing) (column : List ℕ × Column) → option_map (λ (value : Number). (column.0, value)) (objective_value m column) ≡ objective_term m column
+objective-by : (m : Listing) (column : List ℕ × Column) →
+    option_map (λ (value : Number). (column.0, value)) (objective_value m column) ≡ objective_term m column
 objective-by = grind arith
 
 pub objective-other : (m : Listing) → AreOther m.columns → AreOther (objective_terms m)
-objective-other m h = subst AreOther (λ i. filter_map (λ column. objective-by m column i) m.columns) (other-terms (objective_value m) m.columns h)
+objective-other m h = subst AreOther (λ i. filter_map (λ column. objective-by m column i) m.columns)
+    (other-terms (objective_value m) m.columns h)
 
 -- ---- rows
 
@@ -152,22 +174,27 @@ row-other m row h = some-other m.columns (filter_map (term_in m row) m.columns)
     (other-terms (λ column. find key_cmp (record { row = row; column = column.0 }) m.coefficients) m.columns h)
 
 -- terms after others with different columns
-new-after : (seen terms : List Term) → Each (λ (term : Term). list_any (λ (earlier : Term). same_bytes term.0 earlier.0) seen ≡ false) terms
+new-after : (seen terms : List Term) →
+    Each (λ (term : Term). list_any (λ (earlier : Term). same_bytes term.0 earlier.0) seen ≡ false) terms
     → AreOther terms → AreNew seen terms
 new-after _ [] h _ = tt
 new-after seen (term ∷ terms) h other = grind (
   arith,
   list_any-append,
   both_false,
-  new-after (seen ++ term ∷ []) terms (Each-both (λ (later : Term). list_any (λ (earlier : Term). same_bytes later.0 earlier.0) seen
-      ≡ false) (λ (later : Term). same_bytes later.0 term.0 ≡ false) (λ (later : Term). list_any (λ (earlier : Term). same_bytes later.0
-      earlier.0) (seen ++ term ∷ []) ≡ false) (λ later no apart. list_any-append (λ (earlier : Term). same_bytes later.0 earlier.0) seen
+  new-after (seen ++ term ∷ []) terms
+      (Each-both (λ (later : Term). list_any (λ (earlier : Term). same_bytes later.0 earlier.0) seen
+      ≡ false) (λ (later : Term). same_bytes later.0 term.0 ≡ false)
+      (λ (later : Term). list_any (λ (earlier : Term). same_bytes later.0 earlier.0) (seen ++ term ∷ []) ≡ false)
+      (λ later no apart. list_any-append (λ (earlier : Term). same_bytes later.0 earlier.0) seen
       (term ∷ []) ∙ both_false (list_any (λ (earlier : Term). same_bytes later.0 earlier.0) seen)
-      (same_bytes later.0 term.0 || false) no (both_false (same_bytes later.0 term.0) false apart refl)) terms h.1 other.0) other.1,
+      (same_bytes later.0 term.0 || false) no (both_false (same_bytes later.0 term.0) false apart refl)) terms h.1
+      other.0) other.1,
 )
 
 some-row : (columns : List (List ℕ × Column)) (terms : List Term)
-    → 0 < length columns → (P : List Term → Type 0) → ((term : Term) (more : List Term) → P (term ∷ more)) → P (some_term columns terms)
+    → 0 < length columns → (P : List Term → Type 0) → ((term : Term) (more : List Term) → P (term ∷ more)) →
+    P (some_term columns terms)
 some-row = grind arith
 
 -- Each row is printed with terms, none of them of the same column twice.
@@ -176,7 +203,8 @@ plain-row m fit other some row = let terms = filter_map (term_in m row) m.column
     some-row m.columns terms some (λ (ts : List Term). Each IsTerm ts → AreOther ts → IsRow ts) (λ term more good apart. (
       good,
       new-after [] (term ∷ more) (Each-all
-          (λ (later : Term). list_any (λ (earlier : Term). same_bytes later.0 earlier.0) [] ≡ false) (λ _. refl) (term ∷ more)) apart,
+          (λ (later : Term). list_any (λ (earlier : Term). same_bytes later.0 earlier.0) [] ≡ false) (λ _. refl)
+          (term ∷ more)) apart,
     )) (some-fits m.columns terms fit.columns (terms-fit m fit row)) (row-other m row other)
 
 -- ---- what the canonical text declares fills no slot twice
@@ -206,11 +234,13 @@ cells-fill _ [] = refl
 cells-fill row (term ∷ terms) = ap (λ (slots : List Slot). cell_slot row term.0 ∷ slots) (cells-fill row terms)
 
 cells-any : (row column : List ℕ) (columns : List (List ℕ)) → list_any
-    (λ later. same_slot later (cell_slot row column)) (map (cell_slot row) columns) ≡ list_any (λ later. same_bytes later column) columns
+    (λ later. same_slot later (cell_slot row column)) (map (cell_slot row) columns) ≡ list_any
+    (λ later. same_bytes later column) columns
 cells-any _ _ [] = refl
 cells-any row column (other ∷ columns) = λ i. (itself_named row i && same_bytes other column) || cells-any row column columns i
 
-cells-distinct : (row : List ℕ) (columns : List (List ℕ)) → are_distinct same_bytes columns ≡ true → are_distinct same_slot (map (cell_slot row) columns) ≡ true
+cells-distinct : (row : List ℕ) (columns : List (List ℕ)) → are_distinct same_bytes columns ≡ true →
+    are_distinct same_slot (map (cell_slot row) columns) ≡ true
 cells-distinct row columns h = by columns ∙ h
   where
     by : (names : List (List ℕ)) → are_distinct same_slot (map (cell_slot row) names) ≡ are_distinct same_bytes names
@@ -223,8 +253,10 @@ each-cell : (P : Slot → Type 0) (row : List ℕ) (terms : List Term)
 each-cell P _ [] h = tt
 each-cell P row (term ∷ terms) h = (h term.0, each-cell P row terms h)
 
-terms-once : (row : List ℕ) (terms : List Term) → AreOther terms → are_distinct same_slot (all_slots (terms_declared row terms)) ≡ true
-terms-once row terms other = ap (are_distinct same_slot) (cells-fill row terms) ∙ cells-distinct row (names_in terms) (names-distinct terms other)
+terms-once : (row : List ℕ) (terms : List Term) → AreOther terms →
+    are_distinct same_slot (all_slots (terms_declared row terms)) ≡ true
+terms-once row terms other = ap (are_distinct same_slot) (cells-fill row terms) ∙ cells-distinct row (names_in terms)
+    (names-distinct terms other)
 
 -- ---- a row
 
@@ -236,7 +268,8 @@ no_cell slot row (term ∷ terms) h = both_false _ _ (h term.0) (no_cell slot ro
 row-once : (name : List ℕ) (terms : List Term) → AreOther terms
     → are_distinct same_slot (row_slot name ∷ rhs_slot name ∷ range_slot name ∷ all_slots (terms_declared name terms)) ≡ true
 row-once name terms other = let cells = all_slots (terms_declared name terms) in both_so _ _
-    (so_not _ (no_cell (row_slot name) name terms (λ _. refl))) (both_so _ _ (so_not _ (no_cell (rhs_slot name) name terms (λ _. refl)))
+    (so_not _ (no_cell (row_slot name) name terms (λ _. refl)))
+    (both_so _ _ (so_not _ (no_cell (rhs_slot name) name terms (λ _. refl)))
     (both_so _ _ (so_not _ (no_cell (range_slot name) name terms (λ _. refl))) (terms-once name terms other)))
 
 abbrev row_slots : Listing → List ℕ × Row → List Slot
@@ -251,16 +284,20 @@ rows-section : (m : Listing) → AreOther m.columns → AreOther m.rows
 rows-section m columns rows others = record {
   once = distinct-flat_map same_slot (row_slots m) m.rows (Each-all (λ row. are_distinct same_slot (row_slots m row) ≡ true)
       (λ row. row-once row.0 (row_terms m row.0) (row-other m row.0 columns)) m.rows)
-      (owners-apart (row_slots m) (λ row. each-row_slot (λ slot. owner slot ≡ Some row.0) m row refl refl refl (λ _. refl)) m.rows rows);
-  ranked = Each-flat_map (λ slot. rank m.objective slot ≡ 4) (row_slots m) m.rows (Each-weaker (λ row. same_bytes row.0 m.objective ≡ false)
-      (λ row. Each (λ slot. rank m.objective slot ≡ 4) (row_slots m row)) (λ row other. each-row_slot (λ slot. rank m.objective slot ≡ 4)
-      m row (ap of_row other) (ap of_row other) (ap of_row other) (λ _. ap of_row other)) m.rows others);
+      (owners-apart (row_slots m) (λ row. each-row_slot (λ slot. owner slot ≡ Some row.0) m row refl refl refl
+      (λ _. refl)) m.rows rows);
+  ranked = Each-flat_map (λ slot. rank m.objective slot ≡ 4) (row_slots m) m.rows
+      (Each-weaker (λ row. same_bytes row.0 m.objective ≡ false)
+      (λ row. Each (λ slot. rank m.objective slot ≡ 4) (row_slots m row))
+      (λ row other. each-row_slot (λ slot. rank m.objective slot ≡ 4) m row (ap of_row other) (ap of_row other)
+      (ap of_row other) (λ _. ap of_row other)) m.rows others);
 }
 
 -- ---- the objective
 
 objective-section : (m : Listing)
-    → AreOther m.columns → Section (rank m.objective) 2 (row_slot m.objective ∷ all_slots (terms_declared m.objective (objective_terms m)))
+    → AreOther m.columns → Section (rank m.objective) 2
+    (row_slot m.objective ∷ all_slots (terms_declared m.objective (objective_terms m)))
 objective-section m columns = let cells = all_slots (terms_declared m.objective (objective_terms m)) in record {
   once = both_so _ _ (so_not _ (no_cell (row_slot m.objective) m.objective (objective_terms m) (λ _. refl)))
       (terms-once m.objective (objective_terms m) (objective-other m columns));
@@ -287,22 +324,26 @@ slots-of_column objective column = grind arith
 bounds-section : (m : Listing) → AreOther m.columns → Section (rank m.objective) 5 (flat_map bound_slots m.columns)
 bounds-section m columns = record {
   once = distinct-flat_map same_slot bound_slots m.columns (Each-all
-      (λ column. are_distinct same_slot (bound_slots column) ≡ true) (λ column. (slots-of_column m.objective column).once) m.columns)
+      (λ column. are_distinct same_slot (bound_slots column) ≡ true)
+      (λ column. (slots-of_column m.objective column).once) m.columns)
       (owners-apart bound_slots (λ column. (slots-of_column m.objective column).own) m.columns columns);
   ranked = Each-flat_map (λ slot. rank m.objective slot ≡ 5) bound_slots m.columns (Each-all (λ column. Each
-      (λ slot. rank m.objective slot ≡ 5) (bound_slots column)) (λ column. (slots-of_column m.objective column).ranked) m.columns);
+      (λ slot. rank m.objective slot ≡ 5) (bound_slots column)) (λ column. (slots-of_column m.objective column).ranked)
+      m.columns);
 }
 
 -- ---- the whole
 
 abbrev sections : Listing → List (List Slot)
-sections m = (sense_slot ∷ []) ∷ (objective_slot ∷ []) ∷ (row_slot m.objective ∷ all_slots (terms_declared m.objective (objective_terms m)))
-    ∷ all_slots (constant_declared m.constant) ∷ flat_map (row_slots m) m.rows ∷ flat_map bound_slots m.columns ∷ []
+sections m = (sense_slot ∷ []) ∷ (objective_slot ∷ []) ∷ (row_slot m.objective ∷ all_slots
+    (terms_declared m.objective (objective_terms m))) ∷ all_slots (constant_declared m.constant) ∷ flat_map
+    (row_slots m) m.rows ∷ flat_map bound_slots m.columns ∷ []
 
 kinds-fill : (make : List ℕ × Column → Declarations) → ((column : List ℕ × Column) → all_slots (make column) ≡ [])
     → (columns : List (List ℕ × Column)) → all_slots (flat_map make columns) ≡ []
 kinds-fill _ h [] = refl
-kinds-fill make h (column ∷ columns) = slots-append (make column) (flat_map make columns) ∙ (λ i. h column i ++ kinds-fill make h columns i)
+kinds-fill make h (column ∷ columns) = slots-append (make column) (flat_map make columns)
+    ∙ (λ i. h column i ++ kinds-fill make h columns i)
 
 sections-fill : (m : Listing) → all_slots (listed_declarations m) ≡ flat_map (λ (section : List Slot). section) (sections m)
 sections-fill = grind (
@@ -322,7 +363,8 @@ sections-fill = grind (
 
 -- No slot is filled twice, if rows and columns have different names, and no row has that of the objective.
 pub listed-once : (m : Listing) → AreOther m.columns → AreOther m.rows
-    → Each (λ row. same_bytes row.0 m.objective ≡ false) m.rows → are_distinct same_slot (all_slots (listed_declarations m)) ≡ true
+    → Each (λ row. same_bytes row.0 m.objective ≡ false) m.rows →
+    are_distinct same_slot (all_slots (listed_declarations m)) ≡ true
 listed-once m columns rows others = let all : Sections (rank m.objective) 0 (sections m) = (
   record { once = refl; ranked = (refl, tt) },
   (

@@ -48,14 +48,23 @@ entry column row value = (record { row = codes row; column = codes column }, val
 
 abbrev listing : Sense → String → Number → List (List ℕ × Row) → List (List ℕ × Column) → List (CoefficientKey × Number) → Listing
 listing sense objective constant rows columns coefficients =
-    record { sense = sense; objective = codes objective; constant = constant; rows = rows; columns = columns; coefficients = coefficients }
+    record {
+      sense = sense;
+      objective = codes objective;
+      constant = constant;
+      rows = rows;
+      columns =
+          columns;
+      coefficients = coefficients;
+    }
 
 -- a model without rows, of this column X
 abbrev of_column : Kind → Limit → Limit → Listing
 of_column kind lower upper = listing Minimize "C" zero_number [] (column "X" kind lower upper ∷ []) (entry "X" "C" one ∷ [])
 
 -- what makes a text that of a model, which it declares
-abbrev tests : Listing × List ℕ → Bool × List ℕ × Option NameAt × Bool × Bool × Bool × List BuildFault × Option Fault × LinearModel
+abbrev tests : Listing × List ℕ →
+    Bool × List ℕ × Option NameAt × Bool × Bool × Bool × List BuildFault × Option Fault × LinearModel
 tests row = let declared = declarations_of row.1 in (
   is_in_order row.0,
   text_of (listed_lines row.0),
@@ -68,7 +77,8 @@ tests row = let declared = declarations_of row.1 in (
   model_of (draft_of declared),
 )
 
-abbrev passing : Listing × List ℕ → Bool × List ℕ × Option NameAt × Bool × Bool × Bool × List BuildFault × Option Fault × LinearModel
+abbrev passing : Listing × List ℕ →
+    Bool × List ℕ × Option NameAt × Bool × Bool × Bool × List BuildFault × Option Fault × LinearModel
 passing row = (true, row.1, None, true, true, true, [], None, model_in row.0)
 
 abbrev IsRowPrinted : Listing × List ℕ → Type 0
@@ -96,7 +106,8 @@ worked_texts =
     (
       listing Minimize "COST" zero_number (row "LIM1" MinusInf (finite (pos 4)) ∷ row "MYG" (finite (pos 1)) PlusInf ∷ [])
           (usual "X" ∷ usual "Y" ∷ [])
-          (entry "X" "COST" one ∷ entry "X" "LIM1" one ∷ entry "Y" "COST" (units (pos 2)) ∷ entry "Y" "MYG" (number (pos 15) (negsuc 0)) ∷ []),
+          (entry "X" "COST" one ∷ entry "X" "LIM1" one ∷ entry "Y" "COST" (units (pos 2)) ∷ entry "Y" "MYG"
+          (number (pos 15) (negsuc 0)) ∷ []),
       codes "Minimize\n COST:\n  + 1 X\n  + 2 Y\nSubject To\n LIM1:\n  + 1 X\n  <= 4\n MYG:\n  + 1.5 Y\n  >= 1\nEnd\n",
     ) ∷
     -- an integer column from 0 to 1
@@ -157,7 +168,8 @@ worked_texts =
     -- a maximized model with all sections
     (
       listing Maximize "obj" zero_number (row "c1" MinusInf (tens 2) ∷ row "c2" MinusInf (tens 3) ∷ row "c3" zero_limit zero_limit ∷ [])
-          (column "x1" Continuous zero_limit (tens 4) ∷ usual "x2" ∷ usual "x3" ∷ column "x4" Integer (finite (pos 2)) (finite (pos 3)) ∷ [])
+          (column "x1" Continuous zero_limit (tens 4) ∷ usual "x2" ∷ usual "x3" ∷ column "x4" Integer (finite (pos 2))
+          (finite (pos 3)) ∷ [])
           (entry "x1" "c1" (units (negsuc 0)) ∷ entry "x1" "c2" one ∷ entry "x1" "obj" one ∷ entry "x2" "c1" one
           ∷ entry "x2" "c2" (units (negsuc 2)) ∷ entry "x2" "c3" one ∷ entry "x2" "obj" (units (pos 2)) ∷ entry "x3" "c1" one
           ∷ entry "x3" "c2" one ∷ entry "x3" "obj" (units (pos 3)) ∷ entry "x4" "c1" (number (pos 1) (pos 1))
@@ -169,7 +181,8 @@ worked_texts =
     -- a column between two bounds
     (
       listing Minimize "C" zero_number (row "R" MinusInf (finite (pos 1)) ∷ [])
-          (column "X" Continuous zero_limit (finite (pos 4)) ∷ usual "Y" ∷ []) (entry "X" "C" one ∷ entry "X" "R" one ∷ entry "Y" "C" one ∷ []),
+          (column "X" Continuous zero_limit (finite (pos 4)) ∷ usual "Y" ∷ [])
+          (entry "X" "C" one ∷ entry "X" "R" one ∷ entry "Y" "C" one ∷ []),
       codes "Minimize\n C:\n  + 1 X\n  + 1 Y\nSubject To\n R:\n  + 1 X\n  <= 1\nBounds\n 0 <= X <= 4\nEnd\n",
     ) ∷
     []
@@ -179,7 +192,8 @@ unfolding digits trailing_zeros
 worked_texts-printed = each-printed worked_texts refl
 
 -- the first has 92 bytes
-pub small_length : length (codes "Minimize\n COST:\n  + 1 X\n  + 2 Y\nSubject To\n LIM1:\n  + 1 X\n  <= 4\n MYG:\n  + 1.5 Y\n  >= 1\nEnd\n") ≡ 92
+pub small_length : length (codes
+    "Minimize\n COST:\n  + 1 X\n  + 2 Y\nSubject To\n LIM1:\n  + 1 X\n  <= 4\n MYG:\n  + 1.5 Y\n  >= 1\nEnd\n") ≡ 92
 small_length = refl
 
 -- ---- names that are not legal in LP: that of the objective is reported first, then that of a row, then that of a column

@@ -37,14 +37,19 @@ pub record EachSection (P : Declaration → Type 0) (w : Whole) : Type 0 where
   pub bounds : Each (λ (b : Bound). Each P (bound_decl b)) w.late.bounds
 
 pub each-whole : (P : Declaration → Type 0) (w : Whole) → EachSection P w → Each P (whole_decl w)
-each-whole P w h = let rows = flat_map row_decl w.rows in let plain = flat_map (cell_decl false) (cells_of w.plain) in
-    let integers = flat_map (cell_decl true) (cells_of w.integers) in let sides = flat_map side_decl w.late.sides in
-    let ranges = flat_map range_decl w.late.ranges in let bounds = flat_map bound_decl w.late.bounds in Each-append P _ _ h.sense
+each-whole P w h =
+    let rows = flat_map row_decl w.rows in
+    let plain = flat_map (cell_decl false) (cells_of w.plain) in
+    let integers = flat_map (cell_decl true) (cells_of w.integers) in
+    let sides = flat_map side_decl w.late.sides in
+    let ranges = flat_map range_decl w.late.ranges in
+    let bounds = flat_map bound_decl w.late.bounds in Each-append P _ _ h.sense
     (Each-append P (declare_objective w.objective ∷ rows) ((plain ++ integers) ++ (sides ++ (ranges ++ (bounds ++ []))))
     (h.objective, Each-flat_map P row_decl w.rows h.rows)
     (Each-append P _ _ (Each-append P plain integers (Each-flat_map P (cell_decl false) _ h.plain)
-    (Each-flat_map P (cell_decl true) _ h.integers)) (Each-append P sides _ (Each-flat_map P side_decl w.late.sides h.sides) (Each-append P
-    ranges _ (Each-flat_map P range_decl w.late.ranges h.ranges)
+    (Each-flat_map P (cell_decl true) _ h.integers))
+    (Each-append P sides _ (Each-flat_map P side_decl w.late.sides h.sides)
+    (Each-append P ranges _ (Each-flat_map P range_decl w.late.ranges h.ranges)
     (Each-append P bounds [] (Each-flat_map P bound_decl w.late.bounds h.bounds) tt)))))
 
 -- ---- what declarations put into a map
@@ -56,24 +61,30 @@ made_of part decl x = flat_map part (decl x)
 abbrev pub section_parts : {Y : Type 0} → (Declaration → List Y) → Whole → List Y
 section_parts part w = flat_map part (sense_decl w.sense)
     ++ ((part (declare_objective w.objective) ++ flat_map (made_of part row_decl) w.rows)
-    ++ ((flat_map (made_of part (cell_decl false)) (cells_of w.plain) ++ flat_map (made_of part (cell_decl true)) (cells_of w.integers))
-    ++ (flat_map (made_of part side_decl) w.late.sides
+    ++ ((flat_map (made_of part (cell_decl false)) (cells_of w.plain) ++ flat_map (made_of part (cell_decl true))
+    (cells_of w.integers)) ++ (flat_map (made_of part side_decl) w.late.sides
     ++ (flat_map (made_of part range_decl) w.late.ranges ++ flat_map (made_of part bound_decl) w.late.bounds))))
 
-follow : {Y : Type 0} (part : Declaration → List Y) (xs ys : Declarations) (us vs : List Y) → flat_map part xs ≡ us → flat_map part ys ≡ vs
-    → flat_map part (xs ++ ys) ≡ us ++ vs
+follow : {Y : Type 0} (part : Declaration → List Y) (xs ys : Declarations) (us vs : List Y) → flat_map part xs ≡ us →
+    flat_map part ys ≡ vs → flat_map part (xs ++ ys) ≡ us ++ vs
 follow part xs ys us vs h k = flat_map-append part xs ys ∙ (λ i. h i ++ k i)
 
 pub whole-parts : {Y : Type 0} (part : Declaration → List Y) (w : Whole) → flat_map part (whole_decl w) ≡ section_parts part w
-whole-parts part w = let rows = flat_map row_decl w.rows in let plain = flat_map (cell_decl false) (cells_of w.plain) in
-    let integers = flat_map (cell_decl true) (cells_of w.integers) in let sides = flat_map side_decl w.late.sides in
-    let ranges = flat_map range_decl w.late.ranges in let bounds = flat_map bound_decl w.late.bounds in follow part (sense_decl w.sense)
+whole-parts part w =
+    let rows = flat_map row_decl w.rows in
+    let plain = flat_map (cell_decl false) (cells_of w.plain) in
+    let integers = flat_map (cell_decl true) (cells_of w.integers) in
+    let sides = flat_map side_decl w.late.sides in
+    let ranges = flat_map range_decl w.late.ranges in
+    let bounds = flat_map bound_decl w.late.bounds in follow part (sense_decl w.sense)
     _ _ _ refl (follow part (declare_objective w.objective ∷ rows) ((plain ++ integers) ++ (sides ++ (ranges ++ (bounds ++ []))))
     _ _ (ap (λ (ys : List _). part (declare_objective w.objective) ++ ys) (flat_map-flat_map part row_decl w.rows))
-    (follow part (plain ++ integers) (sides ++ (ranges ++ (bounds ++ []))) _ _ (follow part plain integers _ _ (flat_map-flat_map part
-    (cell_decl false) (cells_of w.plain)) (flat_map-flat_map part (cell_decl true) (cells_of w.integers))) (follow part sides
-    (ranges ++ (bounds ++ [])) _ _ (flat_map-flat_map part side_decl w.late.sides) (follow part ranges (bounds ++ []) _ _ (flat_map-flat_map
-    part range_decl w.late.ranges) (ap (flat_map part) (append-nil bounds) ∙ flat_map-flat_map part bound_decl w.late.bounds)))))
+    (follow part (plain ++ integers) (sides ++ (ranges ++ (bounds ++ []))) _ _
+    (follow part plain integers _ _ (flat_map-flat_map part (cell_decl false) (cells_of w.plain))
+    (flat_map-flat_map part (cell_decl true) (cells_of w.integers)))
+    (follow part sides (ranges ++ (bounds ++ [])) _ _ (flat_map-flat_map part side_decl w.late.sides)
+    (follow part ranges (bounds ++ []) _ _ (flat_map-flat_map part range_decl w.late.ranges)
+    (ap (flat_map part) (append-nil bounds) ∙ flat_map-flat_map part bound_decl w.late.bounds)))))
 
 -- ---- parts that are empty, and those that are not
 
@@ -87,7 +98,8 @@ pub bound-none : {Y : Type 0} (part : Declaration → List Y) → ((x : List ℕ
 bound-none = grind arith
 
 -- the parts of all sections, one by one
-pub record SectionParts {Y : Type 0} (part : Declaration → List Y) (w : Whole) (rows plain integers sides ranges bounds : List Y) : Type 0
+pub record SectionParts {Y : Type 0} (part : Declaration →
+    List Y) (w : Whole) (rows plain integers sides ranges bounds : List Y) : Type 0
   where
     pub of_sense : flat_map part (sense_decl w.sense) ≡ []
     pub of_objective : part (declare_objective w.objective) ≡ []
@@ -102,7 +114,8 @@ pub joined-parts : {Y : Type 0} (part : Declaration → List Y) (w : Whole) (row
     → SectionParts part w rows plain integers sides ranges bounds
     → flat_map part (whole_decl w) ≡ rows ++ ((plain ++ integers) ++ (sides ++ (ranges ++ bounds)))
 joined-parts part w rows plain integers sides ranges bounds h = whole-parts part w ∙ (λ i. h.of_sense i
-    ++ ((h.of_objective i ++ h.of_rows i) ++ ((h.of_plain i ++ h.of_integers i) ++ (h.of_sides i ++ (h.of_ranges i ++ h.of_bounds i)))))
+    ++ ((h.of_objective i ++ h.of_rows i) ++
+    ((h.of_plain i ++ h.of_integers i) ++ (h.of_sides i ++ (h.of_ranges i ++ h.of_bounds i)))))
 
 -- ---- what is declared of a row and of a column
 
@@ -159,7 +172,8 @@ rows-made (row ∷ rows) = grind (arith, rows-made rows)
 pub cells-made : {Y : Type 0} (f : Cell → List Y) (m : Listing) (columns : List (List ℕ × Column))
     → flat_map f (cells_of (map (group_in m) columns)) ≡ flat_map (λ column. flat_map f (cells_in m column)) columns
 cells-made f m [] = refl
-cells-made f m (column ∷ columns) = flat_map-append f _ _ ∙ ap (λ more. flat_map f (cells_in m column) ++ more) (cells-made f m columns)
+cells-made f m (column ∷ columns) =
+    flat_map-append f _ _ ∙ ap (λ more. flat_map f (cells_in m column) ++ more) (cells-made f m columns)
 
 pub sides-made : (m : Listing)
     → flat_map own_side (sides_in m) ≡ stated m.objective (value_stated (negated m.constant)) ++ all_stated side_stated m.rows
@@ -204,7 +218,8 @@ rows-part m =
       of_sides = flat-none (made_of row_part side_decl) (λ _. refl) (sides_in m);
       of_ranges = flat-none (made_of row_part range_decl) (λ _. refl) (whole_of m).late.ranges;
       of_bounds =
-          flat-none (made_of row_part bound_decl) (bound-none row_part (λ _ _. refl) (λ _ _. refl) (λ _. refl)) (whole_of m).late.bounds;
+          flat-none (made_of row_part bound_decl) (bound-none row_part (λ _ _. refl) (λ _ _. refl) (λ _. refl))
+          (whole_of m).late.bounds;
     }) ∙ append-nil (row_forms m.rows)
 
 rows-silent : {Y : Type 0} (part : Declaration → List Y) → ((x : List ℕ) (form : RowDefinition) → part (declare_row x form) ≡ [])
@@ -224,7 +239,8 @@ rhs_values-part m =
       of_sides = sides-made m;
       of_ranges = flat-none (made_of rhs_part range_decl) (λ _. refl) (whole_of m).late.ranges;
       of_bounds =
-          flat-none (made_of rhs_part bound_decl) (bound-none rhs_part (λ _ _. refl) (λ _ _. refl) (λ _. refl)) (whole_of m).late.bounds;
+          flat-none (made_of rhs_part bound_decl) (bound-none rhs_part (λ _ _. refl) (λ _ _. refl) (λ _. refl))
+          (whole_of m).late.bounds;
     }) ∙ append-nil sides
 
 pub ranges-part : (m : Listing) → flat_map range_part (listed_decl m) ≡ all_stated range_stated m.rows
@@ -243,15 +259,20 @@ ranges-part m =
     }) ∙ append-nil ranges
 
 -- a map into which only the lines of columns put something
-cells-part : {Y : Type 0} (part : Declaration → List Y) (plain integers : Cell → List Y) → ((s : Sense) → part (declare_sense s) ≡ [])
-    → ((x : List ℕ) → part (declare_objective x) ≡ []) → ((x : List ℕ) (form : RowDefinition) → part (declare_row x form) ≡ [])
-    → ((cell : Cell) → made_of part (cell_decl false) cell ≡ plain cell) → ((cell : Cell) → made_of part (cell_decl true) cell ≡ integers
-    cell) → ((x : List ℕ) (v : Number) → part (declare_rhs x v) ≡ []) → ((x : List ℕ) (v : Number) → part (declare_range x v) ≡ [])
-    → ((x : List ℕ) (l : Limit) → part (declare_lower x l) ≡ []) → ((x : List ℕ) (l : Limit) → part (declare_upper x l) ≡ [])
-    → ((x : List ℕ) → part (declare_semi x) ≡ []) → (m : Listing) → flat_map part (listed_decl m)
+cells-part : {Y : Type 0} (part : Declaration → List Y) (plain integers : Cell → List Y) →
+    ((s : Sense) → part (declare_sense s) ≡ []) → ((x : List ℕ) → part (declare_objective x) ≡ []) →
+    ((x : List ℕ) (form : RowDefinition) → part (declare_row x form) ≡ []) →
+    ((cell : Cell) → made_of part (cell_decl false) cell ≡ plain cell) →
+    ((cell : Cell) → made_of part (cell_decl true) cell ≡ integers cell) →
+    ((x : List ℕ) (v : Number) → part (declare_rhs x v) ≡ []) →
+    ((x : List ℕ) (v : Number) → part (declare_range x v) ≡ []) →
+    ((x : List ℕ) (l : Limit) → part (declare_lower x l) ≡ []) →
+    ((x : List ℕ) (l : Limit) → part (declare_upper x l) ≡ []) →
+    ((x : List ℕ) → part (declare_semi x) ≡ []) → (m : Listing) → flat_map part (listed_decl m)
     ≡ from_cells plain m (filter is_plain_column m.columns) ++ from_cells integers m (filter is_integer_column m.columns)
 cells-part part plain integers sense objective rows p q sides ranges lowers uppers semis m =
-    let cells = from_cells plain m (filter is_plain_column m.columns) ++ from_cells integers m (filter is_integer_column m.columns) in
+    let cells = from_cells plain m (filter is_plain_column m.columns) ++ from_cells integers m
+    (filter is_integer_column m.columns) in
     joined-parts part (whole_of m) [] (from_cells plain m (filter is_plain_column m.columns))
     (from_cells integers m (filter is_integer_column m.columns)) [] [] [] (record {
       of_sense = sense-none part sense m.sense;
@@ -264,41 +285,50 @@ cells-part part plain integers sense objective rows p q sides ranges lowers uppe
       of_bounds = flat-none _ (bound-none part lowers uppers semis) (whole_of m).late.bounds;
     }) ∙ append-nil cells
 
-pub columns-part : (m : Listing) → flat_map column_part (listed_decl m) ≡ from_cells own_column m (filter is_plain_column m.columns)
+pub columns-part : (m : Listing) →
+    flat_map column_part (listed_decl m) ≡ from_cells own_column m (filter is_plain_column m.columns)
     ++ from_cells own_column m (filter is_integer_column m.columns)
-columns-part m = cells-part column_part own_column own_column (λ _. refl) (λ _. refl) (λ _ _. refl) (λ _. refl) (λ _. refl) (λ _ _. refl)
-    (λ _ _. refl) (λ _ _. refl) (λ _ _. refl) (λ _. refl) m
+columns-part m = cells-part column_part own_column own_column (λ _. refl) (λ _. refl) (λ _ _. refl) (λ _. refl)
+    (λ _. refl) (λ _ _. refl) (λ _ _. refl) (λ _ _. refl) (λ _ _. refl) (λ _. refl) m
 
 pub coefficients-part : (m : Listing) → flat_map coefficient_part (listed_decl m)
-    ≡ from_cells own_coefficient m (filter is_plain_column m.columns) ++ from_cells own_coefficient m (filter is_integer_column m.columns)
-coefficients-part m = cells-part coefficient_part own_coefficient own_coefficient (λ _. refl) (λ _. refl) (λ _ _. refl) (λ _. refl)
-    (λ _. refl) (λ _ _. refl) (λ _ _. refl) (λ _ _. refl) (λ _ _. refl) (λ _. refl) m
+    ≡ from_cells own_coefficient m (filter is_plain_column m.columns) ++ from_cells own_coefficient m
+    (filter is_integer_column m.columns)
+coefficients-part m = cells-part coefficient_part own_coefficient own_coefficient (λ _. refl) (λ _. refl) (λ _ _. refl)
+    (λ _. refl) (λ _. refl) (λ _ _. refl) (λ _ _. refl) (λ _ _. refl) (λ _ _. refl) (λ _. refl) m
 
 from-none : {Y : Type 0} (m : Listing) (columns : List (List ℕ × Column)) → from_cells {Y = Y} (λ _. []) m columns ≡ []
 from-none = grind (arith, flat-none)
 
-pub marked-part : (m : Listing) → flat_map marked_part (listed_decl m) ≡ from_cells own_column m (filter is_integer_column m.columns)
-marked-part m = cells-part marked_part (λ _. []) own_column (λ _. refl) (λ _. refl) (λ _ _. refl) (λ _. refl) (λ _. refl) (λ _ _. refl)
-    (λ _ _. refl) (λ _ _. refl) (λ _ _. refl) (λ _. refl) m
+pub marked-part : (m : Listing) →
+    flat_map marked_part (listed_decl m) ≡ from_cells own_column m (filter is_integer_column m.columns)
+marked-part m = cells-part marked_part (λ _. []) own_column (λ _. refl) (λ _. refl) (λ _ _. refl) (λ _. refl)
+    (λ _. refl) (λ _ _. refl) (λ _ _. refl) (λ _ _. refl) (λ _ _. refl) (λ _. refl) m
     ∙ ap (λ ys. ys ++ from_cells own_column m (filter is_integer_column m.columns)) (from-none m _)
 
 pub integers-part : (m : Listing) → flat_map integer_part (listed_decl m) ≡ []
-integers-part m = cells-part integer_part (λ _. []) (λ _. []) (λ _. refl) (λ _. refl) (λ _ _. refl) (λ _. refl) (λ _. refl) (λ _ _. refl)
+integers-part m = cells-part integer_part (λ _. []) (λ _. []) (λ _. refl) (λ _. refl) (λ _ _. refl) (λ _. refl)
+    (λ _. refl) (λ _ _. refl)
     (λ _ _. refl) (λ _ _. refl) (λ _ _. refl) (λ _. refl) m ∙ (λ i. from-none {Y =
-    List ℕ × Unit {0}} m (filter is_plain_column m.columns) i ++ from-none {Y = List ℕ × Unit {0}} m (filter is_integer_column m.columns) i)
+    List ℕ × Unit {0}} m (filter is_plain_column m.columns) i ++ from-none {Y = List ℕ × Unit {0}} m
+    (filter is_integer_column m.columns) i)
 
 pub binaries-part : (m : Listing) → flat_map binary_part (listed_decl m) ≡ []
-binaries-part m = cells-part binary_part (λ _. []) (λ _. []) (λ _. refl) (λ _. refl) (λ _ _. refl) (λ _. refl) (λ _. refl) (λ _ _. refl)
+binaries-part m = cells-part binary_part (λ _. []) (λ _. []) (λ _. refl) (λ _. refl) (λ _ _. refl) (λ _. refl)
+    (λ _. refl) (λ _ _. refl)
     (λ _ _. refl) (λ _ _. refl) (λ _ _. refl) (λ _. refl) m ∙ (λ i. from-none {Y =
-    List ℕ × Unit {0}} m (filter is_plain_column m.columns) i ++ from-none {Y = List ℕ × Unit {0}} m (filter is_integer_column m.columns) i)
+    List ℕ × Unit {0}} m (filter is_plain_column m.columns) i ++ from-none {Y = List ℕ × Unit {0}} m
+    (filter is_integer_column m.columns) i)
 
 -- a map into which only the lines of bounds put something
 bounds-part : {V : Type 0} (part : Declaration → List (List ℕ × V)) (stated_of : Column → Option V)
     → ((s : Sense) → part (declare_sense s) ≡ []) → ((x : List ℕ) → part (declare_objective x) ≡ [])
-    → ((x : List ℕ) (form : RowDefinition) → part (declare_row x form) ≡ []) → ((cell : Cell) → made_of part (cell_decl false) cell ≡ [])
-    → ((cell : Cell) → made_of part (cell_decl true) cell ≡ []) → ((side : Side) → made_of part side_decl side ≡ [])
+    → ((x : List ℕ) (form : RowDefinition) → part (declare_row x form) ≡ []) →
+    ((cell : Cell) → made_of part (cell_decl false) cell ≡ []) →
+    ((cell : Cell) → made_of part (cell_decl true) cell ≡ []) → ((side : Side) → made_of part side_decl side ≡ [])
     → ((side : Side) → made_of part range_decl side ≡ []) → (m : Listing) → flat_map (made_of part bound_decl)
-    (flat_map bounds_in m.columns) ≡ all_stated stated_of m.columns → flat_map part (listed_decl m) ≡ all_stated stated_of m.columns
+    (flat_map bounds_in m.columns) ≡ all_stated stated_of m.columns →
+    flat_map part (listed_decl m) ≡ all_stated stated_of m.columns
 bounds-part part stated_of sense objective rows p q sides ranges m h =
     joined-parts part (whole_of m) [] [] [] [] [] (all_stated stated_of m.columns) (record {
       of_sense = sense-none part sense m.sense;
@@ -312,16 +342,18 @@ bounds-part part stated_of sense objective rows p q sides ranges m h =
     })
 
 pub lowers-part : (m : Listing) → flat_map lower_part (listed_decl m) ≡ all_stated column_lower m.columns
-lowers-part m = bounds-part lower_part column_lower (λ _. refl) (λ _. refl) (λ _ _. refl) (λ _. refl) (λ _. refl) (λ _. refl) (λ _. refl) m
-    (grind (arith, flat_map-flat_map, made_of, lower_part, bound_decl, bounds_in, flat-same, stated, lower-made))
+lowers-part m = bounds-part lower_part column_lower (λ _. refl) (λ _. refl) (λ _ _. refl) (λ _. refl) (λ _. refl)
+    (λ _. refl) (λ _. refl) m (grind
+    (arith, flat_map-flat_map, made_of, lower_part, bound_decl, bounds_in, flat-same, stated, lower-made))
 
 pub uppers-part : (m : Listing) → flat_map upper_part (listed_decl m) ≡ all_stated column_upper m.columns
-uppers-part m = bounds-part upper_part column_upper (λ _. refl) (λ _. refl) (λ _ _. refl) (λ _. refl) (λ _. refl) (λ _. refl) (λ _. refl) m
-    (grind (arith, flat_map-flat_map, made_of, upper_part, bound_decl, bounds_in, flat-same, stated, upper-made))
+uppers-part m = bounds-part upper_part column_upper (λ _. refl) (λ _. refl) (λ _ _. refl) (λ _. refl) (λ _. refl)
+    (λ _. refl) (λ _. refl) m (grind
+    (arith, flat_map-flat_map, made_of, upper_part, bound_decl, bounds_in, flat-same, stated, upper-made))
 
 pub semis-part : (m : Listing) → flat_map semi_part (listed_decl m) ≡ all_stated column_semi m.columns
-semis-part m = bounds-part semi_part column_semi (λ _. refl) (λ _. refl) (λ _ _. refl) (λ _. refl) (λ _. refl) (λ _. refl) (λ _. refl) m
-    (grind (arith, flat_map-flat_map, made_of, semi_part, bound_decl, bounds_in, flat-same, stated))
+semis-part m = bounds-part semi_part column_semi (λ _. refl) (λ _. refl) (λ _ _. refl) (λ _. refl) (λ _. refl)
+    (λ _. refl) (λ _. refl) m (grind (arith, flat_map-flat_map, made_of, semi_part, bound_decl, bounds_in, flat-same, stated))
 
 -- ---- the draft of the canonical declarations of a well-formed listing, map by map. What the well-formedness of a
 -- model implies for its listing
@@ -331,7 +363,8 @@ semis-part m = bounds-part semi_part column_semi (λ _. refl) (λ _. refl) (λ _
 -- a decimal other than 0, of a row or the objective and of a column that exist
 abbrev pub is_sound_entry : Listing → CoefficientKey × Number → Bool
 is_sound_entry m entry = is_decimal entry.1
-    && (not (is_zero entry.1) && (is_one_of (names_in m.columns) entry.0.column && is_one_of (m.objective ∷ names_in m.rows) entry.0.row))
+    && (not (is_zero entry.1) && (is_one_of (names_in m.columns) entry.0.column && is_one_of
+    (m.objective ∷ names_in m.rows) entry.0.row))
 
 pub record IsSoundListing (m : Listing) : Type 0 where
   pub objective : is_mps_name m.objective ≡ true
@@ -358,7 +391,8 @@ pub row-at : (m : Listing) → IsSoundListing m → (q : List ℕ)
 row-at m h q = ap (λ es. at_name es q) (rows-drafted m h) ∙ at-mapped form_stated q m.rows
 
 pub right_side-at : (m : Listing) → IsSoundListing m → (q : List ℕ) → at_name (drafted m).rhs_values q
-    ≡ first_there (then_stated side_stated (at_name m.rows q)) (at_name (stated m.objective (value_stated (negated m.constant))) q)
+    ≡ first_there (then_stated side_stated (at_name m.rows q))
+    (at_name (stated m.objective (value_stated (negated m.constant))) q)
 right_side-at = grind (
   arith,
   stated,
@@ -378,7 +412,8 @@ right_side-at = grind (
   find-stated,
 )
 
-pub range-at : (m : Listing) → IsSoundListing m → (q : List ℕ) → at_name (drafted m).ranges q ≡ then_stated range_stated (at_name m.rows q)
+pub range-at : (m : Listing) → IsSoundListing m → (q : List ℕ) →
+    at_name (drafted m).ranges q ≡ then_stated range_stated (at_name m.rows q)
 range-at = grind (
   arith,
   ranges-all,
@@ -430,7 +465,8 @@ upper-at = grind (
   find-stated,
 )
 
-semi-at : (m : Listing) → IsSoundListing m → (q : List ℕ) → at_name (drafted m).semis q ≡ then_stated column_semi (at_name m.columns q)
+semi-at : (m : Listing) → IsSoundListing m → (q : List ℕ) →
+    at_name (drafted m).semis q ≡ then_stated column_semi (at_name m.columns q)
 semi-at = grind (
   arith,
   semis-all,
@@ -446,21 +482,24 @@ semi-at = grind (
   find-stated,
 )
 
-pub semis-at : (m : Listing) → IsSoundListing m → (q : List ℕ) (column : Column) → suits column.kind column.lower column.upper ≡ true
-    → at_name m.columns q ≡ Some column → has_name (drafted m).semis q ≡ is_semi_kind column.kind
+pub semis-at : (m : Listing) → IsSoundListing m → (q : List ℕ) (column : Column) →
+    suits column.kind column.lower column.upper ≡ true → at_name m.columns q ≡ Some column →
+    has_name (drafted m).semis q ≡ is_semi_kind column.kind
 semis-at = grind (arith, semi-at, then_stated, column_semi)
 
 -- each cell of a column names it, and there is at least one
-own-all : (name : List ℕ) (cells : List (List ℕ × Number)) → Each (λ e. e ≡ (name, tt)) (flat_map own_column (map (to_cell name) cells))
+own-all : (name : List ℕ) (cells : List (List ℕ × Number)) →
+    Each (λ e. e ≡ (name, tt)) (flat_map own_column (map (to_cell name) cells))
 own-all name [] = tt
 own-all name (cell ∷ cells) = (refl, own-all name cells)
 
 abbrev names_of_cells : Listing → List ℕ × Column → List (List ℕ × Unit {0})
 names_of_cells m column = flat_map own_column (cells_in m column)
 
-pub columns-parted : (m : Listing) (p : List ℕ × Column → Bool) (columns : List (List ℕ × Column)) → is_sorted bytes_cmp columns ≡ true
-    → puts bytes_cmp (from_cells own_column m (filter p columns) ++ from_cells own_column m (filter (λ column. not (p column)) columns)) []
-    ≡ map named columns
+pub columns-parted : (m : Listing) (p : List ℕ × Column → Bool) (columns : List (List ℕ × Column)) →
+    is_sorted bytes_cmp columns ≡ true →
+    puts bytes_cmp (from_cells own_column m (filter p columns) ++ from_cells own_column m
+    (filter (λ column. not (p column)) columns)) [] ≡ map named columns
 columns-parted m p columns h = parted-give bytes_cmp bytes_total tied_names named (names_of_cells m) p columns
     (T_from _ (names_sorted _ columns h))
     (Each-all _ (λ column. (grind (arith, find-front, bytes_total, tied_names, own_column, to_cell))) columns)
@@ -499,8 +538,9 @@ plain-only m columns h = ap (λ es. puts bytes_cmp es []) (one-part _ columns) �
 pub marked-at : (m : Listing) → IsSoundListing m → (q : List ℕ) (column : Column) → at_name m.columns q ≡ Some column
     → has_name (drafted m).marked q ≡ has_integer_kind column
 marked-at m h q column is = ap (λ es. has_name es q) (marked-drafted m h) ∙ ap is_some (at-mapped _ q _)
-    ∙ ap (λ o. is_some (then_stated (λ _. Some tt) o)) (find-kept bytes_cmp bytes_total tied_names (λ c. has_integer_kind c) q m.columns
-    h.columns_sorted ∙ ap (then_stated (λ c. cond (has_integer_kind c) (Some c) None)) is) ∙ by (has_integer_kind column)
+    ∙ ap (λ o. is_some (then_stated (λ _. Some tt) o))
+    (find-kept bytes_cmp bytes_total tied_names (λ c. has_integer_kind c) q m.columns h.columns_sorted
+    ∙ ap (then_stated (λ c. cond (has_integer_kind c) (Some c) None)) is) ∙ by (has_integer_kind column)
   where
     by : (b : Bool) → is_some (then_stated {V = Unit {0}} (λ _. Some tt) (cond b (Some column) None)) ≡ b
     by true = refl
@@ -537,7 +577,8 @@ place_at row column = record { row = row; column = column }
 
 -- the value printed for a key is that of the listing, or 0 if it has none
 abbrev pub IsTrueCell : List (CoefficientKey × Number) → List ℕ → List ℕ × Number → Type 0
-IsTrueCell coefficients column cell = find key_cmp (place_at cell.0 column) coefficients ≡ cond (is_kept cell.1) (Some cell.1) None
+IsTrueCell coefficients column cell =
+    find key_cmp (place_at cell.0 column) coefficients ≡ cond (is_kept cell.1) (Some cell.1) None
 
 abbrev AllKept : List (CoefficientKey × Number) → Type 0
 AllKept coefficients = (key : CoefficientKey) (value : Number) → find key_cmp key coefficients ≡ Some value → is_kept value ≡ true
@@ -552,7 +593,8 @@ abbrev IsTrueEntry : List (CoefficientKey × Number) → CoefficientKey × Numbe
 IsTrueEntry coefficients entry = find key_cmp entry.0 coefficients ≡ cond (is_kept entry.1) (Some entry.1) None
 
 entries-true : (coefficients : List (CoefficientKey × Number)) (column : List ℕ) (cells : List (List ℕ × Number))
-    → Each (IsTrueCell coefficients column) cells → Each (IsTrueEntry coefficients) (flat_map own_coefficient (map (to_cell column) cells))
+    → Each (IsTrueCell coefficients column) cells →
+    Each (IsTrueEntry coefficients) (flat_map own_coefficient (map (to_cell column) cells))
 entries-true coefficients column [] h = tt
 entries-true coefficients column (cell ∷ cells) h = (h.0, entries-true coefficients column cells h.1)
 
@@ -568,18 +610,23 @@ SomeAt key es = is_some (find key_cmp key es) ≡ true
 
 row-hit : (coefficients : List (CoefficientKey × Number)) (row column : List ℕ) (value : Number)
     → find key_cmp (place_at row column) coefficients ≡ Some value → (rows : List (List ℕ)) → is_one_of rows row ≡ true
-    → SomeAt (place_at row column) (flat_map own_coefficient (map (to_cell column) (filter_map (cell_at coefficients column) rows)))
+    → SomeAt (place_at row column)
+    (flat_map own_coefficient (map (to_cell column) (filter_map (cell_at coefficients column) rows)))
 row-hit coefficients row column value is [] h = cc
-row-hit coefficients row column value is (x ∷ rows) h = by (same_bytes row x) refl h (find key_cmp (place_at x column) coefficients) refl
+row-hit coefficients row column value is (x ∷ rows) h =
+    by (same_bytes row x) refl h (find key_cmp (place_at x column) coefficients) refl
     (λ later. row-hit coefficients row column value is rows later)
   where
     nothing : ◌≡◌ {A = Option Number} None (Some value) → ⊥
     nothing e = cc
 
-    by : (b : Bool) → same_bytes row x ≡ b → (b || is_one_of rows row) ≡ true → (o : Option Number) → find key_cmp (place_at x column)
-        coefficients ≡ o → (is_one_of rows row ≡ true → SomeAt (place_at row column) (flat_map own_coefficient
-        (map (to_cell column) (filter_map (cell_at coefficients column) rows)))) → SomeAt (place_at row column) (flat_map own_coefficient
-        (map (to_cell column) (cons_option (option_map (λ (d : Number). (x, d)) o) (filter_map (cell_at coefficients column) rows))))
+    by : (b : Bool) → same_bytes row x ≡ b → (b || is_one_of rows row) ≡ true → (o : Option Number) →
+        find key_cmp (place_at x column) coefficients ≡ o →
+        (is_one_of rows row ≡ true → SomeAt (place_at row column)
+        (flat_map own_coefficient (map (to_cell column) (filter_map (cell_at coefficients column) rows)))) →
+        SomeAt (place_at row column) (flat_map own_coefficient
+        (map (to_cell column) (cons_option (option_map (λ (d : Number). (x, d)) o)
+        (filter_map (cell_at coefficients column) rows))))
     by true e k None at more =
         absurd (nothing (sym at ∙ ap (λ n. find key_cmp (place_at n column) coefficients) (sym (same_name row x e)) ∙ is))
     by true e k (Some d) at more = let rest =
@@ -609,24 +656,31 @@ module _ (m : Listing) (h : IsSoundListing m) where
   hit key value is column e = let named : key.column ≡ column.0 = same_name key.column column.0 e in
       let here : find key_cmp (place_at key.row column.0) m.coefficients ≡ Some value =
       ap (λ n. find key_cmp (place_at key.row n) m.coefficients) (sym named) ∙ is in
-      let names = is_one_of (names_in m.columns) key.column in let rows = is_one_of (m.objective ∷ names_in m.rows) key.row in
-      let there : rows ≡ true = second_so names _ (second_so (is_kept value) _ (second_so (is_decimal value) _ (sound-at key value is))) in
+      let names = is_one_of (names_in m.columns) key.column in
+      let rows = is_one_of (m.objective ∷ names_in m.rows) key.row in
+      let there : rows ≡ true = second_so names _
+      (second_so (is_kept value) _ (second_so (is_decimal value) _ (sound-at key value is))) in
       ap (λ n. is_some (find key_cmp (place_at key.row n) (flat_map own_coefficient (cells_in m column)))) named
       ∙ grind (arith, (row-hit m.coefficients key.row column.0 value here (m.objective ∷ map (λ row. row.0) m.rows) there))
 
   each-line_text : (key : CoefficientKey) → SomeAt key m.coefficients → SomeAt key (from_cells own_coefficient m
-      (filter is_plain_column m.columns) ++ from_cells own_coefficient m (filter (λ column. not (is_plain_column column)) m.columns))
-  each-line_text key some = let found = value_in _ some in let names = is_one_of (names_in m.columns) key.column in
-      let rows = is_one_of (m.objective ∷ names_in m.rows) key.row in let sound = sound-at key found.0 found.1 in
+      (filter is_plain_column m.columns) ++ from_cells own_coefficient m
+      (filter (λ column. not (is_plain_column column)) m.columns))
+  each-line_text key some = let found = value_in _ some in
+      let names = is_one_of (names_in m.columns) key.column in
+      let rows = is_one_of (m.objective ∷ names_in m.rows) key.row in
+      let sound = sound-at key found.0 found.1 in
       let there : names ≡ true = first_so _ _ (second_so _ _ (second_so _ _ sound)) in
-      join-some key _ _ (found-either key_cmp key_total same_key _ is_plain_column (λ column. same_bytes key.column column.0) key m.columns
-      (sym (any-name key.column m.columns) ∙ there) (hit key found.0 found.1))
+      join-some key _ _ (found-either key_cmp key_total same_key _ is_plain_column
+      (λ column. same_bytes key.column column.0) key m.columns (sym (any-name key.column m.columns) ∙ there)
+      (hit key found.0 found.1))
 
   -- The coefficients that are declared, without zeros, are those of the listing.
   pub coefficients-kept : filter (λ entry. not (is_zero entry.1)) (drafted m).coefficients ≡ m.coefficients
   coefficients-kept = let plain = from_cells own_coefficient m (filter is_plain_column m.columns) in
       let others = from_cells own_coefficient m (filter (λ column. not (is_plain_column column)) m.columns) in
       ap (filter (λ entry. not (is_zero entry.1))) (coefficients-all (listed_decl m) empty_draft ∙ ap (λ es. puts key_cmp es [])
-      (coefficients-part m ∙ ap (λ cs. plain ++ from_cells own_coefficient m cs) (sym (filter-not_not is_integer_column m.columns))))
-      ∙ puts-kept key_cmp key_total same_key is_kept m.coefficients (plain ++ others) h.coefficients_sorted
+      (coefficients-part m ∙ ap (λ cs. plain ++ from_cells own_coefficient m cs)
+      (sym (filter-not_not is_integer_column m.columns)))) ∙ puts-kept key_cmp key_total same_key is_kept
+      m.coefficients (plain ++ others) h.coefficients_sorted
       (Each-append _ plain others (columns-true m all-kept _) (columns-true m all-kept _)) each-line_text

@@ -26,7 +26,9 @@ abbrev pub is_in_order : Listing → Bool
 is_in_order m = is_sorted bytes_cmp m.rows && (is_sorted bytes_cmp m.columns && is_sorted key_cmp m.coefficients)
 
 pub listing_of-model : (all : Draft) → is_in_order (listing_in all) ≡ true → listing_of (model_of all) ≡ listing_in all
-listing_of-model all h = let m = listing_in all in let more = second_so _ _ h in
+listing_of-model all h =
+    let m = listing_in all in
+    let more = second_so _ _ h in
     let rows = entries-from_sorted bytes_cmp m.rows (T_from _ (first_so _ _ h)) in
     let columns = entries-from_sorted bytes_cmp m.columns (T_from _ (first_so _ _ more)) in
     let coefficients = entries-from_sorted key_cmp m.coefficients (T_from _ (second_so _ _ more)) in
@@ -57,6 +59,7 @@ pub each-printed : (rows : List (List ℕ × List ℕ)) → map (λ row. printed
 each-printed [] h = tt
 each-printed (row ∷ rows) h =
     let here = ap (λ its. get_or its 0 (printed_of row.0)) h in (
-      line_text-from_passes row.0 row.1 (passes-from_tests row.0 (ap (λ it. it.0) here)) (ap (λ it. it.1) here) (ap (λ it. it.2) here),
+      line_text-from_passes row.0 row.1 (passes-from_tests row.0 (ap (λ it. it.0) here)) (ap (λ it. it.1) here)
+          (ap (λ it. it.2) here),
       each-printed rows (ap (drop 1) h),
     )

@@ -60,7 +60,8 @@ distinct-map {K} same make h (key ∷ keys) = grind (arith, any-map, distinct-ma
 
 pub distinct-names : {X : Type 0} (make : List ℕ → Slot) → ((a b : List ℕ) → same_slot (make a) (make b) ≡ same_bytes a b)
     → (es : List (List ℕ × X)) → is_sorted bytes_cmp es ≡ true → are_distinct same_slot (map make (names_in es)) ≡ true
-distinct-names make h es sorted = distinct-map same_bytes make h _ ∙ distinct-sorted bytes_cmp bytes_total same_bytes same_name es sorted
+distinct-names make h es sorted = distinct-map same_bytes make h _ ∙ distinct-sorted bytes_cmp bytes_total same_bytes
+    same_name es sorted
 
 pub slots-flat : (ds : Declarations) → all_slots ds ≡ flat_map slots_of ds
 slots-flat [] = refl
@@ -85,15 +86,17 @@ row-new coefficients row column [] h = refl
 row-new coefficients row column (x ∷ rows) h = let parts = nor _ _ h in
     by (find key_cmp (place_at x column) coefficients) parts.0 (row-new coefficients row column rows parts.1)
   where
-    by : (o : Option Number) → same_bytes x row ≡ false → IsNew same_slot (coefficient_slot (place_at row column)) (flat_map cell_slot
-        (map (to_cell column) (filter_map (cell_at coefficients column) rows))) → IsNew same_slot (coefficient_slot (place_at row column))
-        (flat_map cell_slot (map (to_cell column)
+    by : (o : Option Number) → same_bytes x row ≡ false →
+        IsNew same_slot (coefficient_slot (place_at row column))
+        (flat_map cell_slot (map (to_cell column) (filter_map (cell_at coefficients column) rows))) →
+        IsNew same_slot (coefficient_slot (place_at row column)) (flat_map cell_slot (map (to_cell column)
         (cons_option (option_map (λ (value : Number). (x, value)) o) (filter_map (cell_at coefficients column) rows))))
     by = grind arith
 
 -- the coefficients of a column are in different rows
-pub column-distinct : (coefficients : List (CoefficientKey × Number)) (column : List ℕ) (rows : List (List ℕ)) → are_distinct same_bytes
-    rows ≡ true → are_distinct same_slot (flat_map cell_slot (map (to_cell column) (filter_map (cell_at coefficients column) rows))) ≡ true
+pub column-distinct : (coefficients : List (CoefficientKey × Number)) (column : List ℕ) (rows : List (List ℕ)) →
+    are_distinct same_bytes rows ≡ true →
+    are_distinct same_slot (flat_map cell_slot (map (to_cell column) (filter_map (cell_at coefficients column) rows))) ≡ true
 column-distinct coefficients column [] h = refl
 column-distinct coefficients column (row ∷ rows) h = let any = list_any (λ later. same_bytes later row) rows in
     by (find key_cmp (place_at row column) coefficients) (row-new coefficients row column rows (not_so _ (first_so _ _ h)))
@@ -101,8 +104,8 @@ column-distinct coefficients column (row ∷ rows) h = let any = list_any (λ la
   where
     by : (o : Option Number) → IsNew same_slot (coefficient_slot (place_at row column))
         (flat_map cell_slot (map (to_cell column) (filter_map (cell_at coefficients column) rows))) → are_distinct same_slot
-        (flat_map cell_slot (map (to_cell column) (filter_map (cell_at coefficients column) rows))) ≡ true → are_distinct same_slot
-        (flat_map cell_slot (map (to_cell column)
+        (flat_map cell_slot (map (to_cell column) (filter_map (cell_at coefficients column) rows))) ≡ true →
+        are_distinct same_slot (flat_map cell_slot (map (to_cell column)
         (cons_option (option_map (λ (value : Number). (row, value)) o) (filter_map (cell_at coefficients column) rows)))) ≡ true
     by = grind arith
 
@@ -121,7 +124,8 @@ line_text-distinct : (column objective : List ℕ) (cells : List (List ℕ × Nu
     → are_distinct same_slot (flat_map cell_slot (map (to_cell column) (printed_coefficients objective cells))) ≡ true
 line_text-distinct = grind arith
 
-own-distinct : (m : Listing) → IsSoundListing m → (column : List ℕ × Column) → are_distinct same_slot (column_slots m column) ≡ true
+own-distinct : (m : Listing) → IsSoundListing m → (column : List ℕ × Column) →
+    are_distinct same_slot (column_slots m column) ≡ true
 own-distinct = search (rules, line_text-distinct, column-distinct, rows-distinct)
 
 -- columns of different names
@@ -132,10 +136,15 @@ AreOther (column ∷ columns) = Each (λ later. same_bytes later.0 column.0 ≡ 
 pub sorted-other : (columns : List (List ℕ × Column)) → is_sorted bytes_cmp columns ≡ true → AreOther columns
 sorted-other [] h = tt
 sorted-other (column ∷ columns) h =
-    grind (arith, later_differ, sorted-other columns (second_so (below_all bytes_cmp column.0 columns) (is_sorted bytes_cmp columns) h))
+    grind (
+      arith,
+      later_differ,
+      sorted-other columns
+          (second_so (below_all bytes_cmp column.0 columns) (is_sorted bytes_cmp columns) h),
+    )
 
-pub other-append : (xs ys : List (List ℕ × Column)) → AreOther xs → AreOther ys → Each (λ x. Each (λ y. same_bytes y.0 x.0 ≡ false) ys) xs
-    → AreOther (xs ++ ys)
+pub other-append : (xs ys : List (List ℕ × Column)) → AreOther xs → AreOther ys →
+    Each (λ x. Each (λ y. same_bytes y.0 x.0 ≡ false) ys) xs → AreOther (xs ++ ys)
 other-append [] ys h k apart = k
 other-append (x ∷ xs) ys h k apart = (Each-append _ xs ys h.0 apart.0, other-append xs ys h.1 k apart.1)
 
@@ -169,7 +178,8 @@ all-named n make h (name ∷ names) = (h name, all-named n make h names)
 abbrev pub row_slots : Listing → List Slot
 row_slots m = objective_slot ∷ map row_slot (m.objective ∷ names_in m.rows)
 
-pub rows-fill : (rows : List (List ℕ × Row)) → flat_map (made_of slots_of row_decl) (map to_row rows) ≡ map row_slot (names_in rows)
+pub rows-fill : (rows : List (List ℕ × Row)) →
+    flat_map (made_of slots_of row_decl) (map to_row rows) ≡ map row_slot (names_in rows)
 rows-fill [] = refl
 rows-fill (row ∷ rows) = grind (arith, rows-fill rows)
 
@@ -195,18 +205,23 @@ pub sides-fill : (m : Listing) → flat_map (made_of slots_of side_decl) (sides_
 sides-fill m = filled-names rhs_slot _ ∙ ap (λ sides. map rhs_slot (names_in sides)) (sides-made m)
 
 pub ranges-fill : (m : Listing)
-    → flat_map (made_of slots_of range_decl) (flat_map row_range m.rows) ≡ map range_slot (names_in (all_stated range_stated m.rows))
+    → flat_map (made_of slots_of range_decl) (flat_map row_range m.rows) ≡ map range_slot
+    (names_in (all_stated range_stated m.rows))
 ranges-fill m = filled-names range_slot _ ∙ ap (λ ranges. map range_slot (names_in ranges)) (ranges-made m.rows)
 
 -- the objective is not a row, so no row declares a right-hand side of its name
 objective-new : (m : Listing) → IsSoundListing m
     → list_any (λ later. same_bytes later m.objective) (names_in (all_stated side_stated m.rows)) ≡ false
-objective-new m h = let absent : at_name m.rows m.objective ≡ None = none_there _ (sym (one_of-names m.objective m.rows) ∙ h.no_row) in
+objective-new m h = let absent : at_name m.rows m.objective ≡ None =
+    none_there _ (sym (one_of-names m.objective m.rows) ∙ h.no_row) in
     any-turned m.objective _ ∙ one_of-names m.objective _ ∙ ap is_some
-    (find-stated bytes_cmp side_stated bytes_total tied_names m.objective m.rows h.rows_sorted ∙ ap (then_stated side_stated) absent)
+    (find-stated bytes_cmp side_stated bytes_total tied_names m.objective m.rows h.rows_sorted
+    ∙ ap (then_stated side_stated) absent)
 
-pub side_slots-distinct : (m : Listing) → IsSoundListing m → are_distinct same_slot (map rhs_slot (names_in (side_values m))) ≡ true
-side_slots-distinct m h = distinct-map same_bytes rhs_slot (λ a b. refl) (names_in (side_values m)) ∙ by (value_stated (negated m.constant))
+pub side_slots-distinct : (m : Listing) → IsSoundListing m →
+    are_distinct same_slot (map rhs_slot (names_in (side_values m))) ≡ true
+side_slots-distinct m h = distinct-map same_bytes rhs_slot (λ a b. refl) (names_in (side_values m))
+    ∙ by (value_stated (negated m.constant))
   where
     rows : are_distinct same_bytes (names_in (all_stated side_stated m.rows)) ≡ true
     rows = distinct-sorted bytes_cmp bytes_total same_bytes same_name (all_stated side_stated m.rows)
@@ -219,7 +234,8 @@ side_slots-distinct m h = distinct-map same_bytes rhs_slot (λ a b. refl) (names
 pub range_slots-distinct : (m : Listing) → IsSoundListing m
     → are_distinct same_slot (map range_slot (names_in (all_stated range_stated m.rows))) ≡ true
 range_slots-distinct m h =
-    distinct-names range_slot (λ a b. refl) (all_stated range_stated m.rows) (sorted-stated bytes_cmp range_stated m.rows h.rows_sorted)
+    distinct-names range_slot (λ a b. refl) (all_stated range_stated m.rows)
+    (sorted-stated bytes_cmp range_stated m.rows h.rows_sorted)
 
 abbrev pub bound_slots : List ℕ × Column → List Slot
 bound_slots column = flat_map (made_of slots_of bound_decl) (bounds_in column)
@@ -242,7 +258,8 @@ bounds-apart (column ∷ columns) h = (
 )
 
 -- The bounds that are declared of different columns fill different slots.
-pub bounds-distinct : (columns : List (List ℕ × Column)) → AreOther columns → are_distinct same_slot (flat_map bound_slots columns) ≡ true
+pub bounds-distinct : (columns : List (List ℕ × Column)) → AreOther columns →
+    are_distinct same_slot (flat_map bound_slots columns) ≡ true
 bounds-distinct columns other = distinct-flat_map same_slot bound_slots columns (Each-all _ (λ column. (grind arith)) columns)
     (bounds-apart columns other)
 
@@ -263,8 +280,10 @@ Sections n (section ∷ sections) = Section n section × Sections (suc n) sectio
 
 none-above : (low n : ℕ) → low < n → (sections : List (List Slot)) → Sections n sections → NoneOf low (joined sections)
 none-above low n below [] h = tt
-none-above low n below (section ∷ sections) h = Each-append _ section _ (Each-weaker (λ slot. rank slot ≡ n) (λ slot. rank slot ≡ low → ⊥)
-    (λ slot is other. omega (arith, is, other, below)) section h.0.rank) (none-above low _ (omega (arith, below)) sections h.1)
+none-above low n below (section ∷ sections) h =
+    Each-append _ section _ (Each-weaker (λ slot. rank slot ≡ n) (λ slot. rank slot ≡ low →
+    ⊥) (λ slot is other. omega (arith, is, other, below)) section h.0.rank)
+    (none-above low _ (omega (arith, below)) sections h.1)
 
 joined-once : (n : ℕ) (sections : List (List Slot)) → Sections n sections → are_distinct same_slot (joined sections) ≡ true
 joined-once n [] h = refl
@@ -287,7 +306,8 @@ parts-differ : (m : Listing) → IsSoundListing m
     → Each (λ x. Each (λ y. same_bytes y.0 x.0 ≡ false) (filter is_integer_column m.columns)) (filter is_plain_column m.columns)
 parts-differ m h = let own = own-found m.columns h.columns_sorted in
     Each-filter _ is_plain_column m.columns (Each-weaker _ _ (λ x found plain. Each-filter _ is_integer_column m.columns
-    (Each-weaker _ _ (λ y there integer. (search (rules, same_name, not_so, found, plain, there, integer))) m.columns own)) m.columns own)
+    (Each-weaker _ _ (λ y there integer. (search (rules, same_name, not_so, found, plain, there, integer))) m.columns
+    own)) m.columns own)
 
 cells-fill : (m : Listing) (marked : Bool) → ((cell : Cell) → made_of slots_of (cell_decl marked) cell ≡ cell_slot cell)
     → (columns : List (List ℕ × Column))
@@ -325,8 +345,8 @@ bounds-fill columns = flat_map-flat_map _ bounds_in columns
 -- ---- all sections
 
 abbrev sections : Listing → List (List Slot)
-sections m = sense_slots m.sense ∷ row_slots m ∷ flat_map (column_slots m) (listed_columns m) ∷ map rhs_slot (names_in (side_values m))
-    ∷ map range_slot (names_in (all_stated range_stated m.rows)) ∷ flat_map bound_slots m.columns ∷ []
+sections m = sense_slots m.sense ∷ row_slots m ∷ flat_map (column_slots m) (listed_columns m) ∷ map rhs_slot
+    (names_in (side_values m)) ∷ map range_slot (names_in (all_stated range_stated m.rows)) ∷ flat_map bound_slots m.columns ∷ []
 
 sections-once : (m : Listing) → IsSoundListing m → Sections 0 (sections m)
 sections-once m h = let rows : Section 1 (row_slots m) =
@@ -334,8 +354,10 @@ sections-once m h = let rows : Section 1 (row_slots m) =
     let side_names = names_in (side_values m) in
     let sides : Section 3 (map rhs_slot side_names) =
     record { once = side_slots-distinct m h; rank = all-named 3 rhs_slot (λ _. refl) side_names } in
-    let range_names = names_in (all_stated range_stated m.rows) in let ranges : Section 4
-    (map range_slot range_names) = record { once = range_slots-distinct m h; rank = all-named 4 range_slot (λ _. refl) range_names } in
+    let range_names = names_in (all_stated range_stated m.rows) in
+    let ranges : Section 4
+    (map range_slot range_names) =
+    record { once = range_slots-distinct m h; rank = all-named 4 range_slot (λ _. refl) range_names } in
     ((grind arith), (rows, (columns-section m h, (sides, (ranges, (bounds-section m h, tt))))))
 
 sections-fill : (m : Listing) → flat_map slots_of (listed_decl m) ≡ joined (sections m)

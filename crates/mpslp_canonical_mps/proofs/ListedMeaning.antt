@@ -57,20 +57,22 @@ groups-apart m (column ∷ columns) h = (
 abbrev IsGoodPair : List ℕ × Number → Type 0
 IsGoodPair cell = (same_bytes cell.0 marker ≡ false) × IsDecimal cell.1
 
-pairs-good : (coefficients : List (CoefficientKey × Number)) (column : List ℕ) → Each (λ e. IsDecimal e.1) coefficients → (rows : List
-    (List ℕ)) → Each (λ row. same_bytes row marker ≡ false) rows → Each IsGoodPair (filter_map (cell_at coefficients column) rows)
+pairs-good : (coefficients : List (CoefficientKey × Number)) (column : List ℕ) →
+    Each (λ e. IsDecimal e.1) coefficients → (rows : List (List ℕ)) → Each (λ row. same_bytes row marker ≡ false) rows →
+    Each IsGoodPair (filter_map (cell_at coefficients column) rows)
 pairs-good coefficients column h [] names = tt
 pairs-good coefficients column h (row ∷ rows) names =
     by (find key_cmp (place_at row column) coefficients) refl (pairs-good coefficients column h rows names.1)
   where
     by : (o : Option Number) → find key_cmp (place_at row column) coefficients ≡ o
         → Each IsGoodPair (filter_map (cell_at coefficients column) rows)
-        → Each IsGoodPair (cons_option (option_map (λ (value : Number). (row, value)) o) (filter_map (cell_at coefficients column) rows))
+        → Each IsGoodPair (cons_option (option_map (λ (value : Number). (row, value)) o)
+        (filter_map (cell_at coefficients column) rows))
     by None is more = more
     by (Some d) is more = ((names.0, found-each key_cmp key_total same_key _ coefficients h (place_at row column) d is), more)
 
-line_text-good : (objective : List ℕ) (cells : List (List ℕ × Number)) → same_bytes objective marker ≡ false → Each IsGoodPair cells
-    → Each IsGoodPair (printed_coefficients objective cells)
+line_text-good : (objective : List ℕ) (cells : List (List ℕ × Number)) → same_bytes objective marker ≡ false →
+    Each IsGoodPair cells → Each IsGoodPair (printed_coefficients objective cells)
 line_text-good = grind arith
 
 cells-good : (m : Listing) → IsSoundListing m → (column : List ℕ × Column) → is_sound_column column ≡ true
@@ -84,15 +86,17 @@ cells-good m h column sound =
     let pairs = line_text-good m.objective _ (no_marker m.objective h.objective)
     (pairs-good m.coefficients column.0 values (m.objective ∷ map (λ row. row.0) m.rows) names) in
     Each-map GoodCell _ _
-    (Each-weaker IsGoodPair _ (λ cell k. record { name = column_named column sound; row = k.0; text = number-text cell.1 k.1 }) _ pairs)
+    (Each-weaker IsGoodPair _ (λ cell k. record
+    { name = column_named column sound; row = k.0; text = number-text cell.1 k.1 }) _ pairs)
 
-pub kept_sound : (p : List ℕ × Column → Bool) (columns : List (List ℕ × Column)) → Each (λ column. is_sound_column column ≡ true) columns
-    → Each (λ column. is_sound_column column ≡ true) (filter p columns)
+pub kept_sound : (p : List ℕ × Column → Bool) (columns : List (List ℕ × Column)) →
+    Each (λ column. is_sound_column column ≡ true) columns → Each (λ column. is_sound_column column ≡ true) (filter p columns)
 kept_sound p columns h = Each-filter _ p columns (Each-weaker _ _ (λ column k _. k) columns h)
 
 pub groups-cells : (m : Listing) → IsSoundListing m → (columns : List (List ℕ × Column))
     → Each (λ column. is_sound_column column ≡ true) columns → Each GoodCell (cells_of (map (group_in m) columns))
-groups-cells m h columns sound = Each-flat_map GoodCell _ _ (Each-map _ _ columns (Each-weaker _ _ (cells-good m h) columns sound))
+groups-cells m h columns sound =
+    Each-flat_map GoodCell _ _ (Each-map _ _ columns (Each-weaker _ _ (cells-good m h) columns sound))
 
 -- no column is declared before COLUMNS
 abbrev KeepsColumns : Declaration → Type 0
@@ -108,28 +112,34 @@ no-columns m = kept-all (λ all. all.columns) _ (Each-flat_map KeepsColumns row_
     at_start Maximize = refl
 
 -- the lines of columns declare these columns
-after-columns : (m : Listing) (columns : List (List ℕ × Column)) (all : Draft) → all.columns ≡ [] → is_sorted bytes_cmp columns ≡ true
-    → (with_declarations all (flat_map (cell_decl false) (cells_of (map (group_in m) columns)))).columns ≡ map named columns
+after-columns : (m : Listing) (columns : List (List ℕ × Column)) (all : Draft) → all.columns ≡ [] →
+    is_sorted bytes_cmp columns ≡ true →
+    (with_declarations all (flat_map (cell_decl false) (cells_of (map (group_in m) columns)))).columns ≡ map named columns
 after-columns m columns all none h = let cells = cells_of (map (group_in m) columns) in
-    let made : flat_map column_part (flat_map (cell_decl false) cells) ≡ from_cells own_column m columns = flat_map-flat_map column_part
-    (cell_decl false) cells ∙ cells-made own_column m columns in columns-all (flat_map (cell_decl false) cells) all ∙ ap (λ es. puts
-    bytes_cmp es all.columns) made ∙ ap (λ base. puts bytes_cmp (from_cells own_column m columns) base) none ∙ plain-only m columns h
+    let made : flat_map column_part (flat_map (cell_decl false) cells) ≡ from_cells own_column m columns =
+    flat_map-flat_map column_part (cell_decl false) cells ∙ cells-made own_column m columns in
+    columns-all (flat_map (cell_decl false) cells) all ∙ ap (λ es. puts bytes_cmp es all.columns) made
+    ∙ ap (λ base. puts bytes_cmp (from_cells own_column m columns) base) none ∙ plain-only m columns h
 
 integer-absent : (m : Listing) → IsSoundListing m → (column : List ℕ × Column) → at_name m.columns column.0 ≡ Some column.1
     → is_integer_column column ≡ true → has_name (map named (filter is_plain_column m.columns)) column.0 ≡ false
-integer-absent m h column is integer = ap is_some (at-mapped _ column.0 _) ∙ ap (λ o. is_some (then_stated {V = Unit {0}} (λ _. Some tt) o))
+integer-absent m h column is integer =
+    ap is_some (at-mapped _ column.0 _) ∙ ap (λ o. is_some (then_stated {V = Unit {0}} (λ _. Some tt) o))
     (find-kept bytes_cmp bytes_total tied_names (λ c. not (has_integer_kind c)) column.0 m.columns h.columns_sorted
-    ∙ ap (then_stated (λ c. cond (not (has_integer_kind c)) (Some c) None)) is ∙ ap (λ b. cond (not b) (Some column.1) None) integer)
+    ∙ ap (then_stated (λ c. cond (not (has_integer_kind c)) (Some c) None)) is
+    ∙ ap (λ b. cond (not b) (Some column.1) None) integer)
 
 integers-absent : (m : Listing) → IsSoundListing m → (all : Draft) → all.columns ≡ map named (filter is_plain_column m.columns)
     → AreAbsent all (map (group_in m) (filter is_integer_column m.columns))
 integers-absent m h all are = Each-map _ _ _ (Each-filter _ is_integer_column m.columns (Each-weaker _ _ (λ column is integer. ap
     (λ es. has_name es column.0) are ∙ integer-absent m h column is integer) m.columns (own-found m.columns h.columns_sorted)))
 
-none-there : (m : Listing) (all : Draft) → all.columns ≡ [] → (columns : List (List ℕ × Column)) → AreAbsent all (map (group_in m) columns)
+none-there : (m : Listing) (all : Draft) → all.columns ≡ [] → (columns : List (List ℕ × Column)) →
+    AreAbsent all (map (group_in m) columns)
 none-there m all none columns = Each-map _ _ columns (Each-all _ (λ column. ap (λ es. has_name es column.0) none) columns)
 
-pub are-columns : (m : Listing) → IsSoundListing m → AreColumns (whole_of m).plain (whole_of m).integers (draft_at_columns (whole_of m))
+pub are-columns : (m : Listing) → IsSoundListing m →
+    AreColumns (whole_of m).plain (whole_of m).integers (draft_at_columns (whole_of m))
 are-columns m h =
     let plain = filter is_plain_column m.columns in
     let integers = filter is_integer_column m.columns in
@@ -151,13 +161,16 @@ are-columns m h =
 
 reads-side : (row : List ℕ) (value : Number) → IsDecimal value → Each ReadsAs (side_unless_zero row value)
 reads-side row value d =
-    elim (is_zero value) as (λ b. Each ReadsAs (cond b [] (to_side row value ∷ []))) [ true ↦ tt | false ↦ (number-text value d, tt) ]
+    elim (is_zero value) as (λ b. Each ReadsAs (cond b [] (to_side row value ∷ [])))
+    [ true ↦ tt | false ↦ (number-text value d, tt) ]
 
 reads-sides : (m : Listing) → IsSoundListing m → Each ReadsAs (sides_in m)
 reads-sides m h = Each-append ReadsAs (side_unless_zero m.objective (negated m.constant)) (flat_map row_side m.rows)
     (reads-side m.objective (negated m.constant) (negated-decimal m.constant h.constant))
-    (Each-flat_map ReadsAs row_side m.rows (Each-weaker (λ row. is_sound_row row ≡ true) (λ row. Each ReadsAs (row_side row)) (λ row k.
-    reads-side row.0 (printed_rhs row.1.lower row.1.upper) (side-decimal row.1.lower row.1.upper (row_sides row k))) m.rows h.rows))
+    (Each-flat_map ReadsAs row_side m.rows
+    (Each-weaker (λ row. is_sound_row row ≡ true) (λ row. Each ReadsAs (row_side row)) (λ row k.
+    reads-side row.0 (printed_rhs row.1.lower row.1.upper) (side-decimal row.1.lower row.1.upper (row_sides row k)))
+    m.rows h.rows))
 
 reads-ranges : (m : Listing) → IsSoundListing m → Each ReadsAs (flat_map row_range m.rows)
 reads-ranges m h = Each-flat_map ReadsAs row_range m.rows (Each-weaker _ _ one m.rows h.rows)
@@ -176,10 +189,12 @@ KeepsRows d = (all : Draft) → (with_declaration all d).rows ≡ all.rows
 
 columns-keep : (plain integers : List Cell) (all : Draft)
     → (with_declarations all (flat_map (cell_decl false) plain ++ flat_map (cell_decl true) integers)).rows ≡ all.rows
-columns-keep plain integers all = kept-all (λ d. d.rows) _ (Each-append KeepsRows _ _ (Each-flat_map KeepsRows (cell_decl false) plain
+columns-keep plain integers all =
+    kept-all (λ d. d.rows) _ (Each-append KeepsRows _ _ (Each-flat_map KeepsRows (cell_decl false) plain
     (Each-all (λ cell. Each KeepsRows (cell_decl false cell)) (λ cell. (λ _. refl, (λ _. refl, tt))) plain))
     (Each-flat_map KeepsRows (cell_decl true)
-    integers (Each-all (λ cell. Each KeepsRows (cell_decl true cell)) (λ cell. (λ _. refl, (λ _. refl, (λ _. refl, tt)))) integers))) all
+    integers (Each-all (λ cell. Each KeepsRows (cell_decl true cell))
+    (λ cell. (λ _. refl, (λ _. refl, (λ _. refl, tt)))) integers))) all
 
 rows-at-sides : (m : Listing) → IsSoundListing m → (draft_at_sides (whole_of m)).rows ≡ row_forms m.rows
 rows-at-sides m h = columns-keep (cells_of (whole_of m).plain) (cells_of (whole_of m).integers) (draft_at_columns (whole_of m))
@@ -189,7 +204,8 @@ rows-at-sides m h = columns-keep (cells_of (whole_of m).plain) (cells_of (whole_
 abbrev is_free_in : Option Row → Bool
 is_free_in o = option_map_or is_free_definition (then_stated (λ row. Some (form_stated row)) o) false
 
-free-at : (m : Listing) → IsSoundListing m → (q : List ℕ) → is_free_row (draft_at_sides (whole_of m)) q ≡ is_free_in (at_name m.rows q)
+free-at : (m : Listing) → IsSoundListing m → (q : List ℕ) →
+    is_free_row (draft_at_sides (whole_of m)) q ≡ is_free_in (at_name m.rows q)
 free-at m h q = ap (λ es. option_map_or is_free_definition (at_name es q) false) (rows-at-sides m h)
     ∙ ap (λ o. option_map_or is_free_definition o false) (at-mapped form_stated q m.rows)
 
@@ -205,13 +221,15 @@ IsBoundIn m side = is_free_row (draft_at_sides (whole_of m)) side.row ≡ false
 
 sides-bound : (m : Listing) → IsSoundListing m
     → Each (λ (side : Side). is_free_row (draft_at_sides (whole_of m)) side.row ≡ false) (sides_in m)
-sides-bound m h = Each-append _ _ _ mine (Each-flat_map _ row_side m.rows (Each-weaker _ _ one m.rows (own-found m.rows h.rows_sorted)))
+sides-bound m h = Each-append _ _ _ mine
+    (Each-flat_map _ row_side m.rows (Each-weaker _ _ one m.rows (own-found m.rows h.rows_sorted)))
   where
     mine : Each (IsBoundIn m) (side_unless_zero m.objective (negated m.constant))
-    mine = elim (is_zero (negated m.constant)) as (λ b. Each (IsBoundIn m) (cond b [] (to_side m.objective (negated m.constant) ∷ []))) [
-      | true ↦ tt
-      | false ↦ (free-at m h m.objective ∙ ap is_free_in (objective-no-row m h), tt)
-    ]
+    mine = elim (is_zero (negated m.constant)) as
+        (λ b. Each (IsBoundIn m) (cond b [] (to_side m.objective (negated m.constant) ∷ []))) [
+          | true ↦ tt
+          | false ↦ (free-at m h m.objective ∙ ap is_free_in (objective-no-row m h), tt)
+        ]
 
     one : (row : List ℕ × Row) → at_name m.rows row.0 ≡ Some row.1 → Each (IsBoundIn m) (row_side row)
     one row is = by (is_zero (printed_rhs row.1.lower row.1.upper)) refl
@@ -242,7 +260,8 @@ bounds-good : (m : Listing) → IsSoundListing m → Each GoodBound (flat_map bo
 bounds-good m h = Each-flat_map GoodBound bounds_in m.columns (Each-weaker _ _ one m.columns h.columns)
   where
     one : (column : List ℕ × Column) → is_sound_column column ≡ true → Each GoodBound (bounds_in column)
-    one column k = let sides = column_sides column k in let line_text = printed_bounds column.1.kind column.1.lower column.1.upper in
+    one column k = let sides = column_sides column k in
+        let line_text = printed_bounds column.1.kind column.1.lower column.1.upper in
         Each-map GoodBound _ line_text (Each-weaker IsBounded _ (good-bound column.0) line_text
         (grind (arith, lower_of column.1.lower column.1.upper sides, upper_of column.1.lower column.1.upper sides)))
 
@@ -271,7 +290,8 @@ pub record EachKind (P : Declaration → Type 0) (objective : List ℕ) : Type 0
   pub of_upper : (x : List ℕ) (l : Limit) → P (declare_upper x l)
   pub of_semi : (x : List ℕ) → P (declare_semi x)
 
-pub each-kind : (P : Declaration → Type 0) (w : Whole) → Each P (sense_decl w.sense) → EachKind P w.objective → Each P (whole_decl w)
+pub each-kind : (P : Declaration → Type 0) (w : Whole) → Each P (sense_decl w.sense) → EachKind P w.objective →
+    Each P (whole_decl w)
 each-kind P w sense h = each-whole P w (record {
   sense = sense;
   objective = h.of_objective;
@@ -363,8 +383,8 @@ other-name m h row is = by (eq_by_cmp bytes_cmp row.0 m.objective) refl
         ∙ ap (at_name m.rows) (sym (tied_names row.0 m.objective (equal_from _ e))) ∙ is))
     by false e = refl
 
-pub side-back : (m : Listing) → IsSoundListing m → (row : List ℕ × Row) → is_sound_row row ≡ true → at_name m.rows row.0 ≡ Some row.1
-    → rhs_or_zero (drafted m) row.0 ≡ printed_rhs row.1.lower row.1.upper
+pub side-back : (m : Listing) → IsSoundListing m → (row : List ℕ × Row) → is_sound_row row ≡ true →
+    at_name m.rows row.0 ≡ Some row.1 → rhs_or_zero (drafted m) row.0 ≡ printed_rhs row.1.lower row.1.upper
 side-back = grind (
   arith,
   stated,
@@ -388,8 +408,8 @@ range-back m h row is = range-at m h row.0 ∙ ap (then_stated range_stated) is
 abbrev pub stated_row : List ℕ × Row → List ℕ × RowDefinition
 stated_row row = (row.0, form_stated row.1)
 
-pub limits-back : (m : Listing) → IsSoundListing m → (row : List ℕ × Row) → is_sound_row row ≡ true → at_name m.rows row.0 ≡ Some row.1
-    → row_limits (drafted m) (stated_row row) ≡ Some row.1
+pub limits-back : (m : Listing) → IsSoundListing m → (row : List ℕ × Row) → is_sound_row row ≡ true →
+    at_name m.rows row.0 ≡ Some row.1 → row_limits (drafted m) (stated_row row) ≡ Some row.1
 limits-back = grind (arith, form_stated, side-back, range-back, row_back, row_sides, row_distance)
 
 entry-back : (m : Listing) → IsSoundListing m → (row : List ℕ × Row) → is_sound_row row ≡ true → at_name m.rows row.0 ≡ Some row.1
@@ -408,7 +428,8 @@ own-rows m h = Each-both _ _ _ (λ row k is. (k, is)) m.rows h.rows (own-found m
 
 pub rows-back : (m : Listing) → IsSoundListing m → map (row_entry (drafted m)) (drafted m).rows ≡ m.rows
 rows-back m h = ap (map (row_entry (drafted m))) (rows-drafted m h)
-    ∙ each-back stated_row (row_entry (drafted m)) m.rows (Each-weaker _ _ (λ row k. entry-back m h row k.0 k.1) m.rows (own-rows m h))
+    ∙ each-back stated_row (row_entry (drafted m)) m.rows
+    (Each-weaker _ _ (λ row k. entry-back m h row k.0 k.1) m.rows (own-rows m h))
 
 -- ---- columns
 
@@ -426,8 +447,12 @@ finite-upper u b h e = bounded_so b (sym (ap is_upper_side e) ∙ h)
 
 pub bounds-back : (m : Listing) → IsSoundListing m → (column : List ℕ × Column) → IsOwnColumn m column
     → column_of (drafted m) column.0 ≡ column.1
-bounds-back m h column k = let l = column.1.lower in let u = column.1.upper in let sides = column_sides column k.0 in
-    let lower_side = lower_of l u sides in let upper_side = upper_of l u sides in column_back have_same_value (drafted m) column.0 column.1
+bounds-back m h column k =
+    let l = column.1.lower in
+    let u = column.1.upper in
+    let sides = column_sides column k.0 in
+    let lower_side = lower_of l u sides in
+    let upper_side = upper_of l u sides in column_back have_same_value (drafted m) column.0 column.1
     (lower-at m h column.0 ∙ ap (then_stated column_lower) k.1) (upper-at m h column.0 ∙ ap (then_stated column_upper) k.1)
     (marked-at m h column.0 column.1 k.1) (ap (λ (es : List (List ℕ × Unit {0})). has_name es column.0) (integers-drafted m))
     (ap (λ (es : List (List ℕ × Unit {0})). has_name es column.0) (binaries-drafted m))
@@ -495,13 +520,13 @@ Known m d = is_known (drafted m) d ≡ true
 abbrev KnownCell : Listing → Cell → Type 0
 KnownCell m cell = (has_row (drafted m) cell.row ≡ true) × (has_column (drafted m) cell.column ≡ true)
 
-rows-of-cells : (P : List ℕ → Type 0) (coefficients : List (CoefficientKey × Number)) (column : List ℕ) (rows : List (List ℕ)) → Each P rows
-    → Each (λ cell. P cell.0) (filter_map (cell_at coefficients column) rows)
+rows-of-cells : (P : List ℕ → Type 0) (coefficients : List (CoefficientKey × Number)) (column : List ℕ)
+    (rows : List (List ℕ)) → Each P rows → Each (λ cell. P cell.0) (filter_map (cell_at coefficients column) rows)
 rows-of-cells P coefficients column [] h = tt
 rows-of-cells P coefficients column (row ∷ rows) h = grind (arith, place_at, rows-of-cells P coefficients column rows h.1)
 
-line_text-rows : (P : List ℕ → Type 0) (objective : List ℕ) (cells : List (List ℕ × Number)) → P objective → Each (λ cell. P cell.0) cells
-    → Each (λ cell. P cell.0) (printed_coefficients objective cells)
+line_text-rows : (P : List ℕ → Type 0) (objective : List ℕ) (cells : List (List ℕ × Number)) → P objective →
+    Each (λ cell. P cell.0) cells → Each (λ cell. P cell.0) (printed_coefficients objective cells)
 line_text-rows = grind arith
 
 known-cells : (m : Listing) → IsSoundListing m → (column : List ℕ × Column) → at_name m.columns column.0 ≡ Some column.1
@@ -510,7 +535,8 @@ known-cells m h column is =
     let rows = line_text-rows _ m.objective _ (grind (arith, or_left, drafted, objective-drafted, itself_named))
     (rows-of-cells (λ n. has_row (drafted m) n ≡ true) m.coefficients column.0 (m.objective ∷ map (λ row. row.0) m.rows) (
       (grind (arith, or_left, drafted, objective-drafted, itself_named)),
-      Each-map _ _ m.rows (Each-weaker _ _ (λ row k. (grind (arith, or_right, drafted, row-at, then_stated, form_stated, h, k.1))) m.rows
+      Each-map _ _ m.rows (Each-weaker _ _
+          (λ row k. (grind (arith, or_right, drafted, row-at, then_stated, form_stated, h, k.1))) m.rows
           (own-rows m h)),
     )) in
     Each-map _ _ _
@@ -519,7 +545,8 @@ known-cells m h column is =
 known-groups : (m : Listing) → IsSoundListing m → (p : List ℕ × Column → Bool)
     → Each (KnownCell m) (cells_of (map (group_in m) (filter p m.columns)))
 known-groups m h p = Each-flat_map _ _ _
-    (Each-map _ _ _ (Each-filter _ p m.columns (Each-weaker _ _ (λ column k _. known-cells m h column k.1) m.columns (own-columns m h))))
+    (Each-map _ _ _ (Each-filter _ p m.columns (Each-weaker _ _ (λ column k _. known-cells m h column k.1) m.columns
+    (own-columns m h))))
 
 known-coefficient : (m : Listing) (cell : Cell) → KnownCell m cell
     → (has_row (drafted m) cell.row && has_column (drafted m) cell.column) ≡ true
@@ -546,7 +573,8 @@ all-known m h = list_all-from_Each (is_known (drafted m)) (listed_decl m) (each-
   plain = Each-weaker (KnownCell m) (λ (cell : Cell). Each (Known m) (cell_decl false cell))
       (λ cell k. (refl, (known-coefficient m cell k, tt))) (cells_of (whole_of m).plain) (known-groups m h is_plain_column);
   integers = Each-weaker (KnownCell m) (λ (cell : Cell). Each (Known m) (cell_decl true cell))
-      (λ cell k. (refl, (k.1, (known-coefficient m cell k, tt)))) (cells_of (whole_of m).integers) (known-groups m h is_integer_column);
+      (λ cell k. (refl, (k.1, (known-coefficient m cell k, tt)))) (cells_of (whole_of m).integers)
+      (known-groups m h is_integer_column);
   sides = Each-append (λ (side : Side). Each (Known m) (side_decl side)) (side_unless_zero m.objective (negated m.constant))
       (flat_map row_side m.rows) (known-side m m.objective (negated m.constant) (grind (
         arith,
@@ -559,12 +587,13 @@ all-known m h = list_all-from_Each (is_known (drafted m)) (listed_decl m) (each-
       (λ row k. known-side m row.0 (printed_rhs row.1.lower row.1.upper)
       (grind (arith, or_right, drafted, row-at, then_stated, form_stated, h, k.1))) m.rows (own-rows m h)));
   ranges = Each-flat_map (λ (side : Side). Each (Known m) (range_decl side)) row_range m.rows (Each-weaker (IsOwnRow m)
-      (λ row. Each (λ (side : Side). Each (Known m) (range_decl side)) (row_range row)) (λ row k. known-range m row.0 (printed_range
-      row.1.lower row.1.upper) (grind (arith, or_right, drafted, row-at, then_stated, form_stated, h, k.1))) m.rows (own-rows m h));
+      (λ row. Each (λ (side : Side). Each (Known m) (range_decl side)) (row_range row))
+      (λ row k. known-range m row.0 (printed_range row.1.lower row.1.upper)
+      (grind (arith, or_right, drafted, row-at, then_stated, form_stated, h, k.1))) m.rows (own-rows m h));
   bounds = Each-flat_map (λ (b : Bound). Each (Known m) (bound_decl b)) bounds_in m.columns
       (Each-weaker (IsOwnColumn m) (λ column. Each (λ (b : Bound). Each (Known m) (bound_decl b)) (bounds_in column))
-      (λ column k. known-bounds m column.0 (column-there m h column k.1) (printed_bounds column.1.kind column.1.lower column.1.upper))
-      m.columns (own-columns m h));
+      (λ column k. known-bounds m column.0 (column-there m h column k.1)
+      (printed_bounds column.1.kind column.1.lower column.1.upper)) m.columns (own-columns m h));
 }))
 
 -- ---- all is allowed
@@ -587,15 +616,16 @@ no_false = grind arith
 
 allowed-range : (m : Listing) → IsSoundListing m → (row : List ℕ × Row) → IsOwnRow m row
     → Each (λ (side : Side). Each (Allowed m) (range_decl side)) (row_range row)
-allowed-range m h row k = by (printed_range row.1.lower row.1.upper) refl (range-bounded row.1.lower row.1.upper (row_distance row k.0))
+allowed-range m h row k = by (printed_range row.1.lower row.1.upper) refl
+    (range-bounded row.1.lower row.1.upper (row_distance row k.0))
   where
     not_mine : is_objective (drafted m) row.0 ≡ false
     not_mine = ap (λ o. option_map_or (same_bytes row.0) o false) (objective-drafted m) ∙ texts_ties row.0 m.objective
         ∙ other-name m h row k.1
 
     not_free : (d : Number) → printed_range row.1.lower row.1.upper ≡ Some d → is_free_row (drafted m) row.0 ≡ false
-    not_free d e = ap (λ o. option_map_or is_free_definition o false) (row-at m h row.0 ∙ ap (then_stated (λ r. Some (form_stated r))) k.1)
-        ∙ range-not_free row.1.lower row.1.upper d e
+    not_free d e = ap (λ o. option_map_or is_free_definition o false)
+        (row-at m h row.0 ∙ ap (then_stated (λ r. Some (form_stated r))) k.1) ∙ range-not_free row.1.lower row.1.upper d e
 
     by : (o : Option Number) → printed_range row.1.lower row.1.upper ≡ o → Holds (λ d. is_bounded_decimal d ≡ true) o
         → Each (λ (side : Side). Each (Allowed m) (range_decl side)) (option_map_or (λ value. to_side row.0 value ∷ []) o [])
@@ -617,7 +647,8 @@ allowed-integers : (m : Listing) → IsSoundListing m
 allowed-integers m h = Each-flat_map _ _ _
     (Each-map _ _ _ (Each-filter _ is_integer_column m.columns (Each-weaker _ _ one m.columns (own-columns m h))))
   where
-    one : (column : List ℕ × Column) → IsOwnColumn m column → is_integer_column column ≡ true → Each (AllowedCell m) (cells_in m column)
+    one : (column : List ℕ × Column) → IsOwnColumn m column → is_integer_column column ≡ true →
+        Each (AllowedCell m) (cells_in m column)
     one column k integer = let other = so_not _ (own-semi m h column k ∙ grind (arith, integer)) in
         Each-map _ _ _ (Each-all _ (λ cell. (refl, (other, (refl, tt)))) _)
 
@@ -638,7 +669,8 @@ allowed-bounds m h column k = allowed-line_text m column.0 _
   where
     by : (kind : Kind) (l u : Limit) → is_integer (drafted m) column.0
         ≡ is_integer_column ([], record { kind = kind; lower = l; upper = u }) → Each
-        (λ (b : PrintedBound). is_semi_form (form_of b.type) ≡ true → is_integer (drafted m) column.0 ≡ false) (printed_bounds kind l u)
+        (λ (b : PrintedBound). is_semi_form (form_of b.type) ≡ true →
+        is_integer (drafted m) column.0 ≡ false) (printed_bounds kind l u)
     by = grind arith
 
 pub all-allowed : (m : Listing) → IsSoundListing m → list_all (is_allowed (drafted m)) (listed_decl m) ≡ true
@@ -646,7 +678,8 @@ all-allowed m h = list_all-from_Each (is_allowed (drafted m)) (listed_decl m) (e
   sense = (grind arith);
   objective = refl;
   rows = Each-all (λ (row : RowItem). Each (Allowed m) (row_decl row)) (λ row. (refl, tt)) (whole_of m).rows;
-  plain = Each-all (λ (cell : Cell). Each (Allowed m) (cell_decl false cell)) (λ cell. (refl, (refl, tt))) (cells_of (whole_of m).plain);
+  plain = Each-all (λ (cell : Cell). Each (Allowed m) (cell_decl false cell)) (λ cell. (refl, (refl, tt)))
+      (cells_of (whole_of m).plain);
   integers = allowed-integers m h;
   sides = Each-all (λ (side : Side). Each (Allowed m) (side_decl side)) (λ side. (refl, tt)) (sides_in m);
   ranges = Each-flat_map _ row_range m.rows

@@ -18,7 +18,8 @@ pub canonical-walk : (m : LinearModel) → IsSound m
     → Walk [] empty_draft (whole_items (whole_of (listing_of m))) (listed_decl (listing_of m))
 canonical-walk m sound = whole-walk _ (good-whole _ (sound-listing m sound))
 
-pub canonical-items : (m : LinearModel) → IsSound m → map content_of (read_lines (canonical_mps m)) ≡ whole_items (whole_of (listing_of m))
+pub canonical-items : (m : LinearModel) → IsSound m →
+    map content_of (read_lines (canonical_mps m)) ≡ whole_items (whole_of (listing_of m))
 canonical-items m sound = let read : IsReadAsPrinted m = read-as-line_text m sound in ap (map content_of) read.lines ∙ read.items
     ∙ listed-items (listing_of m)
 
@@ -26,7 +27,8 @@ pub canonical-declarations : (m : LinearModel) → IsSound m → declarations_of
 canonical-declarations = grind (arith, lines-declare, canonical-items, canonical-walk)
 
 -- The canonical text of a well-formed model declares it, if its declarations are consistent.
-pub declares-if_consistent : (m : LinearModel) → IsSound m → AreConsistent (listed_decl (listing_of m)) → DeclaresMps (canonical_mps m) m
+pub declares-if_consistent : (m : LinearModel) → IsSound m → AreConsistent (listed_decl (listing_of m)) →
+    DeclaresMps (canonical_mps m) m
 declares-if_consistent m sound consistent =
     let read : IsReadAsPrinted m = read-as-line_text m sound in
     record {
@@ -34,7 +36,8 @@ declares-if_consistent m sound consistent =
           (lines-good [] empty_draft (read_lines (canonical_mps m)) (ap (list_all is_legal_line) read.lines ∙ read.legal)
           (ap (are_well_formed [] empty_draft) (canonical-items m sound) ∙ (canonical-walk m sound).good));
       means =
-          subst (λ ds. Means ds m) (sym (canonical-declarations m sound)) (record { consistent = consistent; meant = draft-means m sound });
+          subst (λ ds. Means ds m) (sym (canonical-declarations m sound))
+          (record { consistent = consistent; meant = draft-means m sound });
     }
 
 -- The canonical text of a well-formed model declares it.

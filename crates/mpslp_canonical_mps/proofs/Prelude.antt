@@ -37,7 +37,8 @@ pub use Rattle.mpslp_builder.proofs.EntryLemmas.{any-name, names_sorted, at-mapp
 pub use Rattle.mpslp_builder.proofs.DraftEntries.{same_key, coefficients-all, rows-all, rhs_values-all, ranges-all, columns-all, lowers-all}
 pub use Rattle.mpslp_builder.proofs.DraftEntries.{uppers-all, marked-all, integers-all, binaries-all, semis-all, column_part, row_part}
 pub use Rattle.mpslp_builder.proofs.DraftEntries.{rhs_part, range_part, coefficient_part, lower_part, upper_part, marked_part, binary_part}
-pub use Rattle.mpslp_builder.proofs.DraftEntries.{semi_part, key_total_sorted as key_total, bytes_total, tied_names, row_named, column_named, no_marker}
+pub use Rattle.mpslp_builder.proofs.DraftEntries.{semi_part, key_total_sorted as key_total, bytes_total, tied_names}
+pub use Rattle.mpslp_builder.proofs.DraftEntries.{row_named, column_named, no_marker}
 pub use Rattle.mpslp_builder.proofs.DraftEntries.{later_differ, row_sides, row_distance, column_sides, bounded_so, bounded_finite, lower_of}
 pub use Rattle.mpslp_builder.proofs.{DraftEntries.{upper_of, column_suited}, MadeDrafts.with_declarations-append, TableDrafts.none_there}
 pub use Rattle.mpslp_builder.specs.Consistency.{Slot, lower_slot, upper_slot, same_slot, slots_of, AreConsistent, row_slot, rhs_slot}

@@ -196,8 +196,8 @@ none-marked : (xs : List ℕ) → list_any is_exponent_mark xs ≡ false → Eac
 none-marked [] h = tt
 none-marked (x ∷ xs) h = let both = nor _ _ h in (both.0, none-marked xs both.1)
 
-exponent-visible : (text : List ℕ) → (not (list_any is_exponent_mark text) || are_digits (without_sign (exponent_part text))) ≡ true
-    → Visible (exponent_part text)
+exponent-visible : (text : List ℕ) →
+    (not (list_any is_exponent_mark text) || are_digits (without_sign (exponent_part text))) ≡ true → Visible (exponent_part text)
 exponent-visible text h =
     elim (list_any is_exponent_mark text) as (λ b. list_any is_exponent_mark text ≡ b
     → (not b || are_digits (without_sign (exponent_part text))) ≡ true → Visible (exponent_part text)) [
@@ -206,8 +206,10 @@ exponent-visible text h =
     ] refl h
 
 literal-visible : (text : List ℕ) → is_literal text ≡ true → Visible text
-literal-visible text h = let exponent : Bool = not (list_any is_exponent_mark text) || are_digits (without_sign (exponent_part text)) in
-    let digits = digits-visible _ (first_so _ _ h) in let parts = both-parts _ _ digits in
+literal-visible text h = let exponent : Bool =
+    not (list_any is_exponent_mark text) || are_digits (without_sign (exponent_part text)) in
+    let digits = digits-visible _ (first_so _ _ h) in
+    let parts = both-parts _ _ digits in
     let front = signed-visible _ (around is_point point-visible _ parts.0 parts.1) in
     around is_exponent_mark mark-visible text front (exponent-visible text (second_so _ _ h))
 
@@ -228,7 +230,12 @@ number-word d h = search (rules, number-text, literal-read, literal-some, read-s
 -- by computation
 code-word : (w : List ℕ) → nat_lt 0 (length w) ≡ true → nat_le (length w) 255 ≡ true → list_all is_visible w ≡ true → Word w
 code-word w some short visible =
-    record { some = ltb-true 0 (length w) some; short = leb-true (length w) 255 short; visible = Each-from_list_all is_visible w visible }
+    record {
+      some = ltb-true 0 (length w) some;
+      short = leb-true (length w) 255 short;
+      visible =
+          Each-from_list_all is_visible w visible;
+    }
 
 name-word : (name : List ℕ) → is_mps_name name ≡ true → Word name
 name-word name h =
@@ -259,7 +266,8 @@ each-found : {K X : Type 0} (R : K → K → Ordering) (P : X → Type 0) (k : K
 each-found R P k [] h = tt
 each-found {K} {X} R P k (e ∷ es) h = grind (arith, each-found R P k es h.1)
 
-each-filter_map : {X Y : Type 0} (P : Y → Type 0) (f : X → Option Y) (xs : List X) → Each (λ x. Holds P (f x)) xs → Each P (filter_map f xs)
+each-filter_map : {X Y : Type 0} (P : Y → Type 0) (f : X → Option Y) (xs : List X) → Each (λ x. Holds P (f x)) xs →
+    Each P (filter_map f xs)
 each-filter_map P f [] h = tt
 each-filter_map {X} {Y} P f (x ∷ xs) h = grind (arith, each-filter_map P f xs h.1)
 
@@ -280,7 +288,8 @@ row-printable = grind (arith, words, letter-word, name-word)
 objective-printable : (name : List ℕ) → is_mps_name name ≡ true → IsPrintable (objective_line name)
 objective-printable name h = words _ refl refl (code-word _ refl refl refl, (name-word name h, tt))
 
-value-printable : (set row : List ℕ) (value : Number) → Word set → Word row → IsDecimal value → IsPrintable (vector_line set row value)
+value-printable : (set row : List ℕ) (value : Number) → Word set → Word row → IsDecimal value →
+    IsPrintable (vector_line set row value)
 value-printable set row value s r v = words _ refl refl (s, (r, (number-word value v, tt)))
 
 -- a row or the objective, and a value
@@ -290,10 +299,11 @@ IsCell cell = Word cell.0 × IsDecimal cell.1
 cells-printable : (column : List ℕ) (cells : List (List ℕ × Number)) → Word column → Each IsCell cells
     → AllPrintable (map (coefficient_line column) cells)
 cells-printable column [] c h = tt
-cells-printable column (cell ∷ cells) c h = (value-printable column cell.0 cell.1 c h.0.0 h.0.1, cells-printable column cells c h.1)
+cells-printable column (cell ∷ cells) c h =
+    (value-printable column cell.0 cell.1 c h.0.0 h.0.1, cells-printable column cells c h.1)
 
-cell-found : (coefficients : List (CoefficientKey × Number)) (column row : List ℕ) → Each (λ e. IsDecimal e.1) coefficients → Word row
-    → Holds IsCell (cell_at coefficients column row)
+cell-found : (coefficients : List (CoefficientKey × Number)) (column row : List ℕ) →
+    Each (λ e. IsDecimal e.1) coefficients → Word row → Holds IsCell (cell_at coefficients column row)
 cell-found coefficients column row h w =
     by (find key_cmp (record { row = row; column = column }) coefficients) (each-found key_cmp IsDecimal _ coefficients h)
   where
@@ -323,14 +333,14 @@ column-printable m h column sound = let names : Each Word (m.objective ∷ map (
       Each-map Word (λ row. row.0) m.rows
           (Each-weaker (λ row. is_sound_row row ≡ true) (λ row. Word row.0) row-name m.rows h.rows),
     ) in
-    let found = each-filter_map IsCell (cell_at m.coefficients column.0) (m.objective ∷ map (λ row. row.0) m.rows) (Each-weaker Word
-    (λ row. Holds IsCell (cell_at m.coefficients column.0 row)) (λ row w. cell-found m.coefficients column.0 row h.coefficients w)
-    (m.objective ∷ map (λ row. row.0) m.rows) names) in
+    let found = each-filter_map IsCell (cell_at m.coefficients column.0) (m.objective ∷ map (λ row. row.0) m.rows)
+    (Each-weaker Word (λ row. Holds IsCell (cell_at m.coefficients column.0 row))
+    (λ row w. cell-found m.coefficients column.0 row h.coefficients w) (m.objective ∷ map (λ row. row.0) m.rows) names) in
     cells-printable column.0 (printed_coefficients m.objective (column_coefficients m column.0)) (column-name column sound)
     (grind (arith, name-word m.objective h.objective, found))
 
-columns-printable : (m : Listing) → IsListed m → (columns : List (List ℕ × Column)) → Each (λ column. is_sound_column column ≡ true) columns
-    → AllPrintable (flat_map (column_lines m) columns)
+columns-printable : (m : Listing) → IsListed m → (columns : List (List ℕ × Column)) →
+    Each (λ column. is_sound_column column ≡ true) columns → AllPrintable (flat_map (column_lines m) columns)
 columns-printable m h columns sound = Each-flat_map IsPrintable _ columns (Each-weaker _ _ (column-printable m h) columns sound)
 
 kept : (p : List ℕ × Column → Bool) (columns : List (List ℕ × Column)) → Each (λ column. is_sound_column column ≡ true) columns
@@ -355,7 +365,8 @@ side-printable = grind (arith, value-printable, code-word)
 
 row-side-printable : (row : List ℕ × Row) → is_sound_row row ≡ true → AllPrintable (row_rhs_lines row)
 row-side-printable row h =
-    side-printable row.0 (printed_rhs row.1.lower row.1.upper) (row-name row h) (side-decimal row.1.lower row.1.upper (row_sides row h))
+    side-printable row.0 (printed_rhs row.1.lower row.1.upper) (row-name row h)
+    (side-decimal row.1.lower row.1.upper (row_sides row h))
 
 range-printable : (row : List ℕ × Row) → is_sound_row row ≡ true → AllPrintable (range_lines row)
 range-printable = grind (arith, range-decimal, row_distance, value-printable, code-word, row-name)
@@ -373,7 +384,10 @@ bound-printable : (column : List ℕ) (bound : PrintedBound) → Word column →
 bound-printable = grind (arith, words, code-word, number-word)
 
 bounds-printable : (column : List ℕ × Column) → is_sound_column column ≡ true → AllPrintable (column_bound_lines column)
-bounds-printable column h = let lower = column.1.lower in let upper = column.1.upper in let sides = column_sides column h in
+bounds-printable column h =
+    let lower = column.1.lower in
+    let upper = column.1.upper in
+    let sides = column_sides column h in
     let both = all-bounds column.1.kind lower upper (first_so _ _ sides) (first_so _ _ (second_so _ _ sides)) in
     Each-map IsPrintable _ _ (Each-weaker IsBound _ (λ bound k. bound-printable column.0 bound (column-name column h) k) _ both)
 
@@ -402,9 +416,12 @@ columns_section-printable m h = (
 rhs_values-printable : (m : Listing) → IsListed m → AllPrintable (rhs_section m)
 rhs_values-printable m h = grind (
   arith,
-  (in-turn (rhs_lines m.objective (negated m.constant)) (flat_map row_rhs_lines m.rows) (side-printable m.objective (negated m.constant)
-      (name-word m.objective h.objective) (negated-decimal m.constant h.constant)) (Each-flat_map IsPrintable row_rhs_lines m.rows
-      (Each-weaker (λ row. is_sound_row row ≡ true) (λ row. AllPrintable (row_rhs_lines row)) row-side-printable m.rows h.rows))),
+  (in-turn (rhs_lines m.objective (negated m.constant)) (flat_map row_rhs_lines m.rows)
+      (side-printable m.objective (negated m.constant) (name-word m.objective h.objective)
+      (negated-decimal m.constant h.constant))
+      (Each-flat_map IsPrintable row_rhs_lines m.rows
+      (Each-weaker (λ row. is_sound_row row ≡ true) (λ row. AllPrintable (row_rhs_lines row))
+      row-side-printable m.rows h.rows))),
 )
 
 ranges-printable : (m : Listing) → IsListed m → AllPrintable (ranges_section m)
@@ -450,7 +467,8 @@ canonical-printable m h = listed-printable _ (listed-from_sound m h)
 
 abbrev pub lines_before_end : Listing → Lines
 lines_before_end m = header_line Name
-    ∷ (sense_lines m.sense ++ (rows_section m ++ (columns_section m ++ (rhs_section m ++ (ranges_section m ++ bounds_section m)))))
+    ∷ (sense_lines m.sense ++ (rows_section
+    m ++ (columns_section m ++ (rhs_section m ++ (ranges_section m ++ bounds_section m)))))
 
 lines-assoc : (xs ys zs : Lines) → (xs ++ ys) ++ zs ≡ xs ++ (ys ++ zs)
 lines-assoc [] ys zs = refl
@@ -496,18 +514,33 @@ bounds-go : (column : List ℕ × Column) → AllGoOn (column_bound_lines column
 bounds-go = grind arith
 
 pub before-go : (m : Listing) → AllGoOn (lines_before_end m)
-before-go = grind (arith, in-turn_read, sense-go, mapped-go, columns-go, part-go, under-goes, side-go, flat-go, range-go, bounds-go)
+before-go = grind (
+  arith,
+  in-turn_read,
+  sense-go,
+  mapped-go,
+  columns-go,
+  part-go,
+  under-goes,
+  side-go,
+  flat-go,
+  range-go,
+  bounds-go,
+)
 
 -- ---- so all lines are read
 
-all-read : (ls : Lines) (last : PrintedLine) → Each IsPrintable ls → IsPrintable last → AllGoOn ls → begins EndData (content_in last) ≡ true
-    → (take (suc (position_or_len is_end (map line_text (ls ++ last ∷ [])))) (map line_text (ls ++ last ∷ []))
+all-read : (ls : Lines) (last : PrintedLine) → Each IsPrintable ls → IsPrintable last → AllGoOn ls →
+    begins EndData (content_in last) ≡ true →
+    (take (suc (position_or_len is_end (map line_text (ls ++ last ∷ [])))) (map line_text (ls ++ last ∷ []))
     ≡ map line_text (ls ++ last ∷ [])) × (list_any is_end (map line_text (ls ++ last ∷ [])) ≡ true)
 all-read [] last h p g e = grind (arith, item-line_text)
-all-read (l ∷ ls) last h p g e = let more = all-read ls last h.1 p g.1 e in let here : is_end (line_text l) ≡ false =
+all-read (l ∷ ls) last h p g e = let more = all-read ls last h.1 p g.1 e in
+    let here : is_end (line_text l) ≡ false =
     grind (arith, item-line_text, h.0, g.0) in
     let next : (n : ℕ) → 1 + n ≡ suc n = λ n. omega arith in (
-      rw (here, next (position_or_len is_end (map line_text (ls ++ last ∷ [])))) (ap (λ (x : List (List ℕ)). line_text l ∷ x) more.0),
+      rw (here, next (position_or_len is_end (map line_text (ls ++ last ∷ []))))
+          (ap (λ (x : List (List ℕ)). line_text l ∷ x) more.0),
       rw here more.1,
     )
 

@@ -25,46 +25,56 @@ pub record Walk (before : List LineContent) (earlier : Draft) (items : List Line
 pub walk-nil : (before : List LineContent) (earlier : Draft) → Walk before earlier [] []
 walk-nil = grind arith
 
-pub walk-cons : (before : List LineContent) (earlier : Draft) (item : LineContent) (items : List LineContent) (here ds : Declarations)
-    → line_declares (context_of before) earlier item ≡ here → form_faults (context_of before) earlier item ≡ []
-    → Walk (before ++ item ∷ []) (with_declarations earlier here) items ds → Walk before earlier (item ∷ items) (here ++ ds)
+pub walk-cons : (before : List LineContent) (earlier : Draft) (item : LineContent) (items : List LineContent)
+    (here ds : Declarations) → line_declares (context_of before) earlier item ≡ here →
+    form_faults (context_of before) earlier item ≡ [] →
+    Walk (before ++ item ∷ []) (with_declarations earlier here) items ds → Walk before earlier (item ∷ items) (here ++ ds)
 walk-cons = grind arith
 
-declared_items-append : (before : List LineContent) (earlier : Draft) (xs ys : List LineContent) → declared_items before earlier (xs ++ ys)
-    ≡ declared_items before earlier xs ++ declared_items (before ++ xs) (with_declarations earlier (declared_items before earlier xs)) ys
+declared_items-append : (before : List LineContent) (earlier : Draft) (xs ys : List LineContent) →
+    declared_items before earlier (xs ++ ys) ≡ declared_items before earlier xs ++ declared_items (before ++ xs)
+    (with_declarations earlier (declared_items before earlier xs)) ys
 declared_items-append before earlier [] ys = ap (λ b. declared_items b earlier ys) (sym (append-nil before))
 declared_items-append before earlier (x ∷ xs) ys = let here = line_declares (context_of before) earlier x in
-    let next = with_declarations earlier here in let more = declared_items (before ++ x ∷ []) next xs in
-    let places = append_assoc before _ xs in ap (λ ds. here ++ ds) (declared_items-append (before ++ x ∷ []) next xs ys) ∙ (λ i. here
-    ++ (more ++ declared_items (places i) (sym (with_declarations-append here more earlier) i) ys)) ∙ sym (append_assoc here more _)
+    let next = with_declarations earlier here in
+    let more = declared_items (before ++ x ∷ []) next xs in
+    let places = append_assoc before _ xs in ap (λ ds. here ++ ds) (declared_items-append (before ++ x ∷ []) next xs ys)
+    ∙ (λ i. here ++ (more ++ declared_items (places i) (sym (with_declarations-append here more earlier) i) ys))
+    ∙ sym (append_assoc here more _)
 
 good-append : (before : List LineContent) (earlier : Draft) (xs ys : List LineContent) → are_well_formed before earlier xs ≡ true
     → are_well_formed (before ++ xs) (with_declarations earlier (declared_items before earlier xs)) ys ≡ true
     → are_well_formed before earlier (xs ++ ys) ≡ true
 good-append before earlier [] ys g h = ap (λ b. are_well_formed b earlier ys) (sym (append-nil before)) ∙ h
 good-append before earlier (x ∷ xs) ys g h = let here = line_declares (context_of before) earlier x in
-    let fine = not (is_nonempty (form_faults (context_of before) earlier x)) in let next = with_declarations earlier here in
-    let rest = are_well_formed (before ++ x ∷ []) next xs in let more = declared_items (before ++ x ∷ []) next xs in
+    let fine = not (is_nonempty (form_faults (context_of before) earlier x)) in
+    let next = with_declarations earlier here in
+    let rest = are_well_formed (before ++ x ∷ []) next xs in
+    let more = declared_items (before ++ x ∷ []) next xs in
     both_so _ _ (first_so _ _ g) (good-append (before ++ x ∷ []) next xs ys (second_so _ _ g)
     ((λ i. are_well_formed (append_assoc before (x ∷ []) xs i) (sym (with_declarations-append here more earlier) i) ys) ∙ h))
 
 pub walk-append : (before : List LineContent) (earlier : Draft) (xs ys : List LineContent) (ds es : Declarations)
-    → Walk before earlier xs ds → Walk (before ++ xs) (with_declarations earlier ds) ys es → Walk before earlier (xs ++ ys) (ds ++ es)
+    → Walk before earlier xs ds → Walk (before ++ xs) (with_declarations earlier ds) ys es →
+    Walk before earlier (xs ++ ys) (ds ++ es)
 walk-append = grind (arith, declared_items-append, declared_items, good-append, are_well_formed)
 
 -- one more item of a section, and what holds after it
-pub record Step {X : Type 0} (item : X → LineContent) (decl : X → Declarations) (Inv : List X → List LineContent → Draft → Type 0) (x : X)
+pub record Step {X : Type 0} (item : X → LineContent) (decl : X → Declarations) (Inv : List X → List LineContent →
+    Draft → Type 0) (x : X)
     (rest : List X) (before : List LineContent) (earlier : Draft) : Type 0 where
   pub says : line_declares (context_of before) earlier (item x) ≡ decl x
   pub good : form_faults (context_of before) earlier (item x) ≡ []
   pub next : Inv rest (before ++ item x ∷ []) (with_declarations earlier (decl x))
 
 -- A section each of whose items keeps what the section needs.
-pub section-walk : {X : Type 0} (item : X → LineContent) (decl : X → Declarations) (Inv : List X → List LineContent → Draft → Type 0)
-    → ((x : X) (rest : List X) (before : List LineContent) (earlier : Draft) → Inv (x ∷ rest) before earlier
-    → Step item decl Inv x rest before earlier) → (xs : List X) (before : List LineContent) (earlier : Draft) → Inv xs before earlier
-    → Walk before earlier (map item xs) (flat_map decl xs) × Inv [] (before ++ map item xs) (with_declarations earlier (flat_map decl xs))
-section-walk item decl Inv step [] before earlier h = (walk-nil before earlier, subst (λ b. Inv [] b earlier) (sym (append-nil before)) h)
+pub section-walk : {X : Type 0} (item : X → LineContent) (decl : X → Declarations) (Inv : List X → List LineContent →
+    Draft → Type 0) → ((x : X) (rest : List X) (before : List LineContent) (earlier : Draft) → Inv (x ∷ rest) before earlier
+    → Step item decl Inv x rest before earlier) → (xs : List X) (before : List LineContent) (earlier : Draft) →
+    Inv xs before earlier → Walk before earlier (map item xs) (flat_map decl xs) × Inv [] (before ++ map item xs)
+    (with_declarations earlier (flat_map decl xs))
+section-walk item decl Inv step [] before earlier h =
+    (walk-nil before earlier, subst (λ b. Inv [] b earlier) (sym (append-nil before)) h)
 section-walk item decl Inv step (x ∷ xs) before earlier h =
     let s = step x xs before earlier h in
     let more = section-walk item decl Inv step xs (before ++ item x ∷ []) (with_declarations earlier (decl x)) s.next in (
@@ -106,8 +116,8 @@ pub record InRows (rest : List RowItem) (before : List LineContent) (earlier : D
   pub objective : is_none earlier.objective ≡ false
   pub names : Each (λ (row : RowItem). is_mps_name row.0 ≡ true) rest
 
-pub row_step : (row : RowItem) (rest : List RowItem) (before : List LineContent) (earlier : Draft) → InRows (row ∷ rest) before earlier
-    → Step row_item row_decl InRows row rest before earlier
+pub row_step : (row : RowItem) (rest : List RowItem) (before : List LineContent) (earlier : Draft) →
+    InRows (row ∷ rest) before earlier → Step row_item row_decl InRows row rest before earlier
 row_step = grind (arith, stays)
 
 -- ---- right-hand sides and ranges
@@ -150,8 +160,9 @@ pub side_good : (set : List ℕ) (side : Side) (context : Context) (earlier : Dr
 side_good = grind arith
 
 -- one more line of a section
-pub lines-push : (section : Section) (fields : Fields) (before : List LineContent) (o : Option Section) → current_section before ≡ o
-    → data_lines section (before ++ data_line fields ∷ []) ≡ data_lines section before ++ fields_under section o (data_line fields)
+pub lines-push : (section : Section) (fields : Fields) (before : List LineContent) (o : Option Section) →
+    current_section before ≡ o → data_lines section (before ++ data_line fields ∷ []) ≡ data_lines section
+    before ++ fields_under section o (data_line fields)
 lines-push section fields before o s =
     data_lines-push section before _ ∙ ap (λ c. data_lines section before ++ fields_under section c (data_line fields)) s
 
@@ -161,7 +172,8 @@ side_step set side rest before earlier h =
     let fields : Fields = set ∷ side.row ∷ side.text ∷ [] in
     record {
       says = side_says set side (context_of before) earlier h.section h.texts.0 h.bound.0;
-      good = side_good set side (context_of before) earlier h.section h.texts.0 (set-good vector_set set (data_lines Rhs before) h.one_set);
+      good = side_good set side (context_of before) earlier h.section h.texts.0
+          (set-good vector_set set (data_lines Rhs before) h.one_set);
       next = record {
         section = stays Rhs fields before h.section;
         one_set = rw (lines-push Rhs fields before (Some Rhs) h.section)
@@ -255,7 +267,8 @@ pub record InBounds (set : List ℕ) (rest : List Bound) (before : List LineCont
 
 pub bound_says : (set : List ℕ) (t : BoundForm) (x text : List ℕ) (v : Number) (context : Context) (earlier : Draft)
     → context.section ≡ Some Bounds
-    → number_of text ≡ Ok v → limit_of v ≡ Finite v → line_declares context earlier (data_line (fields_at set t x text)) ≡ decl_at t x v
+    → number_of text ≡ Ok v → limit_of v ≡ Finite v →
+    line_declares context earlier (data_line (fields_at set t x text)) ≡ decl_at t x v
 bound_says = grind arith
 
 pub bound_good : (set : List ℕ) (t : BoundForm) (x text : List ℕ) (v : Number) (context : Context) (earlier : Draft)
@@ -296,7 +309,8 @@ cell_item cell = data_line (cell_fields cell)
 -- inside an integer block or outside
 abbrev pub cell_decl : Bool → Cell → Declarations
 cell_decl marked cell = declare_column cell.column
-    ∷ (when marked (declare_marked cell.column) ++ declare_coefficient (record { row = cell.row; column = cell.column }) cell.value ∷ [])
+    ∷ (when marked (declare_marked cell.column) ++ declare_coefficient (record { row = cell.row; column = cell.column })
+    cell.value ∷ [])
 
 -- a line of a declared column after a line of another one
 abbrev pub is_split_in : Option (List ℕ) → Draft → List ℕ → Bool
@@ -357,8 +371,8 @@ part_kept : (cell : Cell) (before : List LineContent) → current_section before
 part_kept cell before s h = ap opens_last (ap (filter_map marker_word) (cell_lines cell before s)
     ∙ words_kept cell (data_lines Columns before) h)
 
-column_last : (cell : Cell) (before : List LineContent) → current_section before ≡ Some Columns → same_bytes cell.row marker ≡ false
-    → last_column (before ++ cell_item cell ∷ []) ≡ Some cell.column
+column_last : (cell : Cell) (before : List LineContent) → current_section before ≡ Some Columns →
+    same_bytes cell.row marker ≡ false → last_column (before ++ cell_item cell ∷ []) ≡ Some cell.column
 column_last = grind (arith, cell_lines, last_push)
 
 pub cell_step : (marked : Bool) (cell : Cell) (rest : List Cell) (before : List LineContent) (earlier : Draft)
@@ -406,8 +420,8 @@ goes_on : (earlier : Draft) (column : List ℕ) → is_split_in (Some column) ea
 goes_on = grind (arith, itself_named)
 
 -- after a line of a column more lines of it, and then lines that do not split a column after them
-pub unsplit_more : (marked : Bool) (column : List ℕ) (cells rest : List Cell) (earlier : Draft) → AreOf column cells → Unsplit marked
-    (Some column) (with_declarations earlier (flat_map (cell_decl marked) cells)) rest
+pub unsplit_more : (marked : Bool) (column : List ℕ) (cells rest : List Cell) (earlier : Draft) → AreOf column cells →
+    Unsplit marked (Some column) (with_declarations earlier (flat_map (cell_decl marked) cells)) rest
     → Unsplit marked (Some column) earlier (cells ++ rest)
 unsplit_more marked column [] rest earlier h more = more
 unsplit_more marked column (cell ∷ cells) rest earlier h more =
@@ -440,8 +454,9 @@ AreApart (group ∷ groups) = Each (λ later. same_bytes later.0 group.0 ≡ fal
 abbrev pub AreAbsent : Draft → List Group → Type 0
 AreAbsent earlier groups = Each (λ group. has_column earlier group.0 ≡ false) groups
 
-cells-column : (marked : Bool) (column : List ℕ) (cells : List Cell) (earlier : Draft) (n : List ℕ) → AreOf column cells → same_bytes n
-    column ≡ false → has_column earlier n ≡ false → has_column (with_declarations earlier (flat_map (cell_decl marked) cells)) n ≡ false
+cells-column : (marked : Bool) (column : List ℕ) (cells : List Cell) (earlier : Draft) (n : List ℕ) →
+    AreOf column cells → same_bytes n column ≡ false → has_column earlier n ≡ false →
+    has_column (with_declarations earlier (flat_map (cell_decl marked) cells)) n ≡ false
 cells-column marked column [] earlier n own apart absent = absent
 cells-column marked column (cell ∷ cells) earlier n own apart absent =
     grind (
@@ -468,5 +483,6 @@ groups_unsplit marked (group ∷ groups) last earlier h apart absent =
       unsplit_more,
       with_declarations-append,
       groups_unsplit marked groups (Some group.0) (with_declarations earlier
-          (flat_map (cell_decl marked) group.1)) h.1 apart.1 (still-absent marked group.0 group.1 earlier groups h.0.own apart.0 absent.1),
+          (flat_map (cell_decl marked) group.1)) h.1 apart.1
+          (still-absent marked group.0 group.1 earlier groups h.0.own apart.0 absent.1),
     )

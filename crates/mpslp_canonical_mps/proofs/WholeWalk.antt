@@ -44,8 +44,9 @@ pub record MayBegin (section : Section) (before : List LineContent) : Type 0 whe
   pub fresh : has_section before section ≡ false
   pub begins : may_begin (context_of before) section ≡ true
 
-pub header-good : (section : Section) (before : List LineContent) (earlier : Draft) → MayBegin section before → (is_section Columns
-    (Some section) ≡ true → is_none earlier.objective ≡ false) → form_faults (context_of before) earlier (header_item section) ≡ []
+pub header-good : (section : Section) (before : List LineContent) (earlier : Draft) → MayBegin section before →
+    (is_section Columns (Some section) ≡ true → is_none earlier.objective ≡ false) →
+    form_faults (context_of before) earlier (header_item section) ≡ []
 header-good = grind arith
 
 -- a header declares nothing, except for the objective at COLUMNS if there was none
@@ -53,7 +54,8 @@ pub header-says : (section : Section) (context : Context) (earlier : Draft) → 
     → is_none earlier.objective ≡ false) → line_declares context earlier (header_item section) ≡ []
 header-says = grind arith
 
-pub current-header : (section : Section) (before : List LineContent) → current_section (before ++ header_item section ∷ []) ≡ Some section
+pub current-header : (section : Section) (before : List LineContent) →
+    current_section (before ++ header_item section ∷ []) ≡ Some section
 current-header = grind (arith, current_section-push)
 
 -- ---- what has not begun
@@ -61,15 +63,15 @@ current-header = grind (arith, current_section-push)
 -- lines that are not headers begin no section
 pub has_section-data : {X : Type 0} (section : Section) (item : X → LineContent) → ((x : X) → section_of_header (item x) ≡ None)
     → (xs : List X) (before : List LineContent) → has_section (before ++ map item xs) section ≡ has_section before section
-has_section-data section item none xs before = has_section-append section before _ ∙ ap (λ b. has_section before section || b) (all xs)
-    ∙ or_false _
+has_section-data section item none xs before =
+    has_section-append section before _ ∙ ap (λ b. has_section before section || b) (all xs) ∙ or_false _
   where
     all : (ys : List _) → has_section (map item ys) section ≡ false
     all [] = refl
     all (y ∷ ys) = rw (none y) (all ys)
 
-other_section : (section : Section) (o current : Option Section) → is_section section current ≡ false → is_section section o ≡ false
-    → is_section section (option_or o current) ≡ false
+other_section : (section : Section) (o current : Option Section) → is_section section current ≡ false →
+    is_section section o ≡ false → is_section section (option_or o current) ≡ false
 other_section = grind arith
 
 under_other : (section : Section) (current : Option Section) (item : LineContent) → is_section section current ≡ false
@@ -80,11 +82,12 @@ lines_of_other : (section : Section) (before : List LineContent) (current : Opti
     → has_section before section ≡ false → data_lines_after section current before ≡ []
 lines_of_other section [] current h k = refl
 lines_of_other section (item ∷ before) current h k = let parts = nor _ _ (sym (has_section-cons section item before) ∙ k) in
-    ap (λ lines. lines ++ data_lines_after section (option_or (section_of_header item) current) before) (under_other section current item h)
-    ∙ lines_of_other section before _ (other_section section _ current h parts.0) parts.1
+    ap (λ lines. lines ++ data_lines_after section (option_or (section_of_header item) current) before)
+    (under_other section current item h) ∙ lines_of_other section before _ (other_section section _ current h parts.0) parts.1
 
 -- a section that has not begun has no lines
-pub no-lines : (section : Section) (before : List LineContent) → has_section before section ≡ false → data_lines section before ≡ []
+pub no-lines : (section : Section) (before : List LineContent) → has_section before section ≡ false →
+    data_lines section before ≡ []
 no-lines = grind (arith, lines_of_other)
 
 -- after a data line, and after a header that is not a bare OBJSENSE
@@ -97,7 +100,8 @@ items_in lines = map content_in lines
 
 -- the items of what is printed of several things, one after another
 pub flat-items : {X Y : Type 0} (item : Y → LineContent) (lines : X → Lines) (parts : X → List Y)
-    → ((x : X) → items_in (lines x) ≡ map item (parts x)) → (xs : List X) → items_in (flat_map lines xs) ≡ map item (flat_map parts xs)
+    → ((x : X) → items_in (lines x) ≡ map item (parts x)) → (xs : List X) →
+    items_in (flat_map lines xs) ≡ map item (flat_map parts xs)
 flat-items item lines parts h [] = refl
 flat-items item lines parts h (x ∷ xs) = grind (arith, map-append, flat-items item lines parts h xs)
 
@@ -126,7 +130,8 @@ cell-items : (column : List ℕ) (cells : List (List ℕ × Number))
 cell-items column [] = refl
 cell-items column (cell ∷ cells) = grind (arith, cell-items column cells)
 
-cells-grouped : (m : Listing) (columns : List (List ℕ × Column)) → cells_of (map (group_in m) columns) ≡ flat_map (cells_in m) columns
+cells-grouped : (m : Listing) (columns : List (List ℕ × Column)) →
+    cells_of (map (group_in m) columns) ≡ flat_map (cells_in m) columns
 cells-grouped m [] = refl
 cells-grouped m (column ∷ columns) = grind (arith, cells-grouped m columns)
 
@@ -213,8 +218,9 @@ pub record IsLate (before : List LineContent) (earlier : Draft) : Type 0 where
   pub objective : is_none earlier.objective ≡ false
 
 -- data lines leave no word missing
-pub data-settled : {X : Type 0} (item : X → LineContent) → ((x : X) → is_read (item x) ≡ true) → ((x : X) → is_bare (item x) ≡ false)
-    → (xs : List X) (before : List LineContent) → wants_word before ≡ false → wants_word (before ++ map item xs) ≡ false
+pub data-settled : {X : Type 0} (item : X → LineContent) → ((x : X) → is_read (item x) ≡ true) →
+    ((x : X) → is_bare (item x) ≡ false) → (xs : List X) (before : List LineContent) → wants_word before ≡ false →
+    wants_word (before ++ map item xs) ≡ false
 data-settled item reads bare [] before h = ap wants_word (append-nil before) ∙ h
 data-settled item reads bare (x ∷ xs) before h = grind (
   arith,
@@ -232,27 +238,41 @@ pub record IsLateSection (section : Section) : Type 0 where
   pub bare : is_bare (header_item section) ≡ false
 
 -- A section that is printed only if it has lines: its lines follow its header.
-under-walk : {X : Type 0} (section : Section) → IsLateSection section → (item : X → LineContent) (decl : X → Declarations) (xs : List X)
-    (before : List LineContent) (earlier : Draft) → IsLate before earlier → has_section before section ≡ false → Walk (before ++ header_item
-    section ∷ []) earlier (map item xs) (flat_map decl xs) → Walk before earlier (under section (map item xs)) (flat_map decl xs)
+under-walk : {X : Type 0} (section : Section) → IsLateSection section →
+    (item : X → LineContent) (decl : X → Declarations) (xs : List X) (before : List LineContent) (earlier : Draft) →
+    IsLate before earlier → has_section before section ≡ false →
+    Walk (before ++ header_item section ∷ []) earlier (map item xs) (flat_map decl xs) →
+    Walk before earlier (under section (map item xs)) (flat_map decl xs)
 under-walk = grind arith
 
 -- the lines of a section that has not begun
 pub none-yet : (section : Section) (before : List LineContent) → begins section (header_item section) ≡ true
     → has_section before section ≡ false → data_lines section (before ++ header_item section ∷ []) ≡ []
-none-yet section before b f = data_lines-push section before _ ∙ append-nil (data_lines section before) ∙ no-lines section before f
+none-yet section before b f = data_lines-push section before _ ∙ append-nil (data_lines section before)
+    ∙ no-lines section before f
 
 pub sides-walk : (set : List ℕ) (sides : List Side) (before : List LineContent) (earlier : Draft) → IsLate before earlier
     → has_section before Rhs ≡ false → Each ReadsAs sides → Each (λ (side : Side). is_free_row earlier side.row ≡ false) sides
     → Walk before earlier (under Rhs (map (side_item set) sides)) (flat_map side_decl sides)
-sides-walk set sides before earlier h f texts bound = let there = before ++ header_item Rhs ∷ [] in let inside : InSides set sides there
-    earlier = record { section = current-header Rhs before; one_set = rw (none-yet Rhs before refl f) tt; texts = texts; bound = bound } in
+sides-walk set sides before earlier h f texts bound =
+    let there = before ++ header_item Rhs ∷ [] in
+    let inside : InSides set sides there
+    earlier = record {
+      section = current-header Rhs before;
+      one_set = rw (none-yet Rhs before refl f) tt;
+      texts =
+          texts;
+      bound = bound;
+    } in
     under-walk Rhs (grind arith) _ side_decl sides before earlier h f
     (section-walk (side_item set) side_decl (InSides set) (side_step set) sides there earlier inside).0
 
-pub ranges-walk : (set : List ℕ) (sides : List Side) (before : List LineContent) (earlier : Draft) → IsLate before earlier → has_section
-    before Ranges ≡ false → Each ReadsAs sides → Walk before earlier (under Ranges (map (side_item set) sides)) (flat_map range_decl sides)
-ranges-walk set sides before earlier h f texts = let there = before ++ header_item Ranges ∷ [] in let inside : InRanges set sides there
+pub ranges-walk : (set : List ℕ) (sides : List Side) (before : List LineContent) (earlier : Draft) →
+    IsLate before earlier → has_section before Ranges ≡ false → Each ReadsAs sides →
+    Walk before earlier (under Ranges (map (side_item set) sides)) (flat_map range_decl sides)
+ranges-walk set sides before earlier h f texts =
+    let there = before ++ header_item Ranges ∷ [] in
+    let inside : InRanges set sides there
     earlier = record { section = current-header Ranges before; one_set = rw (none-yet Ranges before refl f) tt; texts = texts } in
     under-walk Ranges (grind arith) _ range_decl sides before earlier h f
     (section-walk (side_item set) range_decl (InRanges set) (range_step set) sides there earlier inside).0
@@ -260,7 +280,9 @@ ranges-walk set sides before earlier h f texts = let there = before ++ header_it
 pub bounds-walk : (set : List ℕ) (bounds : List Bound) (before : List LineContent) (earlier : Draft) → IsLate before earlier
     → has_section before Bounds ≡ false → Each GoodBound bounds
     → Walk before earlier (under Bounds (map (bound_item set) bounds)) (flat_map bound_decl bounds)
-bounds-walk set bounds before earlier h f good = let there = before ++ header_item Bounds ∷ [] in let inside : InBounds set bounds there
+bounds-walk set bounds before earlier h f good =
+    let there = before ++ header_item Bounds ∷ [] in
+    let inside : InBounds set bounds there
     earlier = record { section = current-header Bounds before; one_set = rw (none-yet Bounds before refl f) tt; good = good } in
     under-walk Bounds (grind arith) _ bound_decl bounds before earlier h f
     (section-walk (bound_item set) bound_decl (InBounds set) (bound_step set) bounds there earlier inside).0
@@ -287,15 +309,19 @@ sense_decl Maximize = declare_sense Maximize ∷ []
 abbrev pub objective_item : List ℕ → LineContent
 objective_item name = data_line (letter_of Free ∷ name ∷ [])
 
-pub objective-says : (name : List ℕ) (context : Context) (earlier : Draft) → context.section ≡ Some Rows → is_none earlier.objective ≡ true
-    → context.objname ≡ None → line_declares context earlier (objective_item name) ≡ declare_objective name ∷ []
+pub objective-says : (name : List ℕ) (context : Context) (earlier : Draft) → context.section ≡ Some Rows →
+    is_none earlier.objective ≡ true → context.objname ≡ None →
+    line_declares context earlier (objective_item name) ≡ declare_objective name ∷ []
 objective-says = grind arith
 
-pub rows-walk : (name : List ℕ) (rows : List RowItem) (before : List LineContent) (earlier : Draft) → MayBegin Rows before → objname before
-    ≡ None → is_none earlier.objective ≡ true → is_mps_name name ≡ true → Each (λ (row : RowItem). is_mps_name row.0 ≡ true) rows
-    → Walk before earlier (header_item Rows ∷ objective_item name ∷ map row_item rows) (declare_objective name ∷ flat_map row_decl rows)
+pub rows-walk : (name : List ℕ) (rows : List RowItem) (before : List LineContent) (earlier : Draft) →
+    MayBegin Rows before → objname before ≡ None → is_none earlier.objective ≡ true → is_mps_name name ≡ true →
+    Each (λ (row : RowItem). is_mps_name row.0 ≡ true) rows →
+    Walk before earlier (header_item Rows ∷ objective_item name ∷ map row_item rows)
+    (declare_objective name ∷ flat_map row_decl rows)
 rows-walk name rows before earlier may unnamed none legal names = let headed = before ++ header_item Rows ∷ [] in
-    let section = current-header Rows before in let there = headed ++ objective_item name ∷ [] in
+    let section = current-header Rows before in
+    let there = headed ++ objective_item name ∷ [] in
     let named = with_declaration earlier (declare_objective name) in
     let inside : InRows rows there named = record {
       section = stays Rows (letter_of Free ∷ name ∷ []) headed section;
@@ -303,10 +329,11 @@ rows-walk name rows before earlier may unnamed none legal names = let headed = b
       names = names;
     } in
     walk-cons before earlier (header_item Rows) (objective_item name ∷ map row_item rows) [] (declare_objective name
-    ∷ flat_map row_decl rows) (header-says Rows (context_of before) earlier (λ e. cc)) (header-good Rows before earlier may (λ e. cc))
-    (walk-cons headed earlier (objective_item name) (map row_item rows) (declare_objective name ∷ []) (flat_map row_decl rows)
-    (objective-says name (context_of headed) earlier section none (objname-push before (header_item Rows)
-    ∙ ap (λ (o : Option (List ℕ)). option_or o None) unnamed))
+    ∷ flat_map row_decl rows) (header-says Rows (context_of before) earlier (λ e. cc))
+    (header-good Rows before earlier may (λ e. cc))
+    (walk-cons headed earlier (objective_item name) (map row_item rows) (declare_objective name ∷ [])
+    (flat_map row_decl rows) (objective-says name (context_of headed) earlier section none
+    (objname-push before (header_item Rows) ∙ ap (λ (o : Option (List ℕ)). option_or o None) unnamed))
     (grind (arith, section, legal)) (section-walk row_item row_decl InRows row_step rows there named inside).0)
 
 -- ---- COLUMNS
@@ -324,7 +351,8 @@ no-column = grind arith
 
 part-walk : (cells : List Cell) (before : List LineContent) (earlier : Draft) → current_section before ≡ Some Columns
     → in_integer_part before ≡ false
-    → Each GoodCell cells → Unsplit true None earlier cells → Walk before earlier (part_items cells) (flat_map (cell_decl true) cells)
+    → Each GoodCell cells → Unsplit true None earlier cells →
+    Walk before earlier (part_items cells) (flat_map (cell_decl true) cells)
 part-walk [] before earlier s p good unsplit = walk-nil before earlier
 part-walk (cell ∷ cells) before earlier s p good unsplit =
     let opened = before ++ marker_item true ∷ [] in
@@ -370,7 +398,8 @@ columns-walk plain integers before earlier may named h =
       good = h.plain_cells;
       unsplit = rw (no-column headed lines) (groups_unsplit false plain None earlier h.plain_groups h.plain_apart h.plain_absent);
     } in
-    let walked = section-walk cell_item (cell_decl false) (InCells false) (cell_step false) (cells_of plain) headed earlier inside in
+    let walked = section-walk cell_item (cell_decl false) (InCells false) (cell_step false) (cells_of plain) headed
+    earlier inside in
     let after = headed ++ map cell_item (cells_of plain) in
     let next = with_declarations earlier (flat_map (cell_decl false) (cells_of plain)) in
     walk-cons before earlier (header_item Columns) (map cell_item (cells_of plain) ++ part_items (cells_of integers)) []
@@ -383,8 +412,8 @@ columns-walk plain integers before earlier may named h =
 
 -- ---- what has begun, section by section
 
-no-headers : {X : Type 0} (section : Section) (item : X → LineContent) → ((x : X) → section_of_header (item x) ≡ None) → (xs : List X)
-    → has_section (map item xs) section ≡ false
+no-headers : {X : Type 0} (section : Section) (item : X → LineContent) → ((x : X) → section_of_header (item x) ≡ None) →
+    (xs : List X) → has_section (map item xs) section ≡ false
 no-headers section item none xs = has_section-data section item none xs []
 
 -- the lines of a section that is printed only if it has lines begin only that section
@@ -401,7 +430,8 @@ under-settled section item b reads bare [] before h = ap wants_word (append-nil 
 under-settled section item b reads bare (x ∷ xs) before h = ap wants_word (sym (append_assoc before _ (map item (x ∷ xs))))
     ∙ data-settled item reads bare (x ∷ xs) (before ++ header_item section ∷ []) (settled-after before _ refl b)
 
-still-named : (ds : Declarations) (all : Draft) → is_none all.objective ≡ false → is_none (with_declarations all ds).objective ≡ false
+still-named : (ds : Declarations) (all : Draft) → is_none all.objective ≡ false →
+    is_none (with_declarations all ds).objective ≡ false
 still-named ds all h = grind (arith, named-after ds all (grind (arith, h)))
 
 -- a late section, and what holds after it
@@ -436,19 +466,23 @@ pub record IsGoodLate (l : Late) (earlier : Draft) : Type 0 where
   pub bounds : Each GoodBound l.bounds
 
 pub late-walk : (l : Late) (before : List LineContent) (earlier : Draft) → IsLate before earlier → has_section before Rhs ≡ false
-    → has_section before Ranges ≡ false → has_section before Bounds ≡ false → has_section before EndData ≡ false → IsGoodLate l earlier
-    → Walk before earlier (late_items l) (late_decl l)
+    → has_section before Ranges ≡ false → has_section before Bounds ≡ false → has_section before EndData ≡ false →
+    IsGoodLate l earlier → Walk before earlier (late_items l) (late_decl l)
 late-walk l before earlier h f g b e good = let sides = under Rhs (map (side_item (codes "RHS")) l.sides) in
     let ranges = under Ranges (map (side_item (codes "RNG")) l.ranges) in
     let bounds = under Bounds (map (bound_item (codes "BND")) l.bounds) in let first = before ++ sides in let second = first ++ ranges in
-    let third = second ++ bounds in let d1 = with_declarations earlier (flat_map side_decl l.sides) in
-    let d2 = with_declarations d1 (flat_map range_decl l.ranges) in let d3 = with_declarations d2 (flat_map bound_decl l.bounds) in
+    let third = second ++ bounds in
+    let d1 = with_declarations earlier (flat_map side_decl l.sides) in
+    let d2 = with_declarations d1 (flat_map range_decl l.ranges) in
+    let d3 = with_declarations d2 (flat_map bound_decl l.bounds) in
     let h1 = late-after Rhs _ (flat_map side_decl l.sides) refl (λ _. refl) (λ _. refl) l.sides before earlier h in
     let h2 = late-after Ranges _ (flat_map range_decl l.ranges) refl (λ _. refl) (λ _. refl) l.ranges first d1 h1 in
     let h3 = late-after Bounds _ (flat_map bound_decl l.bounds) refl (λ _. refl) (λ _. refl) l.bounds second d2 h2 in
-    let g1 = fresh-after Rhs Ranges _ (λ _. refl) refl l.sides before g in let b1 =
+    let g1 = fresh-after Rhs Ranges _ (λ _. refl) refl l.sides before g in
+    let b1 =
     fresh-after Rhs Bounds _ (λ _. refl) refl l.sides before b in
-    let b2 = fresh-after Ranges Bounds _ (λ _. refl) refl l.ranges first b1 in let e1 =
+    let b2 = fresh-after Ranges Bounds _ (λ _. refl) refl l.ranges first b1 in
+    let e1 =
     fresh-after Rhs EndData _ (λ _. refl) refl l.sides before e in
     let e2 = fresh-after Ranges EndData _ (λ _. refl) refl l.ranges first e1 in
     let e3 = fresh-after Bounds EndData _ (λ _. refl) refl l.bounds second e2 in
@@ -499,8 +533,8 @@ pub record IsGoodWhole (w : Whole) : Type 0 where
   pub columns : AreColumns w.plain w.integers (draft_at_columns w)
   pub late : IsGoodLate w.late (draft_at_sides w)
 
-start-none : (section : Section) (sense : Sense) → begins section (header_item Name) ≡ false → begins section (header_item ObjSense) ≡ false
-    → has_section (start_items sense) section ≡ false
+start-none : (section : Section) (sense : Sense) → begins section (header_item Name) ≡ false →
+    begins section (header_item ObjSense) ≡ false → has_section (start_items sense) section ≡ false
 start-none = grind arith
 
 rows-settled : (objective : List ℕ) (rows : List RowItem) (before : List LineContent)
@@ -514,12 +548,15 @@ columns-none : (section : Section) (plain integers : List Group) → begins sect
     → has_section (columns_items plain integers) section ≡ false
 columns-none = grind (arith, has_section-append, cell_item, cells_of, part_items, no-headers)
 
-part-settled : (cells : List Cell) (before : List LineContent) → wants_word before ≡ false → wants_word (before ++ part_items cells) ≡ false
+part-settled : (cells : List Cell) (before : List LineContent) → wants_word before ≡ false →
+    wants_word (before ++ part_items cells) ≡ false
 part-settled [] before h = ap wants_word (append-nil before) ∙ h
 part-settled (cell ∷ cells) before h = let inner = marker_item true ∷ map cell_item (cell ∷ cells) in
-    ap wants_word (sym (append_assoc before inner (marker_item false ∷ []))) ∙ settled-after (before ++ inner) (marker_item false) refl refl
+    ap wants_word (sym (append_assoc before inner (marker_item false ∷ []))) ∙ settled-after (before ++ inner)
+    (marker_item false) refl refl
 
-columns-settled : (plain integers : List Group) (before : List LineContent) → wants_word (before ++ columns_items plain integers) ≡ false
+columns-settled : (plain integers : List Group) (before : List LineContent) →
+    wants_word (before ++ columns_items plain integers) ≡ false
 columns-settled plain integers before = let headed = before ++ header_item Columns ∷ [] in
     ap wants_word (sym (append_assoc before _ (map cell_item (cells_of plain) ++ part_items (cells_of integers)))
     ∙ sym (append_assoc headed (map cell_item (cells_of plain)) (part_items (cells_of integers))))
@@ -542,7 +579,12 @@ whole-walk w h =
     → begins s (header_item Rows) ≡ false → has_section first s ≡ false =
     λ s n o r. has_section-append s start rows ∙ (λ i. start-none s w.sense n o i || rows_none s r i) in
     let may : MayBegin Columns
-    first = record { settled = rows-settled w.objective w.rows start; fresh = none Columns refl refl refl; begins = begun_rows } in
+    first = record {
+      settled = rows-settled w.objective w.rows start;
+      fresh = none Columns refl refl refl;
+      begins =
+          begun_rows;
+    } in
     let named : is_none d1.objective ≡ false = still-named (flat_map row_decl w.rows) _ refl in
     let late : IsLate second (draft_at_sides w) = record {
       settled = columns-settled w.plain w.integers first;
@@ -583,7 +625,8 @@ whole_of m = record {
   late = record { sides = sides_in m; ranges = flat_map row_range m.rows; bounds = flat_map bounds_in m.columns };
 }
 
-part-items : (lines : Lines) (cells : List Cell) → items_in lines ≡ map cell_item cells → items_in (integer_part lines) ≡ part_items cells
+part-items : (lines : Lines) (cells : List Cell) → items_in lines ≡ map cell_item cells →
+    items_in (integer_part lines) ≡ part_items cells
 part-items = grind (arith, marker_item, map-append)
 
 -- the items of lines after others
@@ -595,7 +638,18 @@ columns-items : (m : Listing) → items_in (columns_section m) ≡ header_item C
 columns-items = grind (arith, header_item, follow, column-items, part-items, cells_of)
 
 pub listed-items : (m : Listing) → items_in (listed_lines m) ≡ whole_items (whole_of m)
-listed-items = grind (arith, header_item, follow, objective_item, row-items, columns-items, under, sides-items, ranges-items, bounds-items)
+listed-items = grind (
+  arith,
+  header_item,
+  follow,
+  objective_item,
+  row-items,
+  columns-items,
+  under,
+  sides-items,
+  ranges-items,
+  bounds-items,
+)
 
 -- ---- each printed line declares what it was printed from, whatever the lines before it are
 

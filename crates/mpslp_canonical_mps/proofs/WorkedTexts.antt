@@ -55,8 +55,8 @@ equal_bounds = semi_file " SC  B  Y  4\n LO  B  Y  4"
 abbrev printed : List (List ℕ × List ℕ)
 printed =
     map (λ file. (file, files.small_again))
-    (files.small ∷ files.small_with_returns ∷ files.small_without_last_feed ∷ files.small_with_text_after_end ∷ files.small_again ∷ [])
-    ++ map (λ file. (file, files.maximized))
+    (files.small ∷ files.small_with_returns ∷ files.small_without_last_feed ∷ files.small_with_text_after_end ∷
+    files.small_again ∷ []) ++ map (λ file. (file, files.maximized))
     (files.maximized ∷ files.maximized_on_header ∷ files.maximized_by_long_word ∷ files.maximized_with_tabs ∷ [])
     -- these are their own canonical texts
     ++ map (λ file. (file, file)) (files.empty_column ∷ files.integer_bounds ∷ files.not_maximized ∷ files.semi_columns ∷ [])

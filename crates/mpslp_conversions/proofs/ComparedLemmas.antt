@@ -24,7 +24,8 @@ IsFront-more true rest wanted written piece same h = stays_other rest wanted wri
 IsFront-other : (differs : Bool) (rest wanted written piece : List ℕ) → pointwise nat_eq (take (length piece) rest) piece ≡ false
     → IsFront differs rest wanted written → IsFront true rest wanted (written ++ piece)
 IsFront-other false rest wanted written piece other h = λ more e.
-    let rest_is : rest ≡ piece ++ more = append_cancel_left written rest (piece ++ more) (sym h ∙ e ∙ append_assoc written piece more) in
+    let rest_is : rest ≡ piece ++ more =
+    append_cancel_left written rest (piece ++ more) (sym h ∙ e ∙ append_assoc written piece more) in
     other_text (take (length piece) rest) piece (sym other) (ap (take (length piece)) rest_is ∙ take-append_seam piece more)
 IsFront-other true rest wanted written piece other h = stays_other rest wanted written piece h
 
@@ -93,10 +94,11 @@ stated_by_rest differs rest wanted text result e is h =
       λ same. test.1 (omega (arith, ap length front, ap length same, length-append text rest)),
     )
 
-pub stated_other : (differs : Bool) (rest wanted text : List ℕ) → differs ≡ true → Compared differs rest (length wanted ∷ (wanted ++ text))
-    → Decides (not differs) (wanted ≡ text)
+pub stated_other : (differs : Bool) (rest wanted text : List ℕ) → differs ≡ true →
+    Compared differs rest (length wanted ∷ (wanted ++ text)) → Decides (not differs) (wanted ≡ text)
 stated_other differs rest wanted text e h =
     let outcome : Compared true rest (length wanted ∷ (wanted ++ text)) =
     subst (λ d. Compared d rest (length wanted ∷ (wanted ++ text))) e h in
     let other : (more : List ℕ) → wanted ≢ text ++ more = front_of true rest wanted text outcome in
-    subst (λ d. Decides (not d) (wanted ≡ text)) (sym e) (λ yes. absurd (cc), λ same. absurd (other [] (same ∙ sym (append-nil text))))
+    subst (λ d. Decides (not d) (wanted ≡ text)) (sym e)
+    (λ yes. absurd (cc), λ same. absurd (other [] (same ∙ sym (append-nil text))))

@@ -35,8 +35,8 @@ reading-of = grind arith
 not_true : (b : Bool) → (b ≡ true → ⊥) → b ≡ false
 not_true = grind arith
 
-all-given : (left left_then left_now : Option (List ℕ)) (bytes : List ℕ) → Consumes left left_then bytes → Consumes left_then left_now []
-    → IsAtEnd left_now → IsAll left bytes
+all-given : (left left_then left_now : Option (List ℕ)) (bytes : List ℕ) → Consumes left left_then bytes →
+    Consumes left_then left_now [] → IsAtEnd left_now → IsAll left bytes
 all-given = grind (arith, append-nil)
 
 pub gave-all : (left left_then left_now : Option (List ℕ)) (failed : Bool) (room limit n : ℕ) (bytes buffer : List ℕ)
@@ -45,7 +45,8 @@ pub gave-all : (left left_then left_now : Option (List ℕ)) (failed : Bool) (ro
 gave-all left left_then left_now failed room limit n bytes buffer before counted works none now at_end = record {
   works = not_true failed works;
   within = omega arith;
-  all = all-given left left_then left_now bytes before (subst (λ (i : ℕ). Consumes left_then left_now (take i buffer)) none now) at_end;
+  all = all-given left left_then left_now bytes before
+      (subst (λ (i : ℕ). Consumes left_then left_now (take i buffer)) none now) at_end;
   end = at_end;
 }
 
@@ -67,8 +68,8 @@ with_bytes alloc bytes small = record {
 }
 
 -- a load would return these bytes as a text, also with a larger limit
-pub text-of : (declares : Declares) (first_fault : HasFirstFault) (left left_now : Option (List ℕ)) (failed : Bool) (limit most : ℕ)
-    (alloc : Global) (bytes : List ℕ) (outcome : Result LinearModel Fault) → limit ≤ most → limit < 2 ^ 63
+pub text-of : (declares : Declares) (first_fault : HasFirstFault) (left left_now : Option (List ℕ)) (failed : Bool)
+    (limit most : ℕ) (alloc : Global) (bytes : List ℕ) (outcome : Result LinearModel Fault) → limit ≤ most → limit < 2 ^ 63
     → SourceGave left left_now failed limit bytes → IsModelOrFault declares first_fault bytes outcome
     → IsTextRead declares first_fault left left_now failed most (Ok outcome)
 text-of declares first_fault left left_now failed limit most alloc bytes outcome less small gave is = (

@@ -23,8 +23,8 @@ numbered-at {X} n (x ∷ xs) (suc i) =
     numbered-at (n + 1) xs i ∙ ap {B = Option (ℕ × X)} (λ (k : ℕ). option_map (λ (y : X). (k, y)) (slice_get xs i)) same
 
 -- the number of entries, by their names
-pub all-numbered : {X L : Type 0} (f : ℕ × (List ℕ × X) → List L) (es : List (List ℕ × X)) (n : ℕ) → length (map (λ e. e.0) es) ≤ n
-    → flat_map f (take n (enumerate_from 0 es)) ≡ flat_map f (enumerate_from 0 es)
+pub all-numbered : {X L : Type 0} (f : ℕ × (List ℕ × X) → List L) (es : List (List ℕ × X)) (n : ℕ) →
+    length (map (λ e. e.0) es) ≤ n → flat_map f (take n (enumerate_from 0 es)) ≡ flat_map f (enumerate_from 0 es)
 all-numbered {X} = grind (arith, length-map, length-enumerate_from, flat_map-all)
 
 -- the number of nonzeros of a column
@@ -36,13 +36,15 @@ pub row-seen : (m : LinearModel) (i : ℕ) (name : List ℕ) (letter : ℕ) (low
     → slice_get (row_names m) i ≡ Some name → option_map row_sense (slice_get (rows_of m) i) ≡ Some letter
     → option_map (λ (row : Row). row.lower) (slice_get (rows_of m) i) ≡ Some lower
     → option_map (λ (row : Row). row.upper) (slice_get (rows_of m) i) ≡ Some upper
-    → option_map right_hand_side (slice_get (rows_of m) i) ≡ Some rhs → option_map row_range (slice_get (rows_of m) i) ≡ Some range
-    → row_line i name letter lower upper rhs range ≡ lines_at row_text (enumerate_from 0 (entries m.rows)) i
+    → option_map right_hand_side (slice_get (rows_of m) i) ≡ Some rhs →
+    option_map row_range (slice_get (rows_of m) i) ≡ Some range →
+    row_line i name letter lower upper rhs range ≡ lines_at row_text (enumerate_from 0 (entries m.rows)) i
 row-seen = grind (arith, slice_get-map, numbered-at, no_value)
 
 pub column-seen : (m : LinearModel) (j : ℕ) (name : List ℕ) (kind : Kind) (lower upper : Limit) (value : Number)
-    → slice_get (column_names m) j ≡ Some name → option_map (λ (column : Column). column.kind) (slice_get (columns_of m) j) ≡ Some kind
-    → option_map (λ (column : Column). column.lower) (slice_get (columns_of m) j) ≡ Some lower
+    → slice_get (column_names m) j ≡ Some name →
+    option_map (λ (column : Column). column.kind) (slice_get (columns_of m) j) ≡ Some kind →
+    option_map (λ (column : Column). column.lower) (slice_get (columns_of m) j) ≡ Some lower
     → option_map (λ (column : Column). column.upper) (slice_get (columns_of m) j) ≡ Some upper
     → value ≡ coefficient_at m m.objective (column_name m j)
     → column_line j name kind lower upper value ++ entries_text m j (column_name m j)

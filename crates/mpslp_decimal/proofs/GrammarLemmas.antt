@@ -9,7 +9,8 @@ use Rattle.mpslp_decimal.proofs.{CutLemmas.{AreDigits, Each, Each-append, digits
 use Rattle.mpslp_decimal.proofs.{NumberTextLemmas.{are-digits, no_mark-digits, no_point-digits}, SpellsLemmas.{digits_sum-small, pow-next}}
 use Rattle.mpslp_decimal.proofs.StripLemmas.{zeros-below}
 use Rattle.mpslp_decimal.specs.Literal.{are_digits, digits_sum, exponent_part, is_digit, is_exponent_mark, is_literal, is_minus, is_point}
-use Rattle.mpslp_decimal.specs.{Literal.{unsigned_part, without_sign}, Scan.{IsScanOf, IsSignificandOf, IsStripped, after_digits, after_fraction}}
+use Rattle.mpslp_decimal.specs.Literal.{unsigned_part, without_sign}
+use Rattle.mpslp_decimal.specs.Scan.{IsScanOf, IsSignificandOf, IsStripped, after_digits, after_fraction}
 use Rattle.mpslp_decimal.specs.Scan.{after_mantissa, after_point, capped_exponent, digits_front, exponent_after, exponent_of}
 use Rattle.mpslp_decimal.specs.{Scan.{fraction_front, mantissa_front, zeros_of}, declared.literal.{Scan.Scan, Significand.Significand}}
 use Rattle.mpslp_decimal.specs.declared.literal.Significand.TheVariants.{Short}
@@ -39,7 +40,8 @@ pub before-more : (p : ℕ → Bool) (front rest : List ℕ) → Each (λ b. p b
     → before_first p (front ++ rest) ≡ front ++ before_first p rest
 before-more = grind (arith, position-more, take-more)
 
-pub after-more : (p : ℕ → Bool) (front rest : List ℕ) → Each (λ b. p b ≡ false) front → after_first p (front ++ rest) ≡ after_first p rest
+pub after-more : (p : ℕ → Bool) (front rest : List ℕ) → Each (λ b. p b ≡ false) front →
+    after_first p (front ++ rest) ≡ after_first p rest
 after-more = grind (arith, position-more, drop-more)
 
 pub any-more : (p : ℕ → Bool) (front rest : List ℕ) → Each (λ b. p b ≡ false) front → list_any p (front ++ rest) ≡ list_any p rest
@@ -148,13 +150,13 @@ record Parts (text whole fraction exponent : List ℕ) (marked : Bool) : Type 0 
   exponent_is : after_mark text ≡ exponent
   marked_is : is_marked text ≡ marked
 
-parts-after : (digits rest whole fraction exponent : List ℕ) (marked : Bool) → AreDigits digits → Parts rest whole fraction exponent marked
-    → Parts (digits ++ rest) (digits ++ whole) fraction exponent marked
+parts-after : (digits rest whole fraction exponent : List ℕ) (marked : Bool) → AreDigits digits →
+    Parts rest whole fraction exponent marked → Parts (digits ++ rest) (digits ++ whole) fraction exponent marked
 parts-after = grind (arith, whole-after, fraction-after, after-more, no_mark-digits, any-more)
 
 -- a point, and what follows it before the exponent part
-parts-pointed : (x : ℕ) (xs exponent : List ℕ) (marked : Bool) → is_point x ≡ true → after_mark xs ≡ exponent → is_marked xs ≡ marked
-    → Parts (x ∷ xs) [] (before_exponent xs) exponent marked
+parts-pointed : (x : ℕ) (xs exponent : List ℕ) (marked : Bool) → is_point x ≡ true → after_mark xs ≡ exponent →
+    is_marked xs ≡ marked → Parts (x ∷ xs) [] (before_exponent xs) exponent marked
 parts-pointed = grind arith
 
 -- any other byte stays in the mantissa
@@ -172,20 +174,21 @@ is_literal-is = grind (arith, unsigned-is, exponent-is)
 -- The text without its sign is a number with this exponent, or not a number.
 abbrev Says : List ℕ → Option ℤ → Type 0
 Says text (Some exponent) =
-    (mantissa_part text ≡ mantissa_front text) × (fraction_part text ≡ fraction_front text) × (has_good_exponent text ≡ true) × (exponent
-    ≡ capped_exponent (after_mark text))
+    (mantissa_part text ≡ mantissa_front text) × (fraction_part text ≡ fraction_front text)
+    × (has_good_exponent text ≡ true) × (exponent ≡ capped_exponent (after_mark text))
 Says text None = is_number text ≡ false
 
 no_digits : (front back : List ℕ) (x : ℕ) → is_digit x ≡ false → list_all is_digit (front ++ x ∷ back) ≡ false
 no_digits [] back x h = rw h refl
 no_digits (b ∷ bs) back x h = rw (no_digits bs back x h) (grind arith)
 
-no_number : (text front back : List ℕ) (x : ℕ) → is_digit x ≡ false → mantissa_part text ≡ front ++ x ∷ back → is_number text ≡ false
+no_number : (text front back : List ℕ) (x : ℕ) → is_digit x ≡ false → mantissa_part text ≡ front ++ x ∷ back →
+    is_number text ≡ false
 no_number = grind (arith, no_digits)
 
 -- the digits are read, and what follows them is an exponent part or not
-says-parts : (text whole fraction exponent : List ℕ) → Parts text whole fraction exponent true → whole ++ fraction ≡ mantissa_front text
-    → fraction ≡ fraction_front text → Says text (exponent_of exponent)
+says-parts : (text whole fraction exponent : List ℕ) → Parts text whole fraction exponent true →
+    whole ++ fraction ≡ mantissa_front text → fraction ≡ fraction_front text → Says text (exponent_of exponent)
 says-parts = grind arith
 
 says-plain : (text whole fraction : List ℕ) → Parts text whole fraction [] false → whole ++ fraction ≡ mantissa_front text
@@ -210,10 +213,12 @@ parts-cut text digits rest whole fraction exponent marked c p =
     subst (λ t. Parts t (digits ++ whole) fraction exponent marked) (sym c.whole)
     (parts-after digits rest whole fraction exponent marked c.digits_only p)
 
-no_point-front : (text : List ℕ) (x : ℕ) (xs : List ℕ) → after_digits text ≡ x ∷ xs → is_point x ≡ false → fraction_front text ≡ []
+no_point-front : (text : List ℕ) (x : ℕ) (xs : List ℕ) → after_digits text ≡ x ∷ xs → is_point x ≡ false →
+    fraction_front text ≡ []
 no_point-front = grind arith
 
-point-front : (text : List ℕ) (x : ℕ) (xs : List ℕ) → after_digits text ≡ x ∷ xs → is_point x ≡ true → fraction_front text ≡ digits_front xs
+point-front : (text : List ℕ) (x : ℕ) (xs : List ℕ) → after_digits text ≡ x ∷ xs → is_point x ≡ true →
+    fraction_front text ≡ digits_front xs
 point-front = grind arith
 
 -- after a point: the digits of the fraction, and what follows them
@@ -241,8 +246,9 @@ pointed text x xs (y ∷ ys) e p f = by _ (is_digit y) refl refl
         let c = cut-of text (x ∷ xs) e in
         let k = cut-of xs (y ∷ ys) f in
         let none = before-here is_exponent_mark y ys m in
-        let inner = ap before_exponent k.whole ∙ before-more is_exponent_mark _ (y ∷ ys) (no_mark-digits (digits_front xs) k.digits_only)
-        ∙ ap (λ (t : List ℕ). digits_front xs ++ t) none ∙ append-nil (digits_front xs) in
+        let inner = ap before_exponent k.whole ∙ before-more is_exponent_mark _ (y ∷ ys)
+        (no_mark-digits (digits_front xs) k.digits_only) ∙ ap (λ (t : List ℕ). digits_front xs ++ t) none
+        ∙ append-nil (digits_front xs) in
         let following = parts-after (digits_front xs) (y ∷ ys) [] [] ys true k.digits_only (grind (arith, m)) in
         let after = ap after_mark k.whole ∙ following.exponent_is in
         let marked = ap is_marked k.whole ∙ following.marked_is in
@@ -253,14 +259,16 @@ pointed text x xs (y ∷ ys) e p f = by _ (is_digit y) refl refl
     by false d m is_d =
         let c = cut-of text (x ∷ xs) e in
         let k = cut-of xs (y ∷ ys) f in
-        let inner = ap before_exponent k.whole ∙ before-more is_exponent_mark _ (y ∷ ys) (no_mark-digits (digits_front xs) k.digits_only)
-        ∙ ap (λ (t : List ℕ). digits_front xs ++ t) (before-past is_exponent_mark y ys m) in
+        let inner = ap before_exponent k.whole ∙ before-more is_exponent_mark _ (y ∷ ys)
+        (no_mark-digits (digits_front xs) k.digits_only) ∙ ap (λ (t : List ℕ). digits_front xs ++ t)
+        (before-past is_exponent_mark y ys m) in
         let parts = parts-cut text _ (x ∷ xs) [] _ (after_mark xs) (is_marked xs) c
         (parts-pointed x xs (after_mark xs) (is_marked xs) p refl refl) in
         no_number text _ _ y stop
         ((λ i. parts.whole_is i ++ (parts.fraction_is ∙ inner) i) ∙ sym (append_assoc _ (digits_front xs) _))
 
-unpointed : (text : List ℕ) (x : ℕ) (xs : List ℕ) → after_digits text ≡ x ∷ xs → is_point x ≡ false → Says text (exponent_after (x ∷ xs))
+unpointed : (text : List ℕ) (x : ℕ) (xs : List ℕ) → after_digits text ≡ x ∷ xs → is_point x ≡ false →
+    Says text (exponent_after (x ∷ xs))
 unpointed text x xs e p = by _ refl
   where
     stop : is_digit x ≡ false
@@ -292,8 +300,8 @@ says text = by _ refl
 -- ---- the result of a scan
 
 -- a text without digits before its exponent part is not a literal
-pub literal-no_digits : (text unsigned : List ℕ) (count : ℕ) → unsigned ≡ without_sign text → count ≡ length (mantissa_front unsigned)
-    → count ≡ 0 → is_literal text ≡ false
+pub literal-no_digits : (text unsigned : List ℕ) (count : ℕ) → unsigned ≡ without_sign text →
+    count ≡ length (mantissa_front unsigned) → count ≡ 0 → is_literal text ≡ false
 literal-no_digits text unsigned count u c none =
     is_literal-is text ∙ ap is_number (sym u) ∙ grind (arith, says unsigned, (sym c ∙ none))
 
@@ -309,10 +317,10 @@ front_digits text =
 
 pub scanned : (scan : Scan) (text unsigned rest : List ℕ) (exponent : ℤ) (count : ℕ) → unsigned ≡ without_sign text
     → rest ≡ after_mantissa unsigned → exponent_after rest ≡ Some exponent
-    → IsSignificandOf scan.significand (digits_sum (mantissa_front unsigned)) → count ≡ length (mantissa_front unsigned) → 0 < count
-    → scan.places ≡ length (fraction_front unsigned)
-    → scan.exponent ≡ exponent → scan.is_negative ≡ is_minus text → count ≤ length unsigned → zeros_of scan.significand ≤ length unsigned
-    → scan.places ≤ length unsigned → IsScanOf scan text
+    → IsSignificandOf scan.significand (digits_sum (mantissa_front unsigned)) →
+    count ≡ length (mantissa_front unsigned) → 0 < count → scan.places ≡ length (fraction_front unsigned)
+    → scan.exponent ≡ exponent → scan.is_negative ≡ is_minus text → count ≤ length unsigned →
+    zeros_of scan.significand ≤ length unsigned → scan.places ≤ length unsigned → IsScanOf scan text
 scanned = grind (arith, says, unsigned-is, exponent-is, are-digits, front_digits, is_literal-is)
 
 -- ---- The significand of digits before and after a point.
@@ -339,7 +347,8 @@ all-digits = grind (arith, digits_sum-append, first-digits)
 -- if there is no point
 pub only-digits : (text : List ℕ) (whole : Significand) → fraction_front text ≡ []
     → ((n : ℕ) → IsSignificandOf (Short 0 0) n → IsSignificandOf whole
-    (n * 10 ^ length (digits_front text) + digits_sum (digits_front text))) → IsSignificandOf whole (digits_sum (mantissa_front text))
+    (n * 10 ^ length (digits_front text) + digits_sum (digits_front text))) →
+    IsSignificandOf whole (digits_sum (mantissa_front text))
 only-digits = grind (arith, append-nil, first-digits)
 
 -- what follows the point, as the pattern of a slice cuts it
@@ -365,8 +374,9 @@ fraction-cut text rest e some point = ap (λ r. digits_front (after_point r)) (s
 pub zeros-front : (text : List ℕ) (count : ℕ) → count ≤ 0 + prefix_len is_digit text → count ≤ length text
 zeros-front text count h = omega (arith, prefix_len-le-length is_digit text)
 
-pub zeros-after : (text rest : List ℕ) (whole count : ℕ) → rest ≡ after_digits text → 1 ≤ length rest → whole ≤ 0 + prefix_len is_digit text
-    → count ≤ whole + prefix_len is_digit (take (length rest - 1) (drop 1 rest)) → count ≤ length text
+pub zeros-after : (text rest : List ℕ) (whole count : ℕ) → rest ≡ after_digits text → 1 ≤ length rest →
+    whole ≤ 0 + prefix_len is_digit text → count ≤ whole + prefix_len is_digit (take (length rest - 1) (drop 1 rest)) →
+    count ≤ length text
 zeros-after text rest whole count e some first more = search (rules, length-drop, prefix_len-le-length, arith)
 
 -- ---- The step of a loop over digits.
@@ -378,7 +388,8 @@ digits_sum-more xs i h =
     ap digits_sum (take_more xs i 0 h) ∙ digits_sum-append (take i xs) _ ∙ omega arith
 
 pub count-more : (xs : List ℕ) (i : ℕ) → i < length xs → is_digit (get_or xs i 0) ≡ true
-    → i + prefix_len is_digit (drop i xs) ≡ prefix_len is_digit xs → i + 1 + prefix_len is_digit (drop (i + 1) xs) ≡ prefix_len is_digit xs
+    → i + prefix_len is_digit (drop i xs) ≡ prefix_len is_digit xs →
+    i + 1 + prefix_len is_digit (drop (i + 1) xs) ≡ prefix_len is_digit xs
 count-more = grind (arith, prefix_len-drop_yes)
 
 regroup : (n p s d : ℕ) → (n * p + s) * 10 + d ≡ n * (p * 10) + (s * 10 + d)
@@ -402,9 +413,10 @@ none : (p s : ℕ) → 0 * p + s ≡ s
 none p s = omega arith
 
 -- the number of the digits before the point and of those after it
-pub all-number : (text fraction : List ℕ) (whole number : ℕ) → whole ≡ 0 * 10 ^ length (digits_front text) + digits_sum (digits_front text)
-    → number ≡ whole * 10 ^ length (digits_front fraction) + digits_sum (digits_front fraction)
-    → fraction_front text ≡ digits_front fraction → number ≡ digits_sum (mantissa_front text)
+pub all-number : (text fraction : List ℕ) (whole number : ℕ) →
+    whole ≡ 0 * 10 ^ length (digits_front text) + digits_sum (digits_front text) →
+    number ≡ whole * 10 ^ length (digits_front fraction) + digits_sum (digits_front fraction) →
+    fraction_front text ≡ digits_front fraction → number ≡ digits_sum (mantissa_front text)
 all-number = grind (arith, none, digits_sum-append)
 
 -- if there is no point

@@ -1,6 +1,8 @@
 -- Digits that are tested and read several at once.
-use Rattle.std.proofs.Common.{Bool, List, [], ap, arith, cond, drop, false, get_or, length, length-append, ltb, map, refl, suc, sym, take, true}
-use Rattle.std.proofs.{Common.{w32, w64, zero, ℕ, ◌%◌, ◌*◌, ◌++◌, ◌+◌, ◌-◌, ◌/◌, ◌<◌, ◌^◌, ◌∙◌, ◌∷◌, ◌≡◌, ◌≤◌}, lemmas.{List.take-append-drop, Nat.pow-add}}
+use Rattle.std.proofs.Common.{Bool, List, [], ap, arith, cond, drop, false, get_or, length, length-append, ltb, map}
+use Rattle.std.proofs.Common.{refl, suc, sym, take, true}
+use Rattle.std.proofs.Common.{w32, w64, zero, ℕ, ◌%◌, ◌*◌, ◌++◌, ◌+◌, ◌-◌, ◌/◌, ◌<◌, ◌^◌, ◌∙◌, ◌∷◌, ◌≡◌, ◌≤◌}
+use Rattle.std.proofs.lemmas.{List.take-append-drop, Nat.pow-add}
 use Rattle.std.specs.{Int.from_le_bytes, List.{list_all, prefix_len}, Prelude.{replicate, ◌&&◌}, Simd.Lanes.{mask_l, zip2}}
 use Rattle.mpslp_decimal.proofs.CutLemmas.{digits_sum-append, one_more}
 use Rattle.mpslp_decimal.specs.{Literal.{digits_sum, is_digit}, Scan.{IsLeft, after_digits, appended, digits_front}}
@@ -26,8 +28,8 @@ ones-head m n h = omega (arith, positive n, h)
 zero-head : (m n : ℕ) → 0 + 2 * m ≡ 2 ^ suc n - 1 → ⊥
 zero-head m n h = omega (arith, positive n, h)
 
-one-more : (b : ℕ) (bs : List ℕ) (n m : ℕ) (t : Bool) → ltb (less b 48) 10 ≡ t → b < 256 → (m ≡ 2 ^ n - 1 → list_all is_digit bs ≡ true)
-    → cond t 1 0 + 2 * m ≡ 2 ^ suc n - 1 → list_all is_digit (b ∷ bs) ≡ true
+one-more : (b : ℕ) (bs : List ℕ) (n m : ℕ) (t : Bool) → ltb (less b 48) 10 ≡ t → b < 256 →
+    (m ≡ 2 ^ n - 1 → list_all is_digit bs ≡ true) → cond t 1 0 + 2 * m ≡ 2 ^ suc n - 1 → list_all is_digit (b ∷ bs) ≡ true
 one-more b bs n m true is small more h = λ i. lane-digit b small is i && more (ones-head m n h) i
 one-more b bs n m false is small more h = absurd (zero-head m n h)
 
@@ -83,8 +85,8 @@ four-number (a ∷ b ∷ c ∷ d ∷ []) n e all is =
       most = omega (arith, is, ha.1, hb.1, hc.1, hd.1);
       first = omega (arith, minus, ha.1);
       value = ap four_value minus
-          ∙ four (a - 48) (b - 48) (c - 48) (d - 48) (omega (arith, ha.1)) (omega (arith, hb.1)) (omega (arith, hc.1)) (omega (arith, hd.1))
-          ∙ omega arith;
+          ∙ four (a - 48) (b - 48) (c - 48) (d - 48) (omega (arith, ha.1)) (omega (arith, hb.1)) (omega (arith, hc.1))
+          (omega (arith, hd.1)) ∙ omega arith;
     }
 
 -- the same for eight
@@ -107,7 +109,8 @@ eight-number (a ∷ b ∷ c ∷ d ∷ rest) n e all is =
     let long : length rest ≡ 4 = omega (arith, e) in
     let one = four-number front (from_le_bytes w32 front) refl (grind (arith, all)) refl in
     let two = four-number rest (from_le_bytes w32 rest) long (grind (arith, all)) refl in
-    let minus : n - 3472328296227680304 ≡ (from_le_bytes w32 front - 808464432) + (from_le_bytes w32 rest - 808464432) * 4294967296 =
+    let minus : n - 3472328296227680304 ≡ (from_le_bytes w32 front - 808464432) + (from_le_bytes w32 rest - 808464432) *
+    4294967296 =
     omega (arith, is, one.least, two.least) in
     record {
       least = omega (arith, is, one.least, two.least);
@@ -138,21 +141,24 @@ rest-after (x ∷ xs) more h =
 regroup : (n p q s f : ℕ) → (n * p + s) * q + f ≡ n * (p * q) + (s * q + f)
 regroup = grind arith
 
-value-after : (n : ℕ) (xs more : List ℕ) → list_all is_digit xs ≡ true → appended (n * 10 ^ length xs + digits_sum xs) more ≡ appended n (xs ++ more)
+value-after : (n : ℕ) (xs more : List ℕ) → list_all is_digit xs ≡ true →
+    appended (n * 10 ^ length xs + digits_sum xs) more ≡ appended n (xs ++ more)
 value-after n xs more h =
     regroup n (10 ^ length xs) (10 ^ length (digits_front more)) (digits_sum xs) (digits_sum (digits_front more))
     ∙ (λ i. n * sym (pow-add 10 (length xs) (length (digits_front more))) i + sym (digits_sum-append xs (digits_front more)) i)
     ∙ (λ i. n * 10 ^ sym (length-append xs (digits_front more)) i + digits_sum (xs ++ digits_front more))
     ∙ sym (ap (λ front. n * 10 ^ length front + digits_sum front) (front-after xs more h))
 
-pub several-appended : (n k : ℕ) (text xs more : List ℕ) → xs ≡ take k text → more ≡ drop k text → length xs ≡ k → list_all is_digit xs ≡ true
-    → IsLeft n text (n * 10 ^ k + digits_sum xs) more
+pub several-appended : (n k : ℕ) (text xs more : List ℕ) → xs ≡ take k text → more ≡ drop k text → length xs ≡ k →
+    list_all is_digit xs ≡ true → IsLeft n text (n * 10 ^ k + digits_sum xs) more
 several-appended n k text xs more front rest long all =
     let parts : xs ++ more ≡ text = (λ i. front i ++ rest i) ∙ take-append-drop k text in
     record {
       same_rest = sym (rest-after xs more all) ∙ ap after_digits parts;
-      same_value = ap (λ m. appended (n * 10 ^ m + digits_sum xs) more) (sym long) ∙ value-after n xs more all ∙ ap (appended n) parts;
+      same_value = ap (λ m. appended (n * 10 ^ m + digits_sum xs) more) (sym long) ∙ value-after n xs more all
+          ∙ ap (appended n) parts;
     }
 
 pub then-left : (n m l : ℕ) (text more most : List ℕ) → IsLeft n text m more → IsLeft m more l most → IsLeft n text l most
-then-left n m l text more most one two = record { same_rest = two.same_rest ∙ one.same_rest; same_value = two.same_value ∙ one.same_value }
+then-left n m l text more most one two =
+    record { same_rest = two.same_rest ∙ one.same_rest; same_value = two.same_value ∙ one.same_value }

@@ -1,8 +1,10 @@
 -- The text of a decimal is read back as the decimal.
 use Rattle.std.proofs.Common.{Bool, List, [], add-one, ap, append_assoc, arith, drop, false, length, length-append, length-drop, refl}
 use Rattle.std.proofs.Common.{replicate, subst, suc, sym, take, true, zero, ℕ, ◌%◌, ◌*◌, ◌++◌, ◌+◌, ◌-◌, ◌<◌, ◌^◌, ◌∙◌, ◌∷◌, ◌≡◌, ◌≤◌}
-use Rattle.std.proofs.lemmas.{Bool.{Decides.nat_tests, le-ltb, leb-true, lt-ltb, ltb-true}, Fmt.{decimal_digit, length-decimal-le, length-decimal-le_wide}, Int.ints}
-use Rattle.std.{proofs.lemmas.List.{append-nil, length-replicate, take-replicate}, specs.{Cmp.first_so, Fmt.{decimal, digits, signed_decimal}}}
+use Rattle.std.proofs.lemmas.Bool.{Decides.nat_tests, le-ltb, leb-true, lt-ltb, ltb-true}
+use Rattle.std.proofs.lemmas.{Fmt.{decimal_digit, length-decimal-le, length-decimal-le_wide}, Int.ints}
+use Rattle.std.proofs.lemmas.List.{append-nil, length-replicate, take-replicate}
+use Rattle.std.specs.{Cmp.first_so, Fmt.{decimal, digits, signed_decimal}}
 use Rattle.std.specs.{List.{after_first, before_first, list_any}, Prelude.{Err, Ok, Result, codes, if◌then◌else◌, int_le, nat_le, nat_lt}}
 use Rattle.std.specs.Prelude.{neg_ℤ, negsuc, not, pos, unsigned_abs, ℤ, ◌&&◌, ◌-ℤ◌, ◌==◌, ◌||◌, ◌≤ℤ◌}
 use Rattle.mpslp_decimal.proofs.CutLemmas.{AreDigits, Each, Each-append, Each-weaker, Spells, after-at, after-none, any-none, before-at}
@@ -36,15 +38,17 @@ pub record Reading (text : List ℕ) (minus : Bool) (digits fraction ex : List �
 abbrev pub answer_of : Bool → Bool → Bool → Bool → Number → Result Number NumberFault
 answer_of literal long few small v =
     if not literal then Err BadNumber
-    else (if long then Err LongNumber else (if not few then Err TooManyDigits else (if not small then Err ExponentRange else Ok v)))
+    else (if long then Err LongNumber
+    else (if not few then Err TooManyDigits else (if not small then Err ExponentRange else Ok v)))
 
 pub tests_pass : (literal long few small : Bool) (v : Number) → literal ≡ true → long ≡ false → few ≡ true → small ≡ true
     → answer_of literal long few small v ≡ Ok v
 tests_pass lit long few small v a b c d = rw (a, b, c, d) refl
 
-pub number-read : (text : List ℕ) (d : Number) (minus : Bool) (digits fraction ex : List ℕ) → Reading text minus digits fraction ex
-    → are_digits digits ≡ true
-    → length text ≤ 255 → IsDecimal d → normal (decimal_at minus (digits_sum digits) (signed_value ex -ℤ pos (length fraction))) ≡ d
+pub number-read : (text : List ℕ) (d : Number) (minus : Bool) (digits fraction ex : List ℕ) →
+    Reading text minus digits fraction ex → are_digits digits ≡ true
+    → length text ≤ 255 → IsDecimal d →
+    normal (decimal_at minus (digits_sum digits) (signed_value ex -ℤ pos (length fraction))) ≡ d
     → number_of text ≡ Ok d
 number-read = grind (arith, tests_pass, le-ltb)
 
@@ -79,7 +83,8 @@ digits-pointed left right h k n =
     let after = after-at is_point left right 46 points refl in
     record {
       begins = begins-append left _ (grind (arith, h, n));
-      no_mark = Each-append (λ b. is_exponent_mark b ≡ false) left (46 ∷ right) (no_mark-digits left h) (refl, no_mark-digits right k);
+      no_mark = Each-append (λ b. is_exponent_mark b ≡ false) left (46 ∷ right) (no_mark-digits left h)
+          (refl, no_mark-digits right k);
       before_after = (λ i. before-at is_point left right 46 points refl i ++ after i);
       after = after;
     }
@@ -119,7 +124,8 @@ whole-form minus m k ds h l ok =
     let value : digits_sum (ds ++ zeros_text k) ≡ m * 10 ^ k = sum ∙ (λ i. h.spells.value i * 10 ^ zeros i + digits_sum-zeros k i)
     ∙ omega arith in
     let exponents : pos 0 -ℤ pos 0 ≡ pos k -ℤ pos k = omega (arith, ints) in
-    let short : length (sign_text minus ++ (ds ++ zeros_text k)) ≤ 255 = omega (arith, sign_short minus (ds ++ zeros_text k), h.short) in
+    let short : length (sign_text minus ++ (ds ++ zeros_text k)) ≤ 255 =
+    omega (arith, sign_short minus (ds ++ zeros_text k), h.short) in
     number-read (sign_text minus ++ front) _ minus front [] [] (grind (
       arith,
       no_mark-signed,
@@ -136,8 +142,9 @@ whole-form minus m k ds h l ok =
 or_second : (x y : Bool) → y ≡ true → (x || y) ≡ true
 or_second = grind arith
 
-exponent-form : (minus : Bool) (m : ℕ) (e : ℤ) (ds ex : List ℕ) → Mantissa m ds → signed_value ex ≡ e → are_digits (without_sign ex) ≡ true
-    → length ex ≤ 22 → IsDecimal (decimal_at minus m e) → number_of ((sign_text minus ++ ds) ++ 101 ∷ ex) ≡ Ok (decimal_at minus m e)
+exponent-form : (minus : Bool) (m : ℕ) (e : ℤ) (ds ex : List ℕ) → Mantissa m ds → signed_value ex ≡ e →
+    are_digits (without_sign ex) ≡ true → length ex ≤ 22 → IsDecimal (decimal_at minus m e) →
+    number_of ((sign_text minus ++ ds) ++ 101 ∷ ex) ≡ Ok (decimal_at minus m e)
 exponent-form minus m e ds ex h v good few ok =
     let all = h.spells.digits in
     let some = h.spells.some in
@@ -145,8 +152,9 @@ exponent-form minus m e ds ex h v good few ok =
     let short : length ((sign_text minus ++ ds) ++ 101 ∷ ex) ≤ 255 =
     omega (arith, length-append (sign_text minus ++ ds) (101 ∷ ex), sign_short minus ds, h.short) in
     number-read _ _ minus ds [] ex (grind
-    (arith, no_mark-signed, before-at, unsign, after-at, minus-of, or_second, digits-whole ds all some, good)) (are-digits ds all some)
-    short ok ((λ i. normal (decimal_at minus (once i) (v i -ℤ pos 0))) ∙ normal-tens minus m 0 e h.ends (omega arith))
+    (arith, no_mark-signed, before-at, unsign, after-at, minus-of, or_second, digits-whole ds all some, good))
+    (are-digits ds all some) short ok ((λ i. normal (decimal_at minus (once i) (v i -ℤ pos 0)))
+    ∙ normal-tens minus m 0 e h.ends (omega arith))
 
 take-drop : (n : ℕ) (xs : List ℕ) → take n xs ++ drop n xs ≡ xs
 take-drop (suc n) (x ∷ xs) = ap (λ y. x ∷ y) (take-drop n xs)
@@ -181,9 +189,17 @@ cut-form minus m n c padded s ends at some few ok =
     let left_some : 0 < length (take c padded) = omega (arith, right_len, total, at) in
     let some_all : 0 < length (take c padded ++ drop c padded) = omega (arith, ap length whole, at) in
     let value : digits_sum (take c padded ++ drop c padded) ≡ m * 10 ^ 0 = ap digits_sum whole ∙ s.value ∙ omega arith in
-    let exponents : pos 0 -ℤ pos (length (drop c padded)) ≡ negsuc n -ℤ pos 0 = ap (λ x. pos 0 -ℤ pos x) right_len ∙ omega (arith, ints) in
+    let exponents : pos 0 -ℤ pos (length (drop c padded)) ≡ negsuc n -ℤ pos 0 =
+    ap (λ x. pos 0 -ℤ pos x) right_len ∙ omega (arith, ints) in
     let short : length (sign_text minus ++ (take c padded ++ 46 ∷ drop c padded)) ≤ 255 =
-    omega (arith, sign_short minus (take c padded ++ 46 ∷ drop c padded), length-append (take c padded) (46 ∷ drop c padded), total, few) in
+    omega (
+      arith,
+      sign_short minus (take c padded ++ 46 ∷ drop c padded),
+      length-append (take c padded)
+          (46 ∷ drop c padded),
+      total,
+      few,
+    ) in
     number-read _ _ minus (left ++ right) right []
     (grind (
       arith,
@@ -205,8 +221,8 @@ point-form minus m n ds h l ok =
     let len =
     length-append _ ds ∙ ap (λ (x : ℕ). x + length ds) (length-replicate ((n + 1) + 1 - length ds) 48) in
     cut-form minus m n _ _
-    (padded-spells ((n + 1) + 1 - length ds) m ds h.spells) h.ends (omega (arith, len)) (omega (arith, len)) (omega (arith, len, h.short))
-    ok
+    (padded-spells ((n + 1) + 1 - length ds) m ds h.spells) h.ends (omega (arith, len)) (omega (arith, len))
+    (omega (arith, len, h.short)) ok
 
 -- ---- every decimal
 
@@ -261,7 +277,8 @@ scaled-read minus m (pos n) small ends ok = by (nat_le n 5) refl
         (grind (arith, x.0)) (grind (arith, no_sign, begins-digits, are-digits, x.0)) (omega (arith, x.1)) ok
 scaled-read minus m (negsuc n) small ends ok = by _ refl
   where
-    by : (b : Bool) → nat_lt n 18 ≡ b → read_signed minus (scaled_text (decimal m) (negsuc n)) ≡ Ok (decimal_at minus m (negsuc n))
+    by : (b : Bool) → nat_lt n 18 ≡ b →
+        read_signed minus (scaled_text (decimal m) (negsuc n)) ≡ Ok (decimal_at minus m (negsuc n))
     by true e = ap (read_signed minus) (scaled-point (decimal m) n e)
         ∙ point-form minus m n (decimal m) (mantissa-form m small ends) (ltb-true n 18 e) ok
     by false e =
@@ -310,18 +327,20 @@ read-short = grind arith
 
 -- ---- the pieces that are printed
 
-zero-pieces : sign_text (is_negative zero_number) ++ scaled_text (decimal (unsigned_abs zero_number.mantissa)) zero_number.exponent
+zero-pieces : sign_text (is_negative zero_number) ++ scaled_text (decimal (unsigned_abs zero_number.mantissa))
+    zero_number.exponent
     ≡ codes "0"
 unfolding digits
 zero-pieces = refl
 
 -- a text without its case for zero
-number_text-is : (d : Number) → IsDecimal d → sign_text (is_negative d) ++ scaled_text (decimal (unsigned_abs d.mantissa)) d.exponent
-    ≡ number_text d
+number_text-is : (d : Number) → IsDecimal d →
+    sign_text (is_negative d) ++ scaled_text (decimal (unsigned_abs d.mantissa)) d.exponent ≡ number_text d
 number_text-is = grind (arith, zero-is, zero-pieces)
 
-pub printed-pieces : (d : Number) (none sign all ds : List ℕ) (e : ℤ) → IsDecimal d → none ≡ [] → sign ≡ none ++ sign_text (is_negative d)
-    → all ≡ sign ++ scaled_text ds e → ds ≡ decimal (unsigned_abs d.mantissa) → e ≡ d.exponent → all ≡ number_text d
+pub printed-pieces : (d : Number) (none sign all ds : List ℕ) (e : ℤ) → IsDecimal d → none ≡ [] →
+    sign ≡ none ++ sign_text (is_negative d) → all ≡ sign ++ scaled_text ds e → ds ≡ decimal (unsigned_abs d.mantissa) →
+    e ≡ d.exponent → all ≡ number_text d
 printed-pieces = grind (arith, number_text-is)
 
 not-zero : (n : ℕ) → (suc n == 0) ≡ false

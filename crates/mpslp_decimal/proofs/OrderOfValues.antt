@@ -34,7 +34,8 @@ scaled-same a b p q same =
     let under : surplus b.exponent a.exponent ≡ height b.exponent - height a.exponent =
     surplus-heights _ _ (least-exponent b q) (least-exponent a p) in
     let c : ℕ = height a.exponent - (height a.exponent - height b.exponent) in
-    scaled-beside a b c (omega (arith, over)) ∙ ap (λ z. z *ℤ pos (10 ^ c)) same ∙ sym (scaled-beside b a c (omega (arith, under)))
+    scaled-beside a b c (omega (arith, over)) ∙ ap (λ z. z *ℤ pos (10 ^ c)) same
+    ∙ sym (scaled-beside b a c (omega (arith, under)))
 
 pub same-value : (a b : Number) → IsDecimal a → IsDecimal b → HasSameValue a b → a ≡ b
 same-value a b p q same = one_form a b p q (scaled-same a b p q same)
@@ -83,7 +84,8 @@ compare-beside a b p q h =
     surplus-heights _ _ (least-exponent a p) (least-exponent b q) in
     let under : surplus b.exponent a.exponent ≡ height b.exponent - height a.exponent =
     surplus-heights _ _ (least-exponent b q) (least-exponent a p) in
-    let left : scaled a ≡ mantissa_beside a b *ℤ pos (10 ^ height b.exponent) = scaled-beside a b _ (omega (arith, over, under, down)) in
+    let left : scaled a ≡ mantissa_beside a b *ℤ pos (10 ^ height b.exponent) =
+    scaled-beside a b _ (omega (arith, over, under, down)) in
     let right : scaled b ≡ mantissa_beside b a *ℤ pos (10 ^ height b.exponent) =
     scaled-beside b a (height b.exponent) (omega (arith, down)) in
     let one : mantissa_beside b a ≡ b.mantissa = ap (λ n. b.mantissa *ℤ pos (10 ^ n)) down ∙ omega (arith, ints) in
@@ -92,13 +94,15 @@ compare-beside a b p q h =
     ∙ (λ i. int_cmp (sym left i) (sym right i))
 
 pub compare-left : (a b : Number) (r : Ordering) (places : ℕ) → IsDecimal a → IsDecimal b → b.exponent ≤ℤ a.exponent
-    → places ≡ unsigned_abs (a.exponent -ℤ b.exponent) → r ≡ int_cmp (a.mantissa *ℤ pos (10 ^ places)) b.mantissa → r ≡ order_of a b
+    → places ≡ unsigned_abs (a.exponent -ℤ b.exponent) → r ≡ int_cmp (a.mantissa *ℤ pos (10 ^ places)) b.mantissa →
+    r ≡ order_of a b
 compare-left = grind (arith, compare-beside, order-decimal)
 
 -- with equal exponents
 pub compare-level : (a b : Number) (r : Ordering) → IsDecimal a → IsDecimal b → a.exponent ≡ b.exponent
     → r ≡ int_cmp a.mantissa b.mantissa → r ≡ order_of a b
-compare-level a b r p q e h = compare-left a b r 0 p q (grind arith) (grind (arith, ints)) (h ∙ ap (λ m. int_cmp m b.mantissa) (omega (arith, ints)))
+compare-level a b r p q e h = compare-left a b r 0 p q (grind arith) (grind (arith, ints))
+    (h ∙ ap (λ m. int_cmp m b.mantissa) (omega (arith, ints)))
 
 size-back : (e f : ℤ) → unsigned_abs (e -ℤ f) ≡ unsigned_abs (f -ℤ e)
 size-back = grind arith

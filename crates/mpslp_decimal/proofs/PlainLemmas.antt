@@ -1,9 +1,11 @@
 -- A literal whose digits fit in 64 bits, and a text of an optional sign and digits, the last of which is not 0.
-use Rattle.std.proofs.Common.{Bool, List, [], ap, arith, length, refl, true, ℕ, ◌%◌, ◌<◌, ◌^◌, get_or, length-append, subst, sym, ℤ, ◌∷◌, ◌≡◌, ◌≤ℤ◌, ◌≤◌}
+use Rattle.std.proofs.Common.{Bool, List, [], ap, arith, length, refl, true, ℕ, ◌%◌, ◌<◌, ◌^◌, get_or, length-append}
+use Rattle.std.proofs.Common.{subst, sym, ℤ, ◌∷◌, ◌≡◌, ◌≤ℤ◌, ◌≤◌}
 use Rattle.std.specs.Prelude.{Ok, Some, pos, ◌==◌}
 use Rattle.mpslp_decimal.proofs.{GrammarLemmas.{scanned, short-zeros, within}, NormalLemmas.decimal_at, SpellsLemmas.number-few}
 use Rattle.mpslp_decimal.specs.declared.number.TheConstants.{MAX_EXPONENT, MIN_EXPONENT}
-use Rattle.mpslp_decimal.specs.{Decimal.{Number, zero_number}, Literal.{digits_sum, is_minus, number_of, without_sign}, Scan.{after_digits, exponent_after}}
+use Rattle.mpslp_decimal.specs.{Decimal.{Number, zero_number}, Literal.{digits_sum, is_minus, number_of, without_sign}}
+use Rattle.mpslp_decimal.specs.Scan.{after_digits, exponent_after}
 use Rattle.mpslp_decimal.specs.Scan.{IsScanOf, IsStripped, after_mantissa, digits_front, fraction_front, in_range, mantissa_front}
 use Rattle.mpslp_decimal.specs.declared.literal.{Scan.Scan, Significand.TheVariants.Short}
 
@@ -27,7 +29,8 @@ positive = grind arith
 -- ---- What is read of a literal of few digits.
 
 abbrev pub short-scan : Bool → ℕ → ℕ → ℕ → ℤ → Scan
-short-scan minus m z places exponent = record { is_negative = minus; significand = Short m z; places = places; exponent = exponent }
+short-scan minus m z places exponent =
+    record { is_negative = minus; significand = Short m z; places = places; exponent = exponent }
 
 pub short-scanned : (text unsigned rest : List ℕ) (minus : Bool) (n m z places : ℕ) (exponent : ℤ) → minus ≡ is_minus text
     → unsigned ≡ without_sign text → rest ≡ after_mantissa unsigned → n ≡ digits_sum (mantissa_front unsigned)
@@ -45,16 +48,16 @@ pub stripped-scanned : (text unsigned rest : List ℕ) (minus : Bool) (n m z pla
     → IsScanOf (short-scan minus m z places exponent) text
 stripped-scanned text unsigned rest minus n m z places exponent signed is after value some fraction power stripped few =
     let above = positive n some in
-    short-scanned text unsigned rest minus n m z places exponent signed is after value (some-digits _ n value above) fraction power
-    stripped (omega (arith, few)) (short-zeros unsigned n m z value stripped above)
+    short-scanned text unsigned rest minus n m z places exponent signed is after value (some-digits _ n value above)
+    fraction power stripped (omega (arith, few)) (short-zeros unsigned n m z value stripped above)
 
 pub plain-number : (text unsigned rest : List ℕ) (minus : Bool) (n : ℕ) → minus ≡ is_minus text → unsigned ≡ without_sign text
-    → rest ≡ after_digits unsigned → rest ≡ [] → n ≡ digits_sum (mantissa_front unsigned) → 0 < n % 10 → n < 10 ^ 36 → length text ≤ 255
-    → number_of text ≡ in_range (decimal_at minus n (pos 0))
+    → rest ≡ after_digits unsigned → rest ≡ [] → n ≡ digits_sum (mantissa_front unsigned) → 0 < n % 10 → n < 10 ^ 36 →
+    length text ≤ 255 → number_of text ≡ in_range (decimal_at minus n (pos 0))
 plain-number text unsigned rest minus n signed is after none value ends few short =
     let scan = short-scanned text unsigned rest minus n n 0 0 (pos 0) signed is (at-end unsigned rest after none) value
-    (some-digits _ n value (omega (arith, ends))) (sym (ap length (no-fraction unsigned rest after none))) (ap exponent_after none)
-    (record { value = omega arith; ends = λ _. ends }) few (omega arith) in
+    (some-digits _ n value (omega (arith, ends))) (sym (ap length (no-fraction unsigned rest after none)))
+    (ap exponent_after none) (record { value = omega arith; ends = λ _. ends }) few (omega arith) in
     sym (number-few (short-scan minus n 0 0 (pos 0)) text n 0 (pos 0) scan refl (λ e. absurd (omega (arith, e, ends))) short refl)
 
 pub within-range : (d : Number) → MIN_EXPONENT ≤ℤ d.exponent → d.exponent ≤ℤ MAX_EXPONENT → in_range d ≡ Ok d

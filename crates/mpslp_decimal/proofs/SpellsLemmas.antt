@@ -152,15 +152,16 @@ number-zero scan text m z s e none short =
     let nothing : digits_sum (mantissa_digits text) ≡ 0 = sym stripped.value ∙ ap (λ k. k * 10 ^ z) none ∙ omega arith in
     sym (number-value text zero_number s.literal short (grind (arith, nothing)))
 
-pub scan-ends : (scan : Scan) (text : List ℕ) (m z : ℕ) → IsScanOf scan text → parts_of scan.significand ≡ Some (m, z) → (m ≡ 0 → ⊥)
-    → 0 < m % 10
+pub scan-ends : (scan : Scan) (text : List ℕ) (m z : ℕ) → IsScanOf scan text → parts_of scan.significand ≡ Some (m, z) →
+    (m ≡ 0 → ⊥) → 0 < m % 10
 scan-ends = grind (arith, parts-are, positive-product, not-zero, pow_positive)
 
-pub scan-few : (scan : Scan) (text : List ℕ) (m z : ℕ) → IsScanOf scan text → parts_of scan.significand ≡ Some (m, z) → m < 10 ^ 36
+pub scan-few : (scan : Scan) (text : List ℕ) (m z : ℕ) → IsScanOf scan text → parts_of scan.significand ≡ Some (m, z) →
+    m < 10 ^ 36
 scan-few = grind arith
 
-pub scan-zeros : (scan : Scan) (text : List ℕ) (m z : ℕ) → IsScanOf scan text → parts_of scan.significand ≡ Some (m, z) → length text ≤ 255
-    → z ≤ 255
+pub scan-zeros : (scan : Scan) (text : List ℕ) (m z : ℕ) → IsScanOf scan text →
+    parts_of scan.significand ≡ Some (m, z) → length text ≤ 255 → z ≤ 255
 scan-zeros = grind arith
 
 pub number-many : (scan : Scan) (text : List ℕ) → IsScanOf scan text → scan.significand ≡ Many → length text ≤ 255
@@ -189,8 +190,8 @@ number-many scan text s e short =
         sym (number-value text _ s.literal short value
         ∙ many-answer (decimal_at minus m exponent) (few_digits-signed minus m exponent false not_few))
 
-pub number-few : (scan : Scan) (text : List ℕ) (m z : ℕ) (exponent : ℤ) → IsScanOf scan text → parts_of scan.significand ≡ Some (m, z)
-    → (m ≡ 0 → ⊥) → length text ≤ 255
+pub number-few : (scan : Scan) (text : List ℕ) (m z : ℕ) (exponent : ℤ) → IsScanOf scan text →
+    parts_of scan.significand ≡ Some (m, z) → (m ≡ 0 → ⊥) → length text ≤ 255
     → exponent ≡ (scan.exponent +ℤ pos z) -ℤ pos scan.places → in_range (decimal_at scan.is_negative m exponent) ≡ number_of text
 number-few scan text m z exponent s e nonzero short is =
     let power = exponent_part text in
@@ -288,7 +289,8 @@ passed : (literal long few small : Bool) (v d : Number)
     → Passed literal long few small v d
 passed = grind arith
 
-pub mantissa-small : (text : List ℕ) → is_literal text ≡ true → digits_sum (mantissa_digits text) < 10 ^ length (mantissa_digits text)
+pub mantissa-small : (text : List ℕ) → is_literal text ≡ true →
+    digits_sum (mantissa_digits text) < 10 ^ length (mantissa_digits text)
 mantissa-small = grind (arith, digits_sum-small, digits-each)
 
 around : (text : List ℕ) (i : ℕ) → length (take i text ++ drop (i + 1) text) ≤ length text
@@ -325,13 +327,14 @@ above-both : (e f : ℤ) (k : ℕ) → surplus e f ≡ suc k → surplus f e ≡
 above-both = grind arith
 
 -- a normal mantissa absorbs no zeros of the other one
-no-zeros-after : (v d : Number) (k : ℕ) → HasSameValue v d → 0 < unsigned_abs d.mantissa % 10 → surplus v.exponent d.exponent ≡ suc k → ⊥
+no-zeros-after : (v d : Number) (k : ℕ) → HasSameValue v d → 0 < unsigned_abs d.mantissa % 10 →
+    surplus v.exponent d.exponent ≡ suc k → ⊥
 no-zeros-after v d k same ends up =
     let down = above-both v.exponent d.exponent k up in
     let sizes =
     sym (unsigned_abs-mul v.mantissa _) ∙ ap unsigned_abs same ∙ unsigned_abs-mul d.mantissa _ in
-    let whole = ap (λ (n : ℕ). unsigned_abs v.mantissa * 10 ^ n) (sym up) ∙ sizes ∙ ap (λ (n : ℕ). unsigned_abs d.mantissa * 10 ^ n) down
-    ∙ times_one _ in
+    let whole = ap (λ (n : ℕ). unsigned_abs v.mantissa * 10 ^ n) (sym up) ∙ sizes
+    ∙ ap (λ (n : ℕ). unsigned_abs d.mantissa * 10 ^ n) down ∙ times_one _ in
     tenfold _ k _ whole ends
   where
     shift : (n k : ℕ) → n * 10 ^ suc k ≡ (n * 10 ^ k) * 10

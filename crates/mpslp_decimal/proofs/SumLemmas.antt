@@ -86,8 +86,8 @@ sum-other a b = sum-turn b a
 -- the sum at the smaller exponent is not a decimal
 pub sum-none : (a b : Number) → IsDecimal a → IsDecimal b → b.exponent ≤ℤ a.exponent → mantissa_beside a b +ℤ b.mantissa ≡ pos 0
     → Some zero_number ≡ sum_of a b
-sum-none a b p q h none = sym (ap (λ z. decimal_of (at_scale z)) (sum-scaled a b p q h ∙ ap (λ z. z *ℤ pos (10 ^ height b.exponent)) none
-    ∙ gone _) ∙ refl)
+sum-none a b p q h none = sym (ap (λ z. decimal_of (at_scale z))
+    (sum-scaled a b p q h ∙ ap (λ z. z *ℤ pos (10 ^ height b.exponent)) none ∙ gone _) ∙ refl)
   where
     gone : (p : ℕ) → pos 0 *ℤ pos p ≡ pos 0
     gone p = omega (arith, ints)
@@ -99,7 +99,8 @@ pub sum-stripped : (a b : Number) (minus : Bool) (n m z : ℕ) → IsDecimal a �
 sum-stripped = grind (arith, exponents-of, normal-shift, sum-scaled)
 
 pub sum-some : (a b : Number) (minus : Bool) (n : ℕ) → IsDecimal a → IsDecimal b → b.exponent ≤ℤ a.exponent
-    → mantissa_beside a b +ℤ b.mantissa ≡ to_signed minus n → 0 < n → n < 10 ^ 39 → decimal_of (decimal_at minus n b.exponent) ≡ sum_of a b
+    → mantissa_beside a b +ℤ b.mantissa ≡ to_signed minus n → 0 < n → n < 10 ^ 39 →
+    decimal_of (decimal_at minus n b.exponent) ≡ sum_of a b
 sum-some a b minus n p q h is some small = by (strip 39 n small some)
   where
     by : (m : ℕ) × (z : ℕ) × IsStripped n m z → decimal_of (decimal_at minus n b.exponent) ≡ sum_of a b
@@ -142,8 +143,8 @@ sum-bound = grind arith
 
 -- a sum that is too large in magnitude: zeros are appended to one of both, because two mantissas together do not reach it
 pub sum-far : (a b : Number) (places : ℕ) → IsDecimal a → IsDecimal b → b.exponent ≤ℤ a.exponent → is_zero b ≡ false
-    → places ≡ unsigned_abs (a.exponent -ℤ b.exponent) → 2 * 10 ^ 36 ≤ unsigned_abs (a.mantissa *ℤ pos (10 ^ places) +ℤ b.mantissa)
-    → None ≡ sum_of a b
+    → places ≡ unsigned_abs (a.exponent -ℤ b.exponent) →
+    2 * 10 ^ 36 ≤ unsigned_abs (a.mantissa *ℤ pos (10 ^ places) +ℤ b.mantissa) → None ≡ sum_of a b
 sum-far a b zero p q h y e far = grind (arith, sum-bound, unsigned_abs-mul, few-digits)
 sum-far a b (suc j) p q h y e far =
     let up = surplus-up _ _ h ∙ sym e in
@@ -158,8 +159,9 @@ sum-far a b (suc j) p q h y e far =
     ∙ sum-stripped a b minus n n 0 p q h total stripped (omega (arith, ends)) (omega arith)
 
 -- the sum at the smaller exponent, as it is computed
-pub beside-sum : (a b : Number) (places : ℕ) (s x y : ℤ) → b.exponent ≤ℤ a.exponent → places ≡ unsigned_abs (a.exponent -ℤ b.exponent)
-    → x ≡ a.mantissa → y ≡ b.mantissa → s ≡ (x *ℤ pos (10 ^ places)) +ℤ y → mantissa_beside a b +ℤ b.mantissa ≡ s
+pub beside-sum : (a b : Number) (places : ℕ) (s x y : ℤ) → b.exponent ≤ℤ a.exponent →
+    places ≡ unsigned_abs (a.exponent -ℤ b.exponent) → x ≡ a.mantissa → y ≡ b.mantissa →
+    s ≡ (x *ℤ pos (10 ^ places)) +ℤ y → mantissa_beside a b +ℤ b.mantissa ≡ s
 beside-sum = grind arith
 
 pub exponent-small : (d : Number) → IsDecimal d → unsigned_abs d.exponent ≤ 500
@@ -175,8 +177,8 @@ signed-below = grind arith
 -- ---- The magnitude of a result that does not fit in 128 bits.
 
 -- a product that is checked
-pub product-held : (answer : Option ℤ) (product m : ℤ) (p : ℕ) → SomeIff answer (FitsSigned w128 product) product → product ≡ m *ℤ pos p
-    → MatchOption answer (10 ^ 37 ≤ unsigned_abs m * p) (λ shifted. shifted ≡ m *ℤ pos p)
+pub product-held : (answer : Option ℤ) (product m : ℤ) (p : ℕ) → SomeIff answer (FitsSigned w128 product) product →
+    product ≡ m *ℤ pos p → MatchOption answer (10 ^ 37 ≤ unsigned_abs m * p) (λ shifted. shifted ≡ m *ℤ pos p)
 product-held = grind arith
 
 -- the sum with a product that is too large does not fit

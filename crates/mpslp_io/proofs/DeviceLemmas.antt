@@ -3,10 +3,12 @@ use Rattle.std.proofs.Common.{◌≡◌, refl, sym, ℕ, Bool, true, false, List
 use Rattle.std.specs.Io.KnownBytes.{Keeps, Appends}
 
 -- known bytes after a write are the old ones and what was appended
-pub appends_some : (a b : Option (List ℕ)) (before bytes : List ℕ) → Appends a b bytes → a ≡ Some before → b ≡ Some (before ++ bytes)
+pub appends_some : (a b : Option (List ℕ)) (before bytes : List ℕ) → Appends a b bytes → a ≡ Some before →
+    b ≡ Some (before ++ bytes)
 appends_some None b before bytes grown known = absurd (cc)
 appends_some (Some x) None before bytes grown known = absurd grown
-appends_some (Some x) (Some y) before bytes grown known = let same : x ≡ before = cc in ap Some (grown ∙ ap (λ l. l ++ bytes) same)
+appends_some (Some x) (Some y) before bytes grown known = let same : x ≡ before = cc in
+    ap Some (grown ∙ ap (λ l. l ++ bytes) same)
 
 -- known bytes that are kept stay known
 pub keeps_some : (a b : Option (List ℕ)) (before : List ℕ) → Keeps a b → a ≡ Some before → b ≡ Some before

@@ -22,8 +22,8 @@ no_fault-unless = grind arith
 -- ---- results
 
 -- the end of a builder that has the draft of the bytes
-pub finished-answers : (Declares : List ℕ → LinearModel → Type 0) (first_fault : List ℕ → Option Fault) (bytes : List ℕ) (draft : Draft)
-    (answer : Result LinearModel ReadFault)
+pub finished-answers : (Declares : List ℕ → LinearModel → Type 0) (first_fault : List ℕ →
+    Option Fault) (bytes : List ℕ) (draft : Draft) (answer : Result LinearModel ReadFault)
     → first_fault bytes ≡ file_fault draft → (first_fault bytes ≡ None → Declares bytes (model_of draft))
     → Finishes draft answer → IsAnswerTo Declares (IsFirst first_fault) bytes answer
 finished-answers = grind arith

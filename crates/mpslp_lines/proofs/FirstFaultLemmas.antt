@@ -20,12 +20,14 @@ late_kinds : (refusals : List BuildFault) → list_any is_kind_clash refusals �
 late_kinds [] h = refl
 late_kinds (fault ∷ faults) h = grind (arith, late_kinds faults)
 
-clash_or_later_all : (refusals : List BuildFault) → list_all (is_from kinds.SemiContinuous) (map kind_of_build_fault refusals) ≡ true
+clash_or_later_all : (refusals : List BuildFault) →
+    list_all (is_from kinds.SemiContinuous) (map kind_of_build_fault refusals) ≡ true
 clash_or_later_all [] = refl
 clash_or_later_all (fault ∷ faults) = grind (arith, clash_or_later_all faults)
 
 -- a property of all is a property of the least
-least_is : (p : FaultKind → Bool) (faults : List FaultKind) → list_all p faults ≡ true → option_map_or p (least_kind faults) true ≡ true
+least_is : (p : FaultKind → Bool) (faults : List FaultKind) → list_all p faults ≡ true →
+    option_map_or p (least_kind faults) true ≡ true
 least_is p [] h = refl
 least_is p (kind ∷ faults) h = grind (arith, least_is p faults)
 
@@ -89,8 +91,8 @@ clash-first tests earlier ds rising following clash =
     from (Some kind) held = ap (λ b. Some (cond b kinds.SemiContinuous kind)) (held-among _ tests kind following held)
 
 -- no error of the form
-pub declared-first : (tests : FaultTests) (earlier : Draft) (ds : Declarations) → are_rising tests ≡ true → first_held tests ≡ None
-    → first_fault tests earlier ds ≡ declared_fault earlier ds
+pub declared-first : (tests : FaultTests) (earlier : Draft) (ds : Declarations) → are_rising tests ≡ true →
+    first_held tests ≡ None → first_fault tests earlier ds ≡ declared_fault earlier ds
 declared-first = grind (arith, least-append, earlier_of, least-those_of)
 
 -- ---- no error
@@ -122,11 +124,11 @@ pub bad-byte : (line outside : List ℕ) (tests : FaultTests) (earlier : Draft) 
 bad-byte line outside tests earlier ds rising length bad =
     form-earliest (legal_tests line outside ++ tests) _ earlier ds rising (rw (length, bad) refl) refl
 
-pub legal-only : (line outside : List ℕ) (tests : FaultTests) → has_legal_length line ≡ true → list_all is_legal_byte outside ≡ true
-    → those_of (legal_tests line outside ++ tests) ≡ those_of tests
+pub legal-only : (line outside : List ℕ) (tests : FaultTests) → has_legal_length line ≡ true →
+    list_all is_legal_byte outside ≡ true → those_of (legal_tests line outside ++ tests) ≡ those_of tests
 legal-only line outside tests length bytes = rw (length, bytes) refl
 
-pub legal-first : (line outside : List ℕ) (tests : FaultTests) (earlier : Draft) (ds : Declarations) → has_legal_length line ≡ true
-    → list_all is_legal_byte outside ≡ true
+pub legal-first : (line outside : List ℕ) (tests : FaultTests) (earlier : Draft) (ds : Declarations) →
+    has_legal_length line ≡ true → list_all is_legal_byte outside ≡ true
     → first_fault (legal_tests line outside ++ tests) earlier ds ≡ first_fault tests earlier ds
 legal-first = grind arith

@@ -8,7 +8,8 @@ pub held-append : (tests more : FaultTests) → first_held (tests ++ more) ≡ o
 held-append [] more = refl
 held-append (test ∷ tests) more = grind (arith, held-append tests more)
 
-pub held_some : (tests more : FaultTests) (kind : FaultKind) → first_held tests ≡ Some kind → first_held (tests ++ more) ≡ Some kind
+pub held_some : (tests more : FaultTests) (kind : FaultKind) → first_held tests ≡ Some kind →
+    first_held (tests ++ more) ≡ Some kind
 held_some = grind (arith, held-append)
 
 pub held_none : (tests more : FaultTests) → first_held tests ≡ None → first_held (tests ++ more) ≡ first_held more

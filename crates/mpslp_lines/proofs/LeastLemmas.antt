@@ -27,7 +27,8 @@ held-from kind (test ∷ more) h =
 
 -- the lesser of a kind and an optional one, as in `least_kind`
 abbrev pub lesser : FaultKind → Option FaultKind → FaultKind
-lesser kind o = elim o as (λ _. FaultKind) [ None ↦ kind | Some other ↦ cond (nat_lt (kind_rank other) (kind_rank kind)) other kind ]
+lesser kind o = elim o as (λ _. FaultKind)
+    [ None ↦ kind | Some other ↦ cond (nat_lt (kind_rank other) (kind_rank kind)) other kind ]
 
 pub stays-least : (kind : FaultKind) (o : Option FaultKind) → option_map_or (is_from kind) o true ≡ true → lesser kind o ≡ kind
 stays-least = grind (arith, not_less)
@@ -61,7 +62,8 @@ lesser-both kind _ _ = refl
 
 pub least-append : (xs ys : List FaultKind) → least_kind (xs ++ ys) ≡ earlier_of (least_kind xs) (least_kind ys)
 least-append [] ys = refl
-least-append (x ∷ xs) ys = ap (λ o. Some (lesser x o)) (least-append xs ys) ∙ ap (λ kind. Some kind) (lesser-both x (least_kind xs) _)
+least-append (x ∷ xs) ys = ap (λ o. Some (lesser x o)) (least-append xs ys)
+    ∙ ap (λ kind. Some kind) (lesser-both x (least_kind xs) _)
 
 -- ---- no kind at all
 

@@ -37,4 +37,5 @@ legal-lanes text at within low same k from to =
 
 pub all-legal : (text : List ℕ) → AreLegal text 0 (length text) → list_all is_legal_byte text ≡ true
 all-legal [] h = refl
-all-legal (b ∷ more) h = λ i. h 0 (omega arith) (omega arith) i && all-legal more (λ k from to. h (suc k) (omega arith) (omega arith)) i
+all-legal (b ∷ more) h = λ i. h 0 (omega arith) (omega arith) i && all-legal more
+    (λ k from to. h (suc k) (omega arith) (omega arith)) i

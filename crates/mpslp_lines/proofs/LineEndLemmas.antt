@@ -1,15 +1,19 @@
 -- A piece that is divided after its last line feed, and a text after its first one.
-use Rattle.std.proofs.Common.{List, [], ap, arith, drop, false, get_or-drop, get_or-take, length, length-append, length-drop, length-take, refl, slice_index, sym, take_all}
-use Rattle.std.proofs.{Common.{take, true, ℕ, ◌++◌, ◌+◌, ◌-◌, ◌<◌, ◌∙◌, ◌∷◌, ◌≡◌, ◌≤◌}, lemmas.{Bool.eqb-true, List.{take-append-drop, take_more, Elements.All-from_get_or}}}
+use Rattle.std.proofs.Common.{List, [], ap, arith, drop, false, get_or-drop, get_or-take, length, length-append}
+use Rattle.std.proofs.Common.{length-drop, length-take, refl, slice_index, sym, take_all}
+use Rattle.std.proofs.Common.{take, true, ℕ, ◌++◌, ◌+◌, ◌-◌, ◌<◌, ◌∙◌, ◌∷◌, ◌≡◌, ◌≤◌}
+use Rattle.std.proofs.lemmas.{Bool.eqb-true, List.{take-append-drop, take_more, Elements.All-from_get_or}}
 use Rattle.std.specs.Str.Lines.{lines, strip_carriage_return}
-use Rattle.mpslp_model.proofs.CompleteLineLemmas.{complete-ended, complete-no_feed, last_line, lines-are, lines-more, open_tail-all, open_tail-ended}
+use Rattle.mpslp_model.proofs.CompleteLineLemmas.{complete-ended, complete-no_feed, last_line, lines-are, lines-more}
+use Rattle.mpslp_model.proofs.CompleteLineLemmas.{open_tail-all, open_tail-ended}
 use Rattle.mpslp_model.specs.CompleteLines.{HasNoFeed, is_feed, open_tail}
 
 pub cut-lines : (piece : List ℕ) (last : ℕ) → last < length piece → is_feed (slice_index piece last) ≡ true
     → open_tail (take (last + 1) piece) ≡ []
 cut-lines piece last within is =
     let feed = eqb-true _ 10 is in
-    ap open_tail (take_more piece last 0 within ∙ ap (λ byte. take last piece ++ byte ∷ []) feed) ∙ open_tail-ended (take last piece)
+    ap open_tail (take_more piece last 0 within ∙ ap (λ byte. take last piece ++ byte ∷ []) feed)
+    ∙ open_tail-ended (take last piece)
 
 pub uncut : (piece : List ℕ) → ((k : ℕ) → 0 ≤ k → k < length piece → is_feed (slice_index piece k) ≡ true → ⊥) → HasNoFeed piece
 uncut piece none = All-from_get_or (λ byte. is_feed byte ≡ false) piece 0 (λ k l. (grind (arith, none k (omega arith) l)))
@@ -18,7 +22,8 @@ pub cut-rest : (piece : List ℕ) (len : ℕ) → ((k : ℕ) → len ≤ k → k
     → HasNoFeed (drop len piece)
 cut-rest piece len none =
     All-from_get_or (λ byte. is_feed byte ≡ false) _ 0
-    (λ k l. ap is_feed (get_or-drop len piece k 0) ∙ grind (arith, (none (len + k) (omega arith) (omega (arith, length-drop len piece)))))
+    (λ k l. ap is_feed (get_or-drop len piece k 0)
+    ∙ grind (arith, (none (len + k) (omega arith) (omega (arith, length-drop len piece)))))
 
 -- ---- the first line feed
 
@@ -43,7 +48,8 @@ whole-cut text at within is =
     ∙ ap (λ front. front ++ drop (at + 1) text) (sym (take_more text at 0 within)) ∙ take-append-drop (at + 1) text
 
 -- the first line is before the first line feed
-pub first-line : (line more : List ℕ) → HasNoFeed line → lines ((line ++ 10 ∷ []) ++ more) ≡ strip_carriage_return line ∷ lines more
+pub first-line : (line more : List ℕ) → HasNoFeed line →
+    lines ((line ++ 10 ∷ []) ++ more) ≡ strip_carriage_return line ∷ lines more
 first-line = grind (arith, lines-more, complete-ended, open_tail-ended, complete-no_feed, open_tail-all)
 
 pub no-lines : (text : List ℕ) → length text ≡ 0 → lines text ≡ []

@@ -74,6 +74,3 @@ lines_within (suc n) (b ∷ w) h =
           ∙ (λ i. terminated first i ∷ lines_within n rest shorter i)
           ∙ sym (ap lines_of_parts c.2.split ∙ grind (arith, cut))
     ]
-
-pub bstr-lines : (text : List ℕ) → map without_terminator (lines_of text) ≡ lines text
-bstr-lines text = lines_within (length text) text (omega arith)

@@ -3,7 +3,8 @@ use Rattle.std.{proofs.Common.{[], arith, true, ◌∷◌, ◌≡◌}, specs.Pre
 use Rattle.mpslp_builder.specs.{Consistency.has_objective, Declaration.{Declarations, Draft, with_declaration, with_declarations}}
 use Rattle.mpslp_types.proofs.BoolLemmas.{or_right}
 
-pub named-after : (ds : Declarations) (all : Draft) → is_some all.objective ≡ true → is_some (with_declarations all ds).objective ≡ true
+pub named-after : (ds : Declarations) (all : Draft) → is_some all.objective ≡ true →
+    is_some (with_declarations all ds).objective ≡ true
 named-after [] all h = h
 named-after (d ∷ ds) all h = grind (arith, named-after ds (with_declaration all d))
 

@@ -48,9 +48,10 @@ module _ {L : Type 0} (has_read : L → List (List ℕ) → Type 0) where
     passed-all = grind (arith, append-nil)
 
     -- all up to one that is rejected
-    module _ (fault_stays : (text more : List (List ℕ)) (fault : Fault) → lines_fault text fault → lines_fault (text ++ more) fault) where
-      pub refuses-next : (old now : L) (all left more : List (List ℕ)) (line : List ℕ) (error : ReadFault) → Passed has_read old now all left
-          → left ≡ line ∷ more
+    module _ (fault_stays : (text more : List (List ℕ)) (fault : Fault) → lines_fault text fault →
+        lines_fault (text ++ more) fault) where
+      pub refuses-next : (old now : L) (all left more : List (List ℕ)) (line : List ℕ) (error : ReadFault) →
+          Passed has_read old now all left → left ≡ line ∷ more
           → RefusesLines has_read lines_fault now (line ∷ []) error → RefusesLines has_read lines_fault old all error
       refuses-next = grind (arith, append_assoc, one_more)
 
@@ -58,7 +59,8 @@ module _ {L : Type 0} (has_read : L → List (List ℕ) → Type 0) where
 
 -- ---- the line that is kept
 
-short_of : (line : List ℕ) (b : Bool) → MAX_LINE_LEN + 1 < length line → MAX_LINE_LEN < length (cond b (take (length line - 1) line) line)
+short_of : (line : List ℕ) (b : Bool) → MAX_LINE_LEN + 1 < length line →
+    MAX_LINE_LEN < length (cond b (take (length line - 1) line) line)
 short_of = grind (arith, length-take-le)
 
 not_within : (n : ℕ) → MAX_LINE_LEN < n → nat_le n MAX_LINE_LEN ≡ false
@@ -100,12 +102,12 @@ module _ {L : Type 0} (has_read : L → List (List ℕ) → Type 0) (at_end : L 
   end-fed = grind (arith, fed-open, complete-ended, unread-none, open_tail-ended)
 
   -- whole lines, if no line is kept
-  from_start : (old : PieceReader L) (bytes : List ℕ) → at_end old.lines ≡ false → Keeps old.open_line [] → IsFed has_read at_end old bytes
-      → open_tail bytes ≡ []
+  from_start : (old : PieceReader L) (bytes : List ℕ) → at_end old.lines ≡ false → Keeps old.open_line [] →
+      IsFed has_read at_end old bytes → open_tail bytes ≡ []
   from_start = grind arith
 
-  pub lines-fed : (old new : PieceReader L) (part : List ℕ) → at_end old.lines ≡ false → Keeps old.open_line [] → Keeps new.open_line []
-      → open_tail part ≡ []
+  pub lines-fed : (old new : PieceReader L) (part : List ℕ) → at_end old.lines ≡ false → Keeps old.open_line [] →
+      Keeps new.open_line [] → open_tail part ≡ []
       → ((before : List (List ℕ)) → has_read old.lines before → has_read new.lines (before ++ lines part)) → (bytes : List ℕ)
       → IsFed has_read at_end old bytes → IsFed has_read at_end new (bytes ++ part)
   lines-fed = grind (arith, from_start, complete-from, unread-none, open_tail-from)
@@ -132,24 +134,25 @@ module _ {L : Type 0} (has_read : L → List (List ℕ) → Type 0) (at_end : L 
   module _ (after_end : (reader : L) (text more : List (List ℕ)) → has_read reader text → at_end reader ≡ true
       → has_read reader (text ++ more)) where
     -- after the line that ends the text
-    pub after-fed : (reader : PieceReader L) (more bytes : List ℕ) → at_end reader.lines ≡ true → IsFed has_read at_end reader bytes
-        → IsFed has_read at_end reader (bytes ++ more)
+    pub after-fed : (reader : PieceReader L) (more bytes : List ℕ) → at_end reader.lines ≡ true →
+        IsFed has_read at_end reader bytes → IsFed has_read at_end reader (bytes ++ more)
     after-fed = grind (arith, complete-more)
 
-    pub whole-after : (reader : PieceReader L) → at_end reader.lines ≡ true → (bytes : List ℕ) → IsFed has_read at_end reader bytes
-        → has_read reader.lines (lines bytes)
+    pub whole-after : (reader : PieceReader L) → at_end reader.lines ≡ true → (bytes : List ℕ) →
+        IsFed has_read at_end reader bytes → has_read reader.lines (lines bytes)
     whole-after = grind (arith, lines-are, last_line)
 
   -- ---- errors
 
   module _ (lines_fault : List (List ℕ) → Fault → Type 0) where
     pub refuses-end : (old : PieceReader L) (error : ReadFault) → WasFed has_read at_end old → at_end old.lines ≡ false
-        → ((line : List ℕ) → Keeps old.open_line line → RefusesLines has_read lines_fault old.lines (strip_carriage_return line ∷ []) error)
-        → RefusesPiece has_read at_end lines_fault old (10 ∷ []) error
+        → ((line : List ℕ) → Keeps old.open_line line →
+        RefusesLines has_read lines_fault old.lines (strip_carriage_return line ∷ []) error) →
+        RefusesPiece has_read at_end lines_fault old (10 ∷ []) error
     refuses-end = grind (arith, complete-ended, fed-open)
 
-    pub refuses-lines : (old : PieceReader L) (part : List ℕ) (error : ReadFault) → at_end old.lines ≡ false → Keeps old.open_line []
-        → open_tail part ≡ []
+    pub refuses-lines : (old : PieceReader L) (part : List ℕ) (error : ReadFault) → at_end old.lines ≡ false →
+        Keeps old.open_line [] → open_tail part ≡ []
         → RefusesLines has_read lines_fault old.lines (lines part) error → RefusesPiece has_read at_end lines_fault old part error
     refuses-lines = grind (arith, complete-from, from_start)
 
@@ -159,8 +162,8 @@ module _ {L : Type 0} (has_read : L → List (List ℕ) → Type 0) (at_end : L 
         → RefusesPiece has_read at_end lines_fault mid rest error → RefusesPiece has_read at_end lines_fault old piece error
     refuses-after = grind (arith, append_assoc)
 
-    pub then-feeds : (old mid new : PieceReader L) (part rest piece : List ℕ) (answer : Result (Unit {0}) ReadFault) → part ++ rest ≡ piece
-        → ((bytes : List ℕ) → IsFed has_read at_end old bytes → IsFed has_read at_end mid (bytes ++ part))
+    pub then-feeds : (old mid new : PieceReader L) (part rest piece : List ℕ) (answer : Result (Unit {0}) ReadFault) →
+        part ++ rest ≡ piece → ((bytes : List ℕ) → IsFed has_read at_end old bytes → IsFed has_read at_end mid (bytes ++ part))
         → Feeds has_read at_end lines_fault mid rest new answer → Feeds has_read at_end lines_fault old piece new answer
     then-feeds = grind (arith, append_assoc, refuses-after)
 
@@ -179,7 +182,8 @@ module _ {L : Type 0} (has_read : L → List (List ℕ) → Type 0) (at_end : L 
         → IsFedBy after (λ bytes fault. lines_fault (complete_lines bytes) fault) refused old piece new answer
     feed-refused after refused old new reader piece error v7 is fed h = grind arith
 
-    module _ (fault_stays : (text more : List (List ℕ)) (fault : Fault) → lines_fault text fault → lines_fault (text ++ more) fault) where
+    module _ (fault_stays : (text more : List (List ℕ)) (fault : Fault) → lines_fault text fault →
+        lines_fault (text ++ more) fault) where
       pub refuses-more : (old : PieceReader L) (part rest piece : List ℕ) (error : ReadFault) → part ++ rest ≡ piece
           → RefusesPiece has_read at_end lines_fault old part error → RefusesPiece has_read at_end lines_fault old piece error
       refuses-more = grind (arith, complete-more, append_assoc)
@@ -193,9 +197,10 @@ module _ {L : Type 0} (has_read : L → List (List ℕ) → Type 0) (at_end : L 
           → RefusesText has_read at_end first_fault old error
       refuses-text = grind (arith, whole_last, fed-open)
 
-      pub line-ends : (old new : PieceReader L) (line : List ℕ) (answer : Result (Unit {0}) ReadFault) → WasFed has_read at_end old
-          → at_end old.lines ≡ false
+      pub line-ends : (old new : PieceReader L) (line : List ℕ) (answer : Result (Unit {0}) ReadFault) →
+          WasFed has_read at_end old → at_end old.lines ≡ false
           → (Keeps old.open_line [] → ⊥) → ((l : List ℕ) → Keeps old.open_line l → line ≡ l)
-          → ReadsOn has_read lines_fault old.lines (line ∷ []) new.lines answer → EndsText has_read at_end first_fault old new answer
+          → ReadsOn has_read lines_fault old.lines (line ∷ []) new.lines answer →
+          EndsText has_read at_end first_fault old new answer
       line-ends old new line (Ok x) was unended some line_is h = whole-line old new line unended some line_is h
       line-ends old new line _ was unended some line_is h = grind (arith, refuses-text)

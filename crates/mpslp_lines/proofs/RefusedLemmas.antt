@@ -26,7 +26,8 @@ least-refusal = grind (arith, kinds-those_of, least-those_of)
 
 -- declarations after others
 pub declared-append : (xs ys : Declarations) (earlier : Draft)
-    → declared_fault earlier (xs ++ ys) ≡ earlier_of (declared_fault earlier xs) (declared_fault (with_declarations earlier xs) ys)
+    → declared_fault earlier (xs ++ ys) ≡ earlier_of (declared_fault earlier xs)
+    (declared_fault (with_declarations earlier xs) ys)
 declared-append = grind (arith, refusals_in_turn-append, map-append, least-append)
 
 -- the first error of one declaration is that of the first failing test
@@ -43,8 +44,9 @@ call-refused [] fault P Q answer = grind arith
 call-refused (test ∷ tests) fault P Q answer = grind (arith, call-refused tests fault P Q)
 
 -- of one declaration
-pub call-error : (all : Draft) (d : Declaration) (fault : BuildFault) (P Q : Type 0) → are_rising (kind_tests (refusal_tests all d)) ≡ true
-    → Answers (refusals all d) (Err fault) P Q → IsErrorOf (declared_fault all (d ∷ [])) (error_of_build fault)
+pub call-error : (all : Draft) (d : Declaration) (fault : BuildFault) (P Q : Type 0) →
+    are_rising (kind_tests (refusal_tests all d)) ≡ true → Answers (refusals all d) (Err fault) P Q →
+    IsErrorOf (declared_fault all (d ∷ [])) (error_of_build fault)
 call-error = grind (arith, declared-one, call-refused)
 
 -- the check of a declaration returns what the declaration returns, except out of memory

@@ -11,8 +11,8 @@ pub if_fault-ends : (answer : LineResult) (error : LineError) (Claim : Type 0) �
 if_fault-ends = grind arith
 
 -- without an error of the line, an allocation failed
-pub if_fault-none : (first_fault : Option FaultKind) (error : LineError) (Claim : Type 0) → first_fault ≡ None → IsErrorOf first_fault error
-    → IfFault (Err error) Claim
+pub if_fault-none : (first_fault : Option FaultKind) (error : LineError) (Claim : Type 0) → first_fault ≡ None →
+    IsErrorOf first_fault error → IfFault (Err error) Claim
 if_fault-none = grind arith
 
 -- declarations without an error are not rejected

@@ -10,7 +10,8 @@ is_feed b = b == 10
 abbrev pub IsPlain : ℕ → Type 0
 IsPlain b = (is_feed b ≡ false) × ((b == 13) ≡ false)
 
-split-feed : (line rest : List ℕ) → Each IsPlain line → slice_split is_feed ((line ++ 10 ∷ []) ++ rest) ≡ line ∷ slice_split is_feed rest
+split-feed : (line rest : List ℕ) → Each IsPlain line →
+    slice_split is_feed ((line ++ 10 ∷ []) ++ rest) ≡ line ∷ slice_split is_feed rest
 split-feed [] rest h = refl
 split-feed (b ∷ bs) rest h = rw (h.0.0, split-feed bs rest h.1) refl
 

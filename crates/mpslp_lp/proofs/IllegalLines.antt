@@ -4,10 +4,11 @@ use Prelude.{◌≡◌, refl, sym, ap, subst, ◌∙◌, List, [], ◌∷◌, le
 use Prelude.{first_so, second_so, Option, Some, None, is_some, ◌&&◌, ◌||◌, not, ◌==◌, list_all, list_any, find, option_map, eqb-true}
 use Prelude.{is_letter, is_lp_symbol, is_legal_byte, is_blank, begins_comment, begins_word, continues_word, is_word, is_number}
 use Prelude.{operator_kind, kind_of, Front, longest_within, longest_token, token_at, Token, tokens_from, tokens, has_legal_bytes, is_known}
-use Prelude.{front-kind, TokenKind, map, Err, if◌then◌else◌, least_kind, BuildFault, FaultKind, LineTooLong, BadByte, Declarations}
-use Prelude.{first_held, has_legal_length, LineError, Fault, Terminal, terminal_of, as_terminal, terminals, Other, AfterToken}
-use Prelude.{take_after_declarations, Goes, Refuses, begin, begin_phrase_after, take_after_lone_number, take as take_illegal, TakesToken, Decimal}
-use Prelude.{Context, Place, State, take_all, token_faults, take_tokens, take_line, rules}
+use Prelude.{front-kind, TokenKind, map, Err, if◌then◌else◌, BadByte}
+use Prelude.{has_legal_length, LineError, Fault, Terminal, terminal_of, as_terminal, terminals, Other, AfterToken}
+use Prelude.{Goes, Refuses, begin}
+use Prelude.{take as take_illegal, TakesToken}
+use Prelude.{Context, Place, State, take_all, take_tokens, take_line, rules}
 use Rattle.std.proofs.{Common.take, lemmas.Bool.Decides.nat_tests}
 use Rattle.mpslp_decimal.{proofs.GrammarLemmas.before-here, specs.Literal.{is_digit, is_point, is_sign, is_exponent_mark}}
 use Rattle.mpslp_builder.proofs.SlotLemmas.{same_bytes-true}
@@ -24,9 +25,11 @@ plain b = is_legal_byte b && not (begins_comment b)
 
 -- ---- words
 
-any-all : (p : ℕ → Bool) (symbols : List ℕ) (byte : ℕ) → list_all p symbols ≡ true → list_any (λ symbol. symbol == byte) symbols ≡ true → p byte ≡ true
+any-all : (p : ℕ → Bool) (symbols : List ℕ) (byte : ℕ) → list_all p symbols ≡ true →
+    list_any (λ symbol. symbol == byte) symbols ≡ true → p byte ≡ true
 any-all p [] byte all any = cc
-any-all p (symbol ∷ symbols) byte all any = grind (arith, eqb-true, any-all p symbols byte (second_so (p symbol) (list_all p symbols) all))
+any-all p (symbol ∷ symbols) byte all any =
+    grind (arith, eqb-true, any-all p symbols byte (second_so (p symbol) (list_all p symbols) all))
 
 letter-plain : (b : ℕ) → is_letter b ≡ true → plain b ≡ true
 letter-plain b h = grind (arith, nat_tests)
@@ -52,7 +55,8 @@ begins-plain = grind (arith, letter-plain, symbol-plain)
 continues-plain : (b : ℕ) → continues_word b ≡ true → plain b ≡ true
 continues-plain = grind (arith, letter-plain, digit-plain, symbol-plain)
 
-all-plain : (p : ℕ → Bool) → ((b : ℕ) → p b ≡ true → plain b ≡ true) → (t : List ℕ) → list_all p t ≡ true → list_all plain t ≡ true
+all-plain : (p : ℕ → Bool) → ((b : ℕ) → p b ≡ true → plain b ≡ true) → (t : List ℕ) → list_all p t ≡ true →
+    list_all plain t ≡ true
 all-plain p f [] h = refl
 all-plain p f (b ∷ bs) h = grind (arith, both_so, all-plain p f bs (second_so (p b) (list_all p bs) h))
 
@@ -76,7 +80,8 @@ takes-plain s (b ∷ bs) h = both_so _ _ (by (class_of b) refl (facts b)) (takes
 
 found-plain : {X : Type 0} (good test : X → Bool) (table : List (X × TokenKind)) (kind : TokenKind)
     → list_all (λ (e : X × TokenKind). good e.0 && is_known e.1) table ≡ true → option_map (λ (e : X × TokenKind). e.1)
-    (find (λ (e : X × TokenKind). test e.0) table) ≡ Some kind → (x : X) × ((test x ≡ true) × (good x ≡ true) × (is_known kind ≡ true))
+    (find (λ (e : X × TokenKind). test e.0) table) ≡ Some kind →
+    (x : X) × ((test x ≡ true) × (good x ≡ true) × (is_known kind ≡ true))
 found-plain good test [] kind all h = cc
 found-plain {X} good test (entry ∷ table) kind all h = grind (
   arith,
@@ -84,7 +89,8 @@ found-plain {X} good test (entry ∷ table) kind all h = grind (
       (second_so (good entry.0 && is_known entry.1) (list_all (λ (e : X × TokenKind). good e.0 && is_known e.1) table) all),
 )
 
-operator-plain : (t : List ℕ) (kind : TokenKind) → operator_kind t ≡ Some kind → (list_all plain t ≡ true) × (is_known kind ≡ true)
+operator-plain : (t : List ℕ) (kind : TokenKind) → operator_kind t ≡ Some kind →
+    (list_all plain t ≡ true) × (is_known kind ≡ true)
 operator-plain = grind (arith, found-plain, both_so, eqb-true, same_bytes-true)
 
 -- ---- a token
@@ -99,14 +105,17 @@ known_or None = true
 kind-plain : (t : List ℕ) (kind : TokenKind) → kind_of t ≡ Some kind → IsPlain t kind
 kind-plain t kind h = by (is_word t) (is_number t) refl refl h
   where
-    by : (w n : Bool) → is_word t ≡ w → is_number t ≡ n → elim w as (λ _. Option TokenKind)
-        [ true ↦ Some kinds.Word | false ↦ elim n as (λ _. Option TokenKind) [ true ↦ Some kinds.Number | false ↦ operator_kind t ] ]
-        ≡ Some kind → IsPlain t kind
+    by : (w n : Bool) → is_word t ≡ w → is_number t ≡ n → elim w as (λ _. Option TokenKind) [
+      | true ↦ Some kinds.Word
+      | false ↦ elim n as (λ _. Option TokenKind)
+          [ true ↦ Some kinds.Number | false ↦ operator_kind t ]
+    ] ≡ Some kind → IsPlain t kind
     by true n e f k = grind (arith, word-plain)
     by false true e f k = grind (arith, takes-plain, number-takes)
     by false false e f k = operator-plain t _ k
 
-none-shorter : (most : ℕ) (bytes : List ℕ) → longest_within most bytes ≡ None → (n : ℕ) → 0 < n → n ≤ most → kind_of (take n bytes) ≡ None
+none-shorter : (most : ℕ) (bytes : List ℕ) → longest_within most bytes ≡ None → (n : ℕ) → 0 < n → n ≤ most →
+    kind_of (take n bytes) ≡ None
 none-shorter zero bytes h n some w = grind arith
 none-shorter (suc most) bytes h n some w = by (kind_of (take (suc most) bytes)) refl h (none-shorter most _)
   where
@@ -115,7 +124,8 @@ none-shorter (suc most) bytes h n some w = by (kind_of (take (suc most) bytes)) 
 
     by : (o : Option TokenKind) → kind_of (take (suc most) bytes) ≡ o → elim o as (λ _. Option Front)
         [ Some kind ↦ Some (record { kind = kind; size = suc most }) | None ↦ longest_within most bytes ] ≡ None
-        → (longest_within most bytes ≡ None → (m : ℕ) → 0 < m → m ≤ most → kind_of (take m bytes) ≡ None) → kind_of (take n bytes) ≡ None
+        → (longest_within most bytes ≡ None → (m : ℕ) → 0 < m → m ≤ most → kind_of (take m bytes) ≡ None) →
+        kind_of (take n bytes) ≡ None
     by (Some kind) e k later = cc
     by None e k later = last _ refl
       where
@@ -163,7 +173,8 @@ stated b bs k = by (longest_token (b ∷ bs)) refl
         (is_known (elim o as (λ _. Front) [ Some f ↦ f | None ↦ record { kind = kinds.Unknown; size = 1 } ]).kind)
     by (Some f) e = let p = kind-plain (take f.size (b ∷ bs)) _ (front-kind (length (b ∷ bs)) (b ∷ bs) f e) in
         subst (λ (x : Bool). IsReported b bs f x) (sym p.1) p.0
-    by None e = unknown-bad b k (ap kind_of (sym (take_one bs)) ∙ none-shorter (length (b ∷ bs)) (b ∷ bs) e 1 (omega arith) (omega arith))
+    by None e = unknown-bad b k (ap kind_of (sym (take_one bs)) ∙ none-shorter (length (b ∷ bs)) (b ∷ bs) e 1
+        (omega arith) (omega arith))
 
 -- ---- a line
 
@@ -179,17 +190,20 @@ blank-plain b h = grind (arith, nat_tests)
 abbrev all_known : List Token → Bool
 all_known found = list_all (λ (token : Token). is_known token.kind) found
 
-legal-from : (bytes : List ℕ) (place taken : ℕ) → list_all plain (take taken bytes) ≡ true → has_legal_bytes bytes ≡ all_known (tokens_from place taken bytes)
+legal-from : (bytes : List ℕ) (place taken : ℕ) → list_all plain (take taken bytes) ≡ true →
+    has_legal_bytes bytes ≡ all_known (tokens_from place taken bytes)
 legal-from [] _ _ h = refl
-legal-from (b ∷ bs) place (suc taken) h = grind (arith, legal-plain, legal-from bs (place + 1) taken (second_so (plain b) (list_all plain (take taken bs)) h))
+legal-from (b ∷ bs) place (suc taken) h =
+    grind (arith, legal-plain, legal-from bs (place + 1) taken (second_so (plain b) (list_all plain (take taken bs)) h))
 legal-from (b ∷ bs) place zero h = by (begins_comment b) (is_blank b) refl refl (legal-from bs _)
   where
     take_none : (xs : List ℕ) → list_all plain (take 0 xs) ≡ true
     take_none = grind arith
 
     by : (comment blank : Bool) → begins_comment b ≡ comment → is_blank b ≡ blank
-        → ((taken : ℕ) → list_all plain (take taken bs) ≡ true → has_legal_bytes bs ≡ all_known (tokens_from (place + 1) taken bs))
-        → has_legal_bytes (b ∷ bs) ≡ all_known (elim comment as (λ _. List Token) [
+        → ((taken : ℕ) → list_all plain (take taken bs) ≡ true →
+        has_legal_bytes bs ≡ all_known (tokens_from (place + 1) taken bs)) →
+        has_legal_bytes (b ∷ bs) ≡ all_known (elim comment as (λ _. List Token) [
           | true ↦ []
           | false ↦
               elim blank as (λ _. List Token) [
@@ -207,7 +221,8 @@ legal-from (b ∷ bs) place zero h = by (begins_comment b) (is_blank b) refl ref
         less = grind arith
 
         known : (x : Bool) (n : ℕ) → is_known (token_at (b ∷ bs)).kind ≡ x → (token_at (b ∷ bs)).size ≡ n → IsReported b bs
-            (token_at (b ∷ bs)) x → has_legal_bytes (b ∷ bs) ≡ (x && all_known (tokens_from (place + 1) ((token_at (b ∷ bs)).size - 1) bs))
+            (token_at (b ∷ bs)) x → has_legal_bytes
+            (b ∷ bs) ≡ (x && all_known (tokens_from (place + 1) ((token_at (b ∷ bs)).size - 1) bs))
         known false n e f t = legal-bad b bs c t
         known true zero e f t = grind (arith, token-within)
         known true (suc n) e f t = grind (arith, legal-plain, less)
@@ -226,16 +241,6 @@ IsRefused (Refuses kind) = Unit {0}
 begun-other : (place : Place) (context : Context) → IsRefused (begin place context Other)
 begun-other = grind arith
 
-after-declarations : (context : Context) (refusals : List BuildFault) (made : Declarations) (next : AfterToken) → IsRefused next
-    → IsRefused (take_after_declarations context Other refusals made next)
-after-declarations = grind arith
-
-begun-after : (context : Context) (made : Declarations) (place : Place) → IsRefused (begin_phrase_after context made place Other)
-begun-after = grind arith
-
-lone-other : (context : Context) (owner : ItemOwner) (value : Decimal) → IsRefused (take_after_lone_number context owner value Other)
-lone-other = grind arith
-
 other-refused : (context : Context) (state : State) → IsRefused (take_illegal context state Other)
 other-refused = grind arith
 
@@ -245,7 +250,8 @@ unknown-other = grind arith
 -- ---- the tokens of a line
 
 abbrev taken_on : AfterToken → List Terminal → AfterToken
-taken_on taken terminals = elim taken as (λ _. AfterToken) [ Goes after next ↦ take_all after next terminals | Refuses kind ↦ Refuses kind ]
+taken_on taken terminals = elim taken as (λ _. AfterToken)
+    [ Goes after next ↦ take_all after next terminals | Refuses kind ↦ Refuses kind ]
 
 refused-on : (taken : AfterToken) (terminals : List Terminal) → IsRefused taken → IsRefused (taken_on taken terminals)
 refused-on = grind arith
@@ -254,7 +260,8 @@ later-refused : (taken : AfterToken) (terminals : List Terminal)
     → ((after : Context) (next : State) → IsRefused (take_all after next terminals)) → IsRefused (taken_on taken terminals)
 later-refused = grind arith
 
-unknown-refused : (found : List Token) (context : Context) (state : State) → all_known found ≡ false → IsRefused (take_all context state (map as_terminal found))
+unknown-refused : (found : List Token) (context : Context) (state : State) → all_known found ≡ false →
+    IsRefused (take_all context state (map as_terminal found))
 unknown-refused [] context state h = absurd cc
 unknown-refused (token ∷ more) context state h = by _ refl h (unknown-refused more)
   where
@@ -263,26 +270,15 @@ unknown-refused (token ∷ more) context state h = by _ refl h (unknown-refused 
         → IsRefused (taken_on (take_illegal context state (as_terminal token)) (map as_terminal more))
     by = grind (arith, later-refused, take_illegal, refused-on, unknown-other, other-refused)
 
-illegal-refused : (context : Context) (state : State) (line : List ℕ) → has_legal_bytes line ≡ false → IsRefused (take_tokens context state (tokens line))
+illegal-refused : (context : Context) (state : State) (line : List ℕ) → has_legal_bytes line ≡ false →
+    IsRefused (take_tokens context state (tokens line))
 illegal-refused = grind (arith, unknown-refused, legal-known)
 
 -- ---- a line
 
--- the tests of the length and the bytes of a line, and the errors of its tokens
-abbrev fault_by : Bool → Bool → List ℕ → Option FaultKind
-fault_by is_short is_legal line = elim (first_held ((not is_short, LineTooLong) ∷ (not is_legal, BadByte) ∷ [])) as (λ _. Option FaultKind)
-    [ Some kind ↦ Some kind | None ↦ least_kind (token_faults (tokens line)) ]
-
-abbrev taken_by : Option FaultKind → Context → State → List ℕ → AfterToken
-taken_by fault context state line = elim fault as (λ _. AfterToken) [ Some kind ↦ Refuses kind | None ↦ take_all context state (terminals line) ]
-
 line-legal : (context : Context) (state : State) (line : List ℕ) → has_legal_length line ≡ true → has_legal_bytes line ≡ true
     → take_line context state line ≡ take_tokens context state (tokens line)
 line-legal = grind arith
-
-line-illegal : (context : Context) (state : State) (line : List ℕ) → has_legal_length line ≡ true → has_legal_bytes line ≡ false
-    → take_line context state line ≡ Refuses BadByte
-line-illegal = grind arith
 
 -- a line whose tokens are accepted
 pub line-taken : (context after : Context) (state next : State) (line : List ℕ) → has_legal_length line ≡ true
@@ -292,5 +288,6 @@ line-taken = grind (arith, line-legal, illegal-refused)
 -- the error of its tokens, before which an illegal byte is reported
 pub line-refused : (context after : Context) (state : State) (line : List ℕ) (error reported : LineError)
     → has_legal_length line ≡ true → TakesToken (take_tokens context state (tokens line)) (Err error) after
-    → reported ≡ (if has_legal_bytes line then error else Fault BadByte) → TakesToken (take_line context state line) (Err reported) after
+    → reported ≡ (if has_legal_bytes line then error else Fault BadByte) →
+    TakesToken (take_line context state line) (Err reported) after
 line-refused = grind arith

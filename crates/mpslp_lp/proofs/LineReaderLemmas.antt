@@ -19,10 +19,12 @@ last_number = 2 ^ 64 - 1
 
 -- the effect of a line, and then the lines after it
 abbrev after_line : ℕ → AfterToken → List (ℕ × List ℕ) → Outcome Fault Draft
-after_line n taken more = elim taken as (λ _. Outcome Fault Draft) [ Goes after next ↦ read_from after next more | Refuses kind ↦ Refused (fault_on_line n kind) ]
+after_line n taken more = elim taken as (λ _. Outcome Fault Draft)
+    [ Goes after next ↦ read_from after next more | Refuses kind ↦ Refused (fault_on_line n kind) ]
 
 line-read : (n : ℕ) (context : Context) (state : State) (line : List ℕ) (more : List (List ℕ)) → is_at_end state ≡ false
-    → read_from context state (enumerate_from n (line ∷ more)) ≡ after_line n (take_line context state line) (enumerate_from (n + 1) more)
+    → read_from context state (enumerate_from n (line ∷ more)) ≡ after_line n (take_line context state line)
+    (enumerate_from (n + 1) more)
 line-read = grind arith
 
 -- line numbers that are reported the same stay the same for later lines
@@ -34,13 +36,16 @@ counted-alike (line ∷ ls) n m context state h = let next : min (n + 1) last_nu
   where
     by : (b : Bool) (taken : AfterToken) → ((after : Context) (next : State)
         → read_from after next (enumerate_from (n + 1) ls) ≡ read_from after next (enumerate_from (m + 1) ls))
-        → elim b as (λ _. Outcome Fault Draft) [ true ↦ Finished context.builder | false ↦ after_line n taken (enumerate_from (n + 1) ls) ]
-        ≡ elim b as (λ _. Outcome Fault Draft) [ true ↦ Finished context.builder | false ↦ after_line m taken (enumerate_from (m + 1) ls) ]
+        → elim b as (λ _. Outcome Fault Draft)
+        [ true ↦ Finished context.builder | false ↦ after_line n taken (enumerate_from (n + 1) ls) ]
+        ≡ elim b as (λ _. Outcome Fault Draft)
+        [ true ↦ Finished context.builder | false ↦ after_line m taken (enumerate_from (m + 1) ls) ]
     by = grind arith
 
 pub line-next : (n : ℕ) (context after : Context) (state next : State) (line : List ℕ) (more : List (List ℕ))
     → is_at_end state ≡ false → take_line context state line ≡ Goes after next
-    → read_from context state (enumerate_from n (line ∷ more)) ≡ read_from after next (enumerate_from (min (n + 1) last_number) more)
+    → read_from context state (enumerate_from n (line ∷ more)) ≡ read_from after next
+    (enumerate_from (min (n + 1) last_number) more)
 line-next = grind (arith, min, line-read, counted-alike)
 
 -- a line with an error
@@ -50,17 +55,20 @@ pub line-refused : (n : ℕ) (context : Context) (state : State) (line : List �
 line-refused = grind arith
 
 -- no line is left
-pub none-left : (n : ℕ) (context : Context) (state : State) → is_at_end state ≡ false → read_from context state (enumerate_from n []) ≡ Open
+pub none-left : (n : ℕ) (context : Context) (state : State) → is_at_end state ≡ false →
+    read_from context state (enumerate_from n []) ≡ Open
 none-left = grind arith
 
 -- an error of some lines stays if more lines follow
-pub refused-stays : (ls more : List (List ℕ)) (n : ℕ) (context : Context) (state : State) (fault : Fault) → read_from context state
-    (enumerate_from n ls) ≡ Refused fault → read_from context state (enumerate_from n (ls ++ more)) ≡ Refused fault
+pub refused-stays : (ls more : List (List ℕ)) (n : ℕ) (context : Context) (state : State) (fault : Fault) →
+    read_from context state (enumerate_from n ls) ≡ Refused fault →
+    read_from context state (enumerate_from n (ls ++ more)) ≡ Refused fault
 refused-stays [] more n context state fault h = grind arith
 refused-stays (line ∷ ls) more n context state fault h = by _ _ h (λ after next. refused-stays ls _ _ _ _ _)
   where
     by : (b : Bool) (taken : AfterToken)
-        → elim b as (λ _. Outcome Fault Draft) [ true ↦ Finished context.builder | false ↦ after_line n taken (enumerate_from (n + 1) ls) ]
+        → elim b as (λ _. Outcome Fault Draft)
+        [ true ↦ Finished context.builder | false ↦ after_line n taken (enumerate_from (n + 1) ls) ]
         ≡ Refused fault → ((after : Context) (next : State) → read_from after next (enumerate_from (n + 1) ls) ≡ Refused fault
         → read_from after next (enumerate_from (n + 1) (ls ++ more)) ≡ Refused fault) → elim b as (λ _. Outcome Fault Draft)
         [ true ↦ Finished context.builder | false ↦ after_line n taken (enumerate_from (n + 1) (ls ++ more)) ] ≡ Refused fault
@@ -71,7 +79,8 @@ refused-stays (line ∷ ls) more n context state fault h = by _ _ h (λ after ne
 -- the end of a builder that has the draft
 pub finished-reads : (bytes : List ℕ) (all : Draft) (answer : Result LinearModel ReadFault)
     → outcome bytes ≡ Finished all → Finishes all answer → ReadsLp bytes answer
-finished-reads bytes _ (Ok m) h f = subst (DeclaresLp bytes) (sym (f.1.model ∙ ap model_of (whole-draft bytes _ h).draft)) (declares-from_whole _ _ h f.0)
+finished-reads bytes _ (Ok m) h f =
+    subst (DeclaresLp bytes) (sym (f.1.model ∙ ap model_of (whole-draft bytes _ h).draft)) (declares-from_whole _ _ h f.0)
 finished-reads bytes all (Err (File fault)) h f = grind arith
 finished-reads _ _ (Err Failed) h f = absurd f
 finished-reads _ _ (Err OutOfMemory) h f = tt
@@ -87,7 +96,8 @@ all-say : (n : ℕ) (found : List Token) (context : Context) (state : State) (mo
     → says n context state (terminals_on n found ++ more) ≡ says_after n (take_all context state (map as_terminal found)) more
 all-say n [] _ _ _ = refl
 all-say n (token ∷ found) context state more =
-    take-says _ _ n (terminal_of token.kind token.text) (terminals_on n found ++ more) ∙ by _ (λ after next. all-say n found _ _ _)
+    take-says _ _ n (terminal_of token.kind token.text) (terminals_on n found ++ more)
+    ∙ by _ (λ after next. all-say n found _ _ _)
   where
     by : (taken : AfterToken) → ((after : Context) (next : State)
         → says n after next (terminals_on n found ++ more) ≡ says_after n (take_all after next (map as_terminal found)) more)
@@ -116,9 +126,10 @@ lines_after-say (l ∷ ls) line n context h = by (lexical_fault l) (lines_after-
     of_line [] _ k = k
     of_line (token ∷ found) more k = grind (arith, later-says)
 
-    by : (o : Option FaultKind) → says line context AfterEnd (sound_terminals (enumerate_from (n + 1) ls)) ≡ Finished context.builder
-        → says line context AfterEnd (elim o as (λ _. List TerminalAt)
-        [ Some kind ↦ [] | None ↦ line_terminals (n, l) ++ sound_terminals (enumerate_from (n + 1) ls) ]) ≡ Finished context.builder
+    by : (o : Option FaultKind) → says line context AfterEnd (sound_terminals (enumerate_from (n + 1) ls)) ≡ Finished
+        context.builder → says line context AfterEnd (elim o as (λ _. List TerminalAt)
+        [ Some kind ↦ [] | None ↦ line_terminals (n, l) ++ sound_terminals (enumerate_from (n + 1) ls) ]) ≡ Finished
+        context.builder
     by (Some _) k = refl
     by None k = of_line (tokens l) _ k
 
@@ -136,11 +147,14 @@ not_at_end = grind arith
 
 -- the outcome of the lines from line n on, if the last token before them is on an earlier line
 abbrev lines_from : (line n : ℕ) → Context → State → List (List ℕ) → Outcome Fault Draft
-lines_from line n context state ls = or_else (says line context state (sound_terminals (enumerate_from n ls))) (first_own_fault (enumerate_from n ls))
+lines_from line n context state ls =
+    or_else (says line context state (sound_terminals (enumerate_from n ls))) (first_own_fault (enumerate_from n ls))
 
 -- the effect of a line, and then of the lines after it
-line-read_reading : (ls : List (List ℕ)) (n : ℕ) (taken : AfterToken) → ((after : Context) (next : State) → lines_from n (n + 1) after
-    next ls ≡ read_from after next (enumerate_from (n + 1) ls)) → or_else (says_after n taken (sound_terminals (enumerate_from (n + 1) ls)))
+line-read_reading : (ls : List (List ℕ)) (n : ℕ) (taken : AfterToken) →
+    ((after : Context) (next : State) →
+    lines_from n (n + 1) after next ls ≡ read_from after next (enumerate_from (n + 1) ls)) →
+    or_else (says_after n taken (sound_terminals (enumerate_from (n + 1) ls)))
     (first_own_fault (enumerate_from (n + 1) ls)) ≡ elim taken as (λ _. Outcome Fault Draft)
     [ Goes after next ↦ read_from after next (enumerate_from (n + 1) ls) | Refuses kind ↦ Refused (fault_on_line n kind) ]
 line-read_reading = grind arith
@@ -151,9 +165,9 @@ lines-read [] line n context state h = grind (arith, or_open, nothing-says)
 lines-read (l ∷ ls) line n context state h = at (is_at_end state) refl (λ after next. lines-read ls n _ _ _ (omega arith))
   where
     at : (b : Bool) → is_at_end state ≡ b
-        → ((after : Context) (next : State) → lines_from n (n + 1) after next ls ≡ read_from after next (enumerate_from (n + 1) ls))
-        → lines_from line n context state (l ∷ ls)
-        ≡ elim b as (λ _. Outcome Fault Draft) [
+        → ((after : Context) (next : State) →
+        lines_from n (n + 1) after next ls ≡ read_from after next (enumerate_from (n + 1) ls)) →
+        lines_from line n context state (l ∷ ls) ≡ elim b as (λ _. Outcome Fault Draft) [
           | true ↦ Finished context.builder
           | false ↦ elim (take_line context state l) as (λ _. Outcome Fault Draft) [
             | Goes after next ↦ read_from after next (enumerate_from (n + 1) ls)
@@ -166,12 +180,15 @@ lines-read (l ∷ ls) line n context state h = at (is_at_end state) refl (λ aft
         by : (o : Option FaultKind) → or_else (says line context state (elim o as (λ _. List TerminalAt)
             [ Some kind ↦ [] | None ↦ line_terminals (n, l) ++ sound_terminals (enumerate_from (n + 1) ls) ]))
             (elim o as (λ _. Outcome Fault Draft)
-            [ Some kind ↦ Refused (fault_on_line n kind) | None ↦ first_own_fault (enumerate_from (n + 1) ls) ]) ≡ elim (elim o as (λ _.
-            AfterToken) [ Some kind ↦ Refuses kind | None ↦ take_all context state (terminals l) ]) as (λ _. Outcome Fault Draft)
-            [ Goes after next ↦ read_from after next (enumerate_from (n + 1) ls) | Refuses kind ↦ Refused (fault_on_line n kind) ]
+            [ Some kind ↦ Refused (fault_on_line n kind) | None ↦ first_own_fault (enumerate_from (n + 1) ls) ]) ≡ elim
+            (elim o as (λ _. AfterToken) [ Some kind ↦ Refuses kind | None ↦ take_all context state (terminals l) ])
+            as (λ _. Outcome Fault Draft) [
+              | Goes after next ↦ read_from after next (enumerate_from (n + 1) ls)
+              | Refuses kind ↦ Refused (fault_on_line n kind)
+            ]
         by (Some kind) = grind (arith, not_at_end)
-        by None = ap (λ o. or_else o (first_own_fault (enumerate_from (n + 1) ls))) (line-says _ n _ _ _ e ∙ all-say n (tokens l) _ _ _)
-            ∙ line-read_reading _ n _ later
+        by None = ap (λ o. or_else o (first_own_fault (enumerate_from (n + 1) ls)))
+            (line-says _ n _ _ _ e ∙ all-say n (tokens l) _ _ _) ∙ line-read_reading _ n _ later
 
 -- The outcome of a text is that of its lines, read one after another.
 pub outcome-read : (bytes : List ℕ) → outcome bytes ≡ read_from start.context (Between AtStart) (numbered_lines bytes)
@@ -202,11 +219,8 @@ pub refuses-line : (reader : LineReader) (after : Context) (line : List ℕ) (er
     → IsFaultOn reader.number error answer → RefusesLines HasRead IsFaultOfLines reader (line ∷ []) answer
 refuses-line = grind (arith, led-refused)
 
--- a line that is too long
-own-long : (line : List ℕ) → has_legal_length line ≡ false → lexical_fault line ≡ Some LineTooLong
-own-long = grind arith
-
-pub take-long : (context : Context) (state : State) (line : List ℕ) → has_legal_length line ≡ false → take_line context state line ≡ Refuses LineTooLong
+pub take-long : (context : Context) (state : State) (line : List ℕ) → has_legal_length line ≡ false →
+    take_line context state line ≡ Refuses LineTooLong
 take-long = grind arith
 
 -- ---- the end

@@ -64,7 +64,8 @@ text-fine (token ∷ tokens) zero point sound h =
 
 -- ---- bytes declare a model or have a first error, and not both
 
-pub whole-fine : (bytes : List ℕ) → IsFineText empty_draft (declarations_of bytes) (text_says (sound_terminals (numbered_lines bytes)))
+pub whole-fine : (bytes : List ℕ) →
+    IsFineText empty_draft (declarations_of bytes) (text_says (sound_terminals (numbered_lines bytes)))
 whole-fine bytes = text-fine (sound_terminals (numbered_lines bytes)) 0 _ (text-sound (numbered_lines bytes)) refl
 
 -- what is declared is legal, and its names are LP names
@@ -77,7 +78,8 @@ never_whole [] all h = cc
 never_whole (line ∷ more) all h = grind (arith, never_whole more all)
 
 -- so the tokens complete it
-whole-by_tokens : (numbered : List (ℕ × List ℕ)) (all : Draft) → lines_say numbered ≡ Finished all → text_says (sound_terminals numbered) ≡ Finished all
+whole-by_tokens : (numbered : List (ℕ × List ℕ)) (all : Draft) → lines_say numbered ≡ Finished all →
+    text_says (sound_terminals numbered) ≡ Finished all
 whole-by_tokens = grind (arith, never_whole)
 
 -- lines that reach `end` name the objective
@@ -99,16 +101,21 @@ whole-draft bytes _ h =
 
 pub declares-from_whole : (bytes : List ℕ) (all : Draft)
     → outcome bytes ≡ Finished all → file_fault all ≡ None → DeclaresLp bytes (model_of (draft_of (declarations_of bytes)))
-declares-from_whole bytes _ h fault = let whole = whole-draft bytes _ h in let fine = whole-fine bytes in record {
-  text = ap is_finished h;
-  means = means-from_none _ (objective-declared (declarations_of bytes) empty_draft (ap (λ d. is_some d.objective) (sym whole.draft)
-      ∙ whole.named)) (whole-legal bytes) fine.unrefused (ap file_fault (sym whole.draft) ∙ fault);
-}
+declares-from_whole bytes _ h fault =
+    let whole = whole-draft bytes _ h in
+    let fine = whole-fine bytes in record {
+      text = ap is_finished h;
+      means = means-from_none _ (objective-declared (declarations_of bytes) empty_draft
+          (ap (λ d. is_some d.objective) (sym whole.draft) ∙ whole.named)) (whole-legal bytes) fine.unrefused
+          (ap file_fault (sym whole.draft) ∙ fault);
+    }
 
-pub declares-from_no_fault : (bytes : List ℕ) → first_lp_fault bytes ≡ None → DeclaresLp bytes (model_of (draft_of (declarations_of bytes)))
+pub declares-from_no_fault : (bytes : List ℕ) → first_lp_fault bytes ≡ None →
+    DeclaresLp bytes (model_of (draft_of (declarations_of bytes)))
 declares-from_no_fault bytes h = by (outcome bytes) refl h
   where
-    by : (o : Outcome Fault Draft) → outcome bytes ≡ o → fault_of o ≡ None → DeclaresLp bytes (model_of (draft_of (declarations_of bytes)))
+    by : (o : Outcome Fault Draft) → outcome bytes ≡ o → fault_of o ≡ None →
+        DeclaresLp bytes (model_of (draft_of (declarations_of bytes)))
     by (Finished _) e f = declares-from_whole _ _ e f
     by (Refused fault) e f = cc
     by Open e f = cc

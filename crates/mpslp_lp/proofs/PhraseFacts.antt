@@ -14,7 +14,7 @@ use Prelude.{apply_sign, infinity, unsigned_side, side_from, side, next_relation
 use Prelude.{signed_item, item_from, colon, term_declared, objective_item, default_objective, first_item_declared, objective_named}
 use Prelude.{objective_from, objective, default_row, without_terms, row_item, row_first, row_after_left, row_number, row_signed, row_from}
 use Prelude.{row_named, row, fits_left, row_limits, row_declared, row_whole, row_end, bound_sides, no_limits, bound_right, bound_after}
-use Prelude.{bound_column, bound_left, bound, second_side, line_end, opened_by, last_word, semi_from, section_start, section_from}
+use Prelude.{bound_column, bound_left, bound, second_side, line_end, last_word, semi_from, section_start, section_from}
 use Prelude.{may_begin_section, name_in_section, phrase, phrase_at, Relation}
 use Rattle.mpslp_lp.proofs.SoundTokens.{Holds, Gives, passed, then-gives, IsSoundToken, next-gives, ahead-gives, AreSound, IsSoundTerminal}
 use Rattle.std.proofs.Math.Nat.{min-le_right}
@@ -43,7 +43,8 @@ is_lp_legal _ = true
 pub legal-from_lp : (d : Declaration) → is_lp_legal d ≡ true → is_legal d ≡ true
 legal-from_lp (declare_sense s) h = refl
 legal-from_lp (declare_objective name) h = mps_name-from_lp name h
-legal-from_lp (declare_row name form) h = both_so _ (are_given form) (mps_name-from_lp name (first_so _ (are_given form) h)) (second_so _ _ h)
+legal-from_lp (declare_row name form) h =
+    both_so _ (are_given form) (mps_name-from_lp name (first_so _ (are_given form) h)) (second_so _ _ h)
 legal-from_lp (declare_column name) h = mps_name-from_lp name h
 legal-from_lp (declare_marked _) h = refl
 legal-from_lp (declare_integer _) h = refl
@@ -56,7 +57,8 @@ at line terminal = record { line = line; terminal = terminal }
 
 -- ---- well-formed values
 
-decimal-negated : (m e : _) → is_decimal (record { mantissa = m; exponent = e }) ≡ true → is_decimal (negated (record { mantissa = m; exponent = e })) ≡ true
+decimal-negated : (m e : _) → is_decimal (record { mantissa = m; exponent = e }) ≡ true →
+    is_decimal (negated (record { mantissa = m; exponent = e })) ≡ true
 decimal-negated = grind arith
 
 signed-decimal : (sign : SignOf) (value : Decimal) → is_decimal value ≡ true → is_decimal (apply_sign sign value) ≡ true
@@ -150,7 +152,8 @@ declares-fine : (context : Context) (token : TerminalAt) (place : Place) (made :
     → IsNamed context → IsPlain place → list_all is_lp_legal made ≡ true → Fine context (declares context token place made)
 declares-fine = grind (arith, unless_refused-fine)
 
-either-fine : (context : Context) (b : Bool) (r s : PhraseRule Follows) → Fine context r → Fine context s → Fine context (if b then r else s)
+either-fine : (context : Context) (b : Bool) (r s : PhraseRule Follows) → Fine context r → Fine context s →
+    Fine context (if b then r else s)
 either-fine = grind arith
 
 -- ---- items
@@ -158,23 +161,29 @@ either-fine = grind arith
 number-gives : (sign : SignOf) (value : Decimal) → is_decimal value ≡ true → Gives IsSoundItem (number_item sign value)
 number-gives = grind arith
 
-signed_item-gives : (context : Context) (tokens : List TerminalAt) (sign : SignOf) → AreSound tokens → Holds IsSoundItem (signed_item context sign tokens)
+signed_item-gives : (context : Context) (tokens : List TerminalAt) (sign : SignOf) → AreSound tokens →
+    Holds IsSoundItem (signed_item context sign tokens)
 signed_item-gives _ [] _ _ = tt
 signed_item-gives context (token ∷ tokens) sign sound = by _ _ sound.0 (λ m. signed_item-gives context tokens m sound.1)
   where
-    by : (line : ℕ) (terminal : Terminal) → IsSoundTerminal terminal → ((m : SignOf) → Holds IsSoundItem (signed_item context m tokens))
-        → Holds IsSoundItem (signed_item context sign (at line terminal ∷ tokens))
+    by : (line : ℕ) (terminal : Terminal) → IsSoundTerminal terminal →
+        ((m : SignOf) → Holds IsSoundItem (signed_item context m tokens)) →
+        Holds IsSoundItem (signed_item context sign (at line terminal ∷ tokens))
     by = grind (arith, passed, signed-decimal, number-gives)
 
-item-gives : (context : Context) (line : ℕ) (terminal : Terminal) → IsSoundTerminal terminal → Gives IsSoundItem (item_from context (at line terminal))
+item-gives : (context : Context) (line : ℕ) (terminal : Terminal) → IsSoundTerminal terminal →
+    Gives IsSoundItem (item_from context (at line terminal))
 item-gives = grind (arith, signed_item-gives, number-gives)
 
 -- ---- the objective
 
-term-legal : (row : List ℕ) (term : List ℕ × Decimal) → is_sound_term term ≡ true → list_all is_lp_legal (term_declared row term) ≡ true
-term-legal _ term h = both_so (is_lp_name term.0) (is_decimal term.1 && true) (first_so _ _ h) (both_so _ _ (second_so _ _ h) refl)
+term-legal : (row : List ℕ) (term : List ℕ × Decimal) → is_sound_term term ≡ true →
+    list_all is_lp_legal (term_declared row term) ≡ true
+term-legal _ term h = both_so (is_lp_name term.0) (is_decimal term.1 && true) (first_so _ _ h)
+    (both_so _ _ (second_so _ _ h) refl)
 
-objective_item-fine : (context : Context) (name : List ℕ) (item : Item) → IsNamed context → IsSoundItem item → Fine context (objective_item context name item)
+objective_item-fine : (context : Context) (name : List ℕ) (item : Item) → IsNamed context → IsSoundItem item →
+    Fine context (objective_item context name item)
 objective_item-fine context name (Term value column token) named h = grind (arith, declares-fine, term-legal, both_so)
 objective_item-fine context name (Lone value token) named h = grind (arith, declares-fine, both_so)
 
@@ -190,7 +199,8 @@ row_item-fine : (context : Context) (row : PartialRow) (item : Item) → IsNamed
     → Fine context (row_item context row item)
 row_item-fine context row (Term value column token) named r h =
     let more : PartialRow = record row { terms = row.terms ++ (column, value) ∷ [] } in either-fine context (list_any (λ term.
-    same_bytes column term.0) row.terms) _ _ (λ tokens sound. tt) (nothing-fine context (InRow more) named (in_row-plain more (record {
+    same_bytes column term.0) row.terms) _ _ (λ tokens sound. tt)
+    (nothing-fine context (InRow more) named (in_row-plain more (record {
       name = r.name;
       left = r.left;
       terms = list_all-append is_sound_term row.terms ((column, value) ∷ [])
@@ -199,7 +209,8 @@ row_item-fine context row (Term value column token) named r h =
     })))
 row_item-fine context row (Lone value token) named r h = grind arith
 
-without-sound : (name : List ℕ) (left : Option (Limit × Relation)) → is_lp_name name ≡ true → is_sound_left left ≡ true → IsSoundRow (without_terms name left)
+without-sound : (name : List ℕ) (left : Option (Limit × Relation)) → is_lp_name name ≡ true →
+    is_sound_left left ≡ true → IsSoundRow (without_terms name left)
 without-sound = grind arith
 
 sense-gives : (context : Context) → Gives (λ (relation : Relation). Unit {0}) (next_relation context)
@@ -208,14 +219,17 @@ sense-gives = grind arith
 row_first-fine : (context : Context) (row : PartialRow) (token : TerminalAt)
     → IsNamed context → IsSoundRow row → IsSoundToken token → Fine context (row_first context row token)
 row_first-fine context _ token named r s = then-gives IsSoundItem (IsFine context.builder)
-    (item_from context token) (row_item _ _) (item-gives context token.line _ s) (λ item h. row_item-fine context _ item named r h)
+    (item_from context token) (row_item _ _) (item-gives context token.line _ s)
+    (λ item h. row_item-fine context _ item named r h)
 
 row_left-fine : (context : Context) (name : List ℕ) (limit : Limit)
     → IsNamed context → is_lp_name name ≡ true → is_given limit ≡ true → Fine context (row_after_left context name limit)
 row_left-fine context name limit named h g = then-gives (λ relation. Unit {0})
-    (IsFine context.builder) (next_relation context) (λ relation. next >>= row_first context (without_terms name (Some (limit, relation))))
-    (sense-gives context) (λ relation u. then-gives IsSoundToken (IsFine context.builder) next (row_first context (without_terms name (Some
-    (limit, relation)))) next-gives (λ token s. row_first-fine context _ token named (without-sound name (Some (limit, relation)) h g) s))
+    (IsFine context.builder) (next_relation context)
+    (λ relation. next >>= row_first context (without_terms name (Some (limit, relation)))) (sense-gives context)
+    (λ relation u. then-gives IsSoundToken (IsFine context.builder) next (row_first context (without_terms name (Some
+    (limit, relation)))) next-gives
+    (λ token s. row_first-fine context _ token named (without-sound name (Some (limit, relation)) h g) s))
 
 row_number-fine : (context : Context) (name : List ℕ) (item : Item)
     → IsNamed context → is_lp_name name ≡ true → IsSoundItem item → Fine context (row_number context name item)
@@ -233,19 +247,24 @@ row_signed-fine context name sign second named h s = by second.line second.termi
         (row_item context (without_terms name None)) (λ tokens sound. signed_item-gives context tokens sign sound)
         (λ item i. row_item-fine context (without_terms name None) item named (without-sound name None h refl) i)
 
-    by : (line : ℕ) (terminal : Terminal) → IsSoundTerminal terminal → Fine context (row_signed context name sign (at line terminal))
-    by line Infinity s = then-gives IsSoundToken (IsFine context.builder) next (λ word. row_after_left context name (infinity sign))
-        next-gives (λ word w. row_left-fine context name (infinity sign) named h (infinity-given sign))
+    by : (line : ℕ) (terminal : Terminal) → IsSoundTerminal terminal →
+        Fine context (row_signed context name sign (at line terminal))
+    by line Infinity s = then-gives IsSoundToken (IsFine context.builder) next
+        (λ word. row_after_left context name (infinity sign)) next-gives
+        (λ word w. row_left-fine context name (infinity sign) named h (infinity-given sign))
     by line (Number value) s = then-gives IsSoundToken (IsFine context.builder) next (λ number. number_item sign value
-        >>= row_number context name) next-gives (λ number w. then-gives IsSoundItem (IsFine context.builder) (number_item sign value)
+        >>= row_number context name) next-gives
+        (λ number w. then-gives IsSoundItem (IsFine context.builder) (number_item sign value)
         (row_number context name) (number-gives sign value s) (λ item i. row_number-fine context name item named h i))
     by line _ s = items
 
 row_from-fine : (context : Context) (name : List ℕ) (line : ℕ) (terminal : Terminal)
-    → IsNamed context → is_lp_name name ≡ true → IsSoundTerminal terminal → Fine context (row_from context name (at line terminal))
+    → IsNamed context → is_lp_name name ≡ true → IsSoundTerminal terminal →
+    Fine context (row_from context name (at line terminal))
 row_from-fine _ _ _ Infinity named h s = row_left-fine _ _ _ named h refl
 row_from-fine context name _ (Number value) named h s = then-gives IsSoundItem (IsFine context.builder)
-    (number_item Plus value) (row_number context name) (number-gives Plus value s) (λ item i. row_number-fine context name item named h i)
+    (number_item Plus value) (row_number context name) (number-gives Plus value s)
+    (λ item i. row_number-fine context name item named h i)
 row_from-fine context name line (Name column) named h s = grind (arith, row_item-fine, without-sound)
 row_from-fine context name line (Sign sign) named h s = grind (arith, then-gives, ahead-gives, row_signed-fine)
 row_from-fine context name line _ named h s = grind arith
@@ -253,28 +272,40 @@ row_from-fine context name line _ named h s = grind arith
 colon-gives : Gives (λ (labelled : Bool). Unit {0}) colon
 colon-gives = grind arith
 
-row_named-fine : (context : Context) (name : List ℕ) (labelled : Bool) → IsNamed context → is_lp_name name ≡ true → Fine context (row_named context name labelled)
+row_named-fine : (context : Context) (name : List ℕ) (labelled : Bool) → IsNamed context → is_lp_name name ≡ true →
+    Fine context (row_named context name labelled)
 row_named-fine context name labelled named h =
     let row : PartialRow = record { name = default_row context; left = None; terms = (name, one) ∷ [] } in
     either-fine context labelled _ _ (then-gives IsSoundToken (IsFine context.builder) next (row_from context name) next-gives
-    (λ token s. row_from-fine context name token.line token.terminal named h s)) (nothing-fine context (InRow row) named (in_row-plain row
-    (record { name = default_row-name context; left = refl; terms = both_so (is_lp_name name && is_decimal one) _ (both_so _ _ h refl) refl })))
+    (λ token s. row_from-fine context name token.line token.terminal named h s))
+    (nothing-fine context (InRow row) named
+    (in_row-plain row (record {
+      name = default_row-name context;
+      left = refl;
+      terms =
+          both_so (is_lp_name name && is_decimal one) _ (both_so _ _ h refl) refl;
+    })))
 
-row-fine : (context : Context) (line : ℕ) (terminal : Terminal) → IsNamed context → IsSoundTerminal terminal → Fine context (row context (at line terminal))
+row-fine : (context : Context) (line : ℕ) (terminal : Terminal) → IsNamed context → IsSoundTerminal terminal →
+    Fine context (row context (at line terminal))
 row-fine context _ (Name name) named s = then-gives (λ labelled. Unit {0})
     (IsFine context.builder) colon (row_named _ _) colon-gives (λ labelled u. row_named-fine context name labelled named s)
 row-fine context line (Opens word) named s = grind (arith, row_from-fine, default_row-name)
-row-fine context line (Number value) named s = row_from-fine context (default_row context) line (Number value) named (default_row-name context) s
-row-fine context line (Sign sign) named s = row_from-fine context (default_row context) line (Sign sign) named (default_row-name context) s
+row-fine context line (Number value) named s =
+    row_from-fine context (default_row context) line (Number value) named (default_row-name context) s
+row-fine context line (Sign sign) named s =
+    row_from-fine context (default_row context) line (Sign sign) named (default_row-name context) s
 row-fine context line (Compares relation) named s = grind (arith, row_from-fine, default_row-name)
 row-fine context line Colon named s = grind (arith, row_from-fine, default_row-name)
-row-fine context line Infinity named s = row_from-fine context (default_row context) line Infinity named (default_row-name context) s
+row-fine context line Infinity named s =
+    row_from-fine context (default_row context) line Infinity named (default_row-name context) s
 row-fine context line Free named s = grind (arith, row_from-fine, default_row-name)
 row-fine context line Other named s = grind (arith, row_from-fine, default_row-name)
 
 -- ---- sides
 
-unsigned_side-gives : (context : Context) (sign : SignOf) (token : TerminalAt) → IsSoundToken token → Gives IsSoundSide (unsigned_side context sign token)
+unsigned_side-gives : (context : Context) (sign : SignOf) (token : TerminalAt) → IsSoundToken token →
+    Gives IsSoundSide (unsigned_side context sign token)
 unsigned_side-gives = grind (arith, limit-given, signed-decimal, infinity-given)
 
 side_from-gives : (context : Context) (token : TerminalAt) → IsSoundToken token → Gives IsSoundSide (side_from context token)
@@ -296,28 +327,43 @@ upper-given = grind arith
 row_whole-fine : (context : Context) (row : PartialRow) (relation : Relation) (right : Side)
     → IsNamed context → IsSoundRow row → IsSoundSide right → Fine context (row_whole context row relation right)
 row_whole-fine context row relation right named r h = let limits = row_limits row.left relation right.limit in
-    let given = limits-legal row.left relation right.limit r.left h in let lower = unwrap_or limits.lower MinusInf in
-    let upper = unwrap_or limits.upper PlusInf in let terms = flat_map (term_declared row.name) row.terms in declares-fine context
-    right.last BetweenRows (row_declared row limits) named (λ b n. n) (both_so (is_lp_name row.name && (is_given lower && is_given upper))
-    (list_all is_lp_legal terms) (both_so (is_lp_name row.name) (is_given lower && is_given upper) r.name (both_so (is_given lower)
-    (is_given upper) (lower-given limits.lower given.0) (upper-given limits.upper given.1))) (terms-legal row.name row.terms r.terms))
+    let given = limits-legal row.left relation right.limit r.left h in
+    let lower = unwrap_or limits.lower MinusInf in
+    let upper = unwrap_or limits.upper PlusInf in
+    let terms = flat_map (term_declared row.name) row.terms in declares-fine context
+    right.last BetweenRows (row_declared row limits) named (λ b n. n)
+    (both_so (is_lp_name row.name && (is_given lower && is_given upper)) (list_all is_lp_legal terms)
+    (both_so (is_lp_name row.name) (is_given lower && is_given upper) r.name (both_so (is_given lower)
+    (is_given upper) (lower-given limits.lower given.0) (upper-given limits.upper given.1)))
+    (terms-legal row.name row.terms r.terms))
 
 row_end-fine : (context : Context) (row : PartialRow) (relation : Relation) (token : TerminalAt)
     → IsNamed context → IsSoundRow row → Fine context (row_end context row relation token)
 row_end-fine context row relation _ named r = either-fine context
-    (fits_left row.left relation) _ _ (then-gives IsSoundSide (IsFine context.builder) (side context) (row_whole context row relation)
+    (fits_left row.left relation) _ _
+    (then-gives IsSoundSide (IsFine context.builder) (side context) (row_whole context row relation)
     (side-gives context) (λ right h. row_whole-fine context _ relation right named r h)) (λ tokens sound. tt)
 
 -- ---- bounds
 
-sides-legal : (column : List ℕ) (lower upper : Option Limit) → IsGiven lower → IsGiven upper → list_all is_lp_legal (bounds_declared column lower upper) ≡ true
+sides-legal : (column : List ℕ) (lower upper : Option Limit) → IsGiven lower → IsGiven upper →
+    list_all is_lp_legal (bounds_declared column lower upper) ≡ true
 sides-legal = grind arith
 
 -- declarations that are not rejected come before, and the place has no further requirement
 bounded-fine : (context : Context) (front : Declarations) (column : List ℕ) (limits : Limits) (last : TerminalAt) (place : Place)
     → IsNamed context → IsPlain place → refusals_in_turn context.builder front ≡ []
     → list_all is_lp_legal front ≡ true → AreGiven limits → Fine context (bound_sides context front column limits last place)
-bounded-fine = grind (arith, unless_refused-fine, refusals_in_turn-append, join_none, bounds-in_turn, list_all-append, both_so, sides-legal)
+bounded-fine = grind (
+  arith,
+  unless_refused-fine,
+  refusals_in_turn-append,
+  join_none,
+  bounds-in_turn,
+  list_all-append,
+  both_so,
+  sides-legal,
+)
 
 column-legal : (column : List ℕ) → is_lp_name column ≡ true → list_all is_lp_legal (declare_column column ∷ []) ≡ true
 column-legal = grind arith
@@ -329,24 +375,29 @@ bound_after-fine context column token named h = by token.line token.terminal
     by : (line : ℕ) (terminal : Terminal) → Fine context (bound_after context column (at line terminal))
     by line Free = bounded-fine context (declare_column column ∷ []) column no_limits
         (at line Free) (InBounds None) named (λ b n. n) refl (column-legal column h) (refl, refl)
-    by line (Compares relation) = then-gives IsSoundSide (IsFine context.builder) (side context) (bound_right context (declare_column column
-        ∷ []) column relation) (side-gives context) (λ right s. bounded-fine context (declare_column column ∷ []) column (limits_by relation
-        right.limit) right.last (InBounds None) named (λ b n. n) refl (column-legal column h) (limits_by-given relation right.limit s))
+    by line (Compares relation) = then-gives IsSoundSide (IsFine context.builder) (side context)
+        (bound_right context (declare_column column ∷ []) column relation) (side-gives context)
+        (λ right s. bounded-fine context (declare_column column ∷ []) column (limits_by relation
+        right.limit) right.last (InBounds None) named (λ b n. n) refl (column-legal column h)
+        (limits_by-given relation right.limit s))
     by line _ = grind arith
 
 bound_column-fine : (context : Context) (limit : Limit) (relation : Relation) (token : TerminalAt)
     → IsNamed context → is_given limit ≡ true → IsSoundToken token → Fine context (bound_column context limit relation token)
 bound_column-fine context limit relation token named g s = by _ token.terminal s
   where
-    by : (line : ℕ) (terminal : Terminal) → IsSoundTerminal terminal → Fine context (bound_column context limit relation (at line terminal))
-    by line (Name column) h = bounded-fine _ (declare_column column ∷ []) _ (limits_by (flip relation) limit) (at line (Name column))
-        (InBounds (Some (column, relation))) named (λ b n. n) refl (column-legal column h) (limits_by-given (flip relation) _ g)
+    by : (line : ℕ) (terminal : Terminal) → IsSoundTerminal terminal →
+        Fine context (bound_column context limit relation (at line terminal))
+    by line (Name column) h = bounded-fine _ (declare_column column ∷ []) _ (limits_by (flip relation) limit)
+        (at line (Name column)) (InBounds (Some (column, relation))) named (λ b n. n) refl (column-legal column h)
+        (limits_by-given (flip relation) _ g)
     by line _ h = grind arith
 
 bound_left-fine : (context : Context) (left : Side) → IsNamed context → IsSoundSide left → Fine context (bound_left context left)
 bound_left-fine = grind (arith, then-gives, sense-gives, next-gives, bound_column-fine)
 
-bound-fine : (context : Context) (line : ℕ) (terminal : Terminal) → IsNamed context → IsSoundTerminal terminal → Fine context (bound context (at line terminal))
+bound-fine : (context : Context) (line : ℕ) (terminal : Terminal) → IsNamed context → IsSoundTerminal terminal →
+    Fine context (bound context (at line terminal))
 bound-fine context line terminal named s = by terminal s
   where
     sided : (t : Terminal) → IsSoundTerminal t → Fine context (side_from context (at line t) >>= bound_left context)
@@ -377,22 +428,26 @@ second_side-fine context (Some left) relation token named = either-fine context 
 listed-fine : (place : Place) (kind_declared : List ℕ → Declaration) (context : Context) (line : ℕ) (terminal : Terminal)
     → IsNamed context → IsPlain place → ((name : List ℕ) → is_lp_legal (kind_declared name) ≡ true)
     → IsSoundTerminal terminal → Fine context (name_in_section place kind_declared context (at line terminal))
-listed-fine _ kind_declared context line (Name column) named plain legal s = declares-fine context (at line (Name column)) _ (declare_column
-    _ ∷ kind_declared column ∷ []) named plain (both_so _ (is_lp_legal (kind_declared column) && true) s (both_so _ _ (legal _) refl))
+listed-fine _ kind_declared context line (Name column) named plain legal s =
+    declares-fine context (at line (Name column)) _ (declare_column _ ∷ kind_declared column ∷ []) named plain
+    (both_so _ (is_lp_legal (kind_declared column) && true) s (both_so _ _ (legal _) refl))
 listed-fine place kind_declared context line _ named plain legal s = grind arith
 
 phrase-fine : (place : Place) (context : Context) (line : ℕ) (terminal : Terminal) → IsSoundPoint
-    (record { place = place; context = context }) → IsSoundTerminal terminal → Fine context (phrase place context (at line terminal))
+    (record { place = place; context = context }) → IsSoundTerminal terminal →
+    Fine context (phrase place context (at line terminal))
 phrase-fine AtStart context line terminal point s = grind arith
-phrase-fine (BeforeItems name) context line _ named s = then-gives IsSoundItem (IsFine context.builder) (item_from context (at line _))
-    (objective_item context name) (item-gives context line _ s) (λ item i. objective_item-fine context name item named i)
+phrase-fine (BeforeItems name) context line _ named s =
+    then-gives IsSoundItem (IsFine context.builder) (item_from context (at line _)) (objective_item context name)
+    (item-gives context line _ s) (λ item i. objective_item-fine context name item named i)
 phrase-fine (InObjective name) context _ (Sign sign) named s =
     then-gives IsSoundItem (IsFine context.builder) (signed_item context sign) (objective_item context name)
     (λ tokens sound. signed_item-gives context _ sign sound) (λ item i. objective_item-fine context name item named i)
 phrase-fine (InObjective name) context line _ named s = grind arith
 phrase-fine BetweenRows context line terminal named s = grind (arith, row-fine)
 phrase-fine (InRow _) context _ (Sign sign) point s = then-gives IsSoundItem (IsFine context.builder) (signed_item context sign)
-    (row_item _ _) (λ tokens sound. signed_item-gives context _ sign sound) (λ item i. row_item-fine context _ item point.0 point.1 i)
+    (row_item _ _) (λ tokens sound. signed_item-gives context _ sign sound)
+    (λ item i. row_item-fine context _ item point.0 point.1 i)
 phrase-fine (InRow _) _ line (Compares relation) point s = row_end-fine _ _ _ (at line (Compares relation)) point.0 point.1
 phrase-fine (InRow row) context line _ point s = grind arith
 phrase-fine (InBounds left) context line (Compares relation) named s = grind (arith, second_side-fine)
@@ -413,12 +468,6 @@ phrase-fine InSemis context line terminal named s = grind (arith, listed-fine)
 line_end-fine : (context : Context) (line : ℕ) → IsNamed context → Fine context (line_end context line)
 line_end-fine = grind arith
 
-sections_seen-plain : (wanted : LastWord) → IsPlain (opened_by wanted)
-sections_seen-plain = grind arith
-
-last_word-fine : (context : Context) (wanted : LastWord) (token : TerminalAt) → IsNamed context → Fine context (last_word context wanted token)
-last_word-fine = grind arith
-
 next_word-fine : (context : Context) (wanted : LastWord) → IsNamed context → Fine context (next >>= last_word context wanted)
 next_word-fine = grind arith
 
@@ -435,7 +484,8 @@ IsLater words.Minimize = ⊥
 IsLater words.Maximize = ⊥
 IsLater _ = Unit {0}
 
-start-fine : (context : Context) (token : TerminalAt) (word : SectionWord) → IsLater word → IsNamed context → Fine context (section_start context token word)
+start-fine : (context : Context) (token : TerminalAt) (word : SectionWord) → IsLater word → IsNamed context →
+    Fine context (section_start context token word)
 start-fine = grind (arith, nothing-fine, next_word-fine, then-gives, ahead-gives, semi-fine, line_end-fine)
 
 later-fine : (context : Context) (token : TerminalAt) (word : SectionWord) → IsLater word → IsNamed (record context
@@ -450,7 +500,8 @@ later-fine context token word later named = by (section_fault context.sections_s
     by None = grind (arith, start-fine)
 
 -- after the objective was opened
-section-fine : (context : Context) (token : TerminalAt) (word : SectionWord) → IsNamed context → Fine context (section_from context token word)
+section-fine : (context : Context) (token : TerminalAt) (word : SectionWord) → IsNamed context →
+    Fine context (section_from context token word)
 section-fine = grind (arith, later-fine)
 
 -- ---- the objective; nothing is declared before it
@@ -461,7 +512,8 @@ opening = record { sections_seen = with_section start.context.sections_seen Obje
 -- declarations that name the objective
 opens-declared : (token : TerminalAt) (place : Place) (made : Declarations)
     → ((context : Context) → IsNamed context → IsSoundPoint (record { place = place; context = context })) → is_some
-    (draft_of made).objective ≡ true → list_all is_lp_legal made ≡ true → Gives (IsFine empty_draft) (declares opening token place made)
+    (draft_of made).objective ≡ true → list_all is_lp_legal made ≡ true →
+    Gives (IsFine empty_draft) (declares opening token place made)
 opens-declared = grind arith
 
 objective_named-fine : (goal : Sense) (name : List ℕ) (line : ℕ) (terminal : Terminal) → is_lp_name name ≡ true
@@ -471,7 +523,8 @@ objective_named-fine goal name line terminal h = by terminal
     legal : {b : Bool} → b ≡ true → (is_lp_name name && b) ≡ true
     legal = grind arith
 
-    first_item : (t : Terminal) → Gives (IsFine empty_draft) (declares opening (at line t) (InObjective default_objective) (first_item_declared goal name))
+    first_item : (t : Terminal) → Gives (IsFine empty_draft)
+        (declares opening (at line t) (InObjective default_objective) (first_item_declared goal name))
     first_item = grind arith
 
     by : (t : Terminal) → Gives (IsFine empty_draft) (objective_named opening goal name (at line t))
@@ -480,15 +533,19 @@ objective_named-fine goal name line terminal h = by terminal
 
 objective-fine : (goal : Sense) → Gives (IsFine empty_draft) (objective opening goal)
 objective-fine goal =
-    then-gives IsSoundToken (IsFine empty_draft) ahead (objective_from opening goal) ahead-gives (λ token s. by token.line token.terminal s)
+    then-gives IsSoundToken (IsFine empty_draft) ahead (objective_from opening goal) ahead-gives
+    (λ token s. by token.line token.terminal s)
   where
-    by : (line : ℕ) (terminal : Terminal) → IsSoundTerminal terminal → Gives (IsFine empty_draft) (objective_from opening goal (at line terminal))
-    by _ (Name name) s = then-gives IsSoundToken (IsFine empty_draft) next (λ first. ahead >>= objective_named opening goal name) next-gives
+    by : (line : ℕ) (terminal : Terminal) → IsSoundTerminal terminal →
+        Gives (IsFine empty_draft) (objective_from opening goal (at line terminal))
+    by _ (Name name) s = then-gives IsSoundToken (IsFine empty_draft) next
+        (λ first. ahead >>= objective_named opening goal name) next-gives
         (λ first f. then-gives IsSoundToken _ _ _ ahead-gives (λ second t. objective_named-fine _ name _ second.terminal s))
     by line terminal s = grind (arith, opens-declared)
 
 -- at the start, no other section may be opened
-first_section-fine : (token : TerminalAt) (word : SectionWord) → Gives (IsFine empty_draft) (section_from start.context token word)
+first_section-fine : (token : TerminalAt) (word : SectionWord) →
+    Gives (IsFine empty_draft) (section_from start.context token word)
 first_section-fine = grind (arith, objective-fine)
 
 -- ---- all phrases

@@ -19,27 +19,19 @@ use Rattle.mpslp_lp_grammar.{proofs.TokenAnswers.{one-parsed}, specs.declared.st
 -- ---- the least error, from the left
 
 -- of the first two kinds, the lesser decides
-pub least-two : (a b : FaultKind) (more : List FaultKind) → least_kind (a ∷ b ∷ more) ≡ least_kind (lower_ranked_of (Some a) b ∷ more)
+pub least-two : (a b : FaultKind) (more : List FaultKind) →
+    least_kind (a ∷ b ∷ more) ≡ least_kind (lower_ranked_of (Some a) b ∷ more)
 least-two a b _ = least-append (a ∷ b ∷ []) _ ∙ sym (least-append (lower_ranked_of (Some a) b ∷ []) _)
 
-pub least-next : (o : Option FaultKind) (b : FaultKind) (more : List FaultKind) → least_kind (cons_option o (b ∷ more)) ≡ least_kind (lower_ranked_of o b ∷ more)
+pub least-next : (o : Option FaultKind) (b : FaultKind) (more : List FaultKind) →
+    least_kind (cons_option o (b ∷ more)) ≡ least_kind (lower_ranked_of o b ∷ more)
 least-next = grind (arith, least-two)
 
 -- ---- one more token
 
-faults-next : (token : Token) (more : List Token) (o : Option FaultKind)
-    → token_fault token.kind token.text ≡ o → token_faults (token ∷ more) ≡ cons_option o (token_faults more)
-faults-next = grind arith
-
--- a token without a lexical error that is accepted
-pub tokens-next : (context after : Context) (state next : State) (token : Token) (more : List Token)
-    → token_fault token.kind token.text ≡ None
-    → take context state (as_terminal token) ≡ Goes after next → take_tokens context state (token ∷ more) ≡ take_tokens after next more
-tokens-next = grind arith
-
 -- a token with a lexical error
-pub tokens-own : (context after : Context) (state : State) (token : Token) (more : List Token) (kind : FaultKind) (error : LineError)
-    → token_fault token.kind token.text ≡ Some kind
+pub tokens-own : (context after : Context) (state : State) (token : Token) (more : List Token) (kind : FaultKind)
+    (error : LineError) → token_fault token.kind token.text ≡ Some kind
     → IsLeastError (kind ∷ token_faults more) error → TakesToken (take_tokens context state (token ∷ more)) (Err error) after
 tokens-own = grind arith
 
@@ -52,8 +44,9 @@ tokens-refused = grind arith
 -- ---- taking a sign, an optional number and a name as a whole is the same as taking them one after another
 
 -- a terminal that is accepted
-pub step : (context after : Context) (state next : State) (found more : List Token) (terminal : Terminal) → Begins found terminal more
-    → take context state terminal ≡ Goes after next → take_tokens context state found ≡ take_tokens after next more
+pub step : (context after : Context) (state next : State) (found more : List Token) (terminal : Terminal) →
+    Begins found terminal more → take context state terminal ≡ Goes after next →
+    take_tokens context state found ≡ take_tokens after next more
 step = grind arith
 
 -- a number without an error is a terminal
@@ -69,18 +62,21 @@ unfolding trailing_zeros
 one-sound = refl
 
 -- the state before the name of a term
-record BeforeName (context : Context) (start : State) (found following : List Token) (column : List ℕ) (result : AfterToken) : Type 0 where
+record BeforeName (context : Context) (start : State) (found following : List Token) (column : List ℕ)
+    (result : AfterToken) : Type 0 where
   state : State
   comes : take_tokens context start found ≡ take_tokens context state following
   takes : take context state (Name column) ≡ result
 
 module _ (context : Context) (start : State) (taken : Decimal → AfterToken) (found more : List Token) (sign : SignOf)
-    (literal column : List ℕ) (p : IsPlainTerm found sign literal column more) (way : LeadsTo context start sign column taken) where
+    (literal column : List ℕ) (p : IsPlainTerm found sign literal column more)
+    (way : LeadsTo context start sign column taken) where
   -- up to the number, and up to the name
   after-sign : take_tokens context start found ≡ take_tokens context way.signs p.after_sign
   after-sign = grind arith
 
-  context-name : number_fault literal ≡ None → BeforeName context start found p.term.after_number column (taken (apply_sign sign (value_of literal)))
+  context-name : number_fault literal ≡ None →
+      BeforeName context start found p.term.after_number column (taken (apply_sign sign (value_of literal)))
   context-name none = elim p.term.number [
     | inl number ↦ record {
       state = way.numbered _;
@@ -98,12 +94,14 @@ module _ (context : Context) (start : State) (taken : Decimal → AfterToken) (f
 
   -- a term that is accepted
   pub plain-goes : (after : Context) (next : State) → number_fault literal ≡ None
-      → taken (apply_sign sign (value_of literal)) ≡ Goes after next → take_tokens after next more ≡ take_tokens context start found
+      → taken (apply_sign sign (value_of literal)) ≡ Goes after next →
+      take_tokens after next more ≡ take_tokens context start found
   plain-goes = grind (arith, context-name, step)
 
   -- a term with an error
-  pub plain-refused : (after : Context) (error : LineError) → number_fault literal ≡ None → TakesToken (taken (apply_sign sign (value_of
-      literal))) (Err error) after → TakesToken (take_tokens context start found) (Err (error_before (token_faults more) error)) after
+  pub plain-refused : (after : Context) (error : LineError) → number_fault literal ≡ None →
+      TakesToken (taken (apply_sign sign (value_of literal))) (Err error) after →
+      TakesToken (take_tokens context start found) (Err (error_before (token_faults more) error)) after
   plain-refused = grind (arith, context-name, tokens-refused)
 
   -- a number with an error
@@ -114,7 +112,8 @@ module _ (context : Context) (start : State) (taken : Decimal → AfterToken) (f
         let same =
         ap token_faults p.term.name.tokens ∙ ap (λ o. cons_option o (token_faults more)) p.term.name.sound in
         subst (λ t. TakesToken t (Err error) after) (sym (after-sign ∙ ap (take_tokens context way.signs) number.tokens))
-        (tokens-own context after way.signs number.token p.term.after_number _ _ ((λ i. token_fault (number.kind i) (number.text i)) ∙ some)
+        (tokens-own context after way.signs number.token p.term.after_number _ _
+        ((λ i. token_fault (number.kind i) (number.text i)) ∙ some)
         (subst (λ faults. IsLeastError (kind ∷ faults) error) (sym same) least))
     | inr unnumbered ↦ absurd (none-some _ (one-sound ∙ ap number_fault (sym unnumbered.0) ∙ some))
   ]
@@ -133,7 +132,8 @@ in-row context row sign column = record {
 }
 
 pub after-label : (context : Context) (name : List ℕ) (sign : SignOf) (column : List ℕ)
-    → LeadsTo context (RowLabel name) sign column (λ value. take_term context (OfRow (without_terms name None)) column value (Name column))
+    → LeadsTo context (RowLabel name) sign column (λ value. take_term context (OfRow (without_terms name None)) column
+    value (Name column))
 after-label context name sign column = record {
   signs = RowSign name sign;
   numbered = λ value. RowNumber name sign value;
@@ -157,12 +157,14 @@ in-objective context objective sign column = record {
 -- ---- a term of a row
 
 -- a column that is new in the row, and one that has a term in the row
-pub row-taken : (context : Context) (row longer : PartialRow) (column : List ℕ) (value : Decimal) → AddsTerm row column value (Ok longer)
-    → take_term context (OfRow row) column value (Name column) ≡ Goes context (Between (InRow longer))
+pub row-taken : (context : Context) (row longer : PartialRow) (column : List ℕ) (value : Decimal) →
+    AddsTerm row column value (Ok longer) →
+    take_term context (OfRow row) column value (Name column) ≡ Goes context (Between (InRow longer))
 row-taken = grind arith
 
 pub row-refused : (context : Context) (row : PartialRow) (column : List ℕ) (value : Decimal) (error : LineError)
-    → AddsTerm row column value (Err error) → TakesToken (take_term context (OfRow row) column value (Name column)) (Err error) context
+    → AddsTerm row column value (Err error) →
+    TakesToken (take_term context (OfRow row) column value (Name column)) (Err error) context
 row-refused = grind arith
 
 -- ---- taking a phrase as a whole is the same as taking its tokens one after another
@@ -183,7 +185,8 @@ pub record BeforeLast (context : Context) (start : State) (found more : List Tok
   pub unopened : terminal_fault context terminal ≡ None
   pub takes : take context state terminal ≡ taken terminal
 
-module _ (context : Context) (start : State) (found more : List Token) (taken : Terminal → AfterToken) (last : BeforeLast context start found more taken) where
+module _ (context : Context) (start : State) (found more : List Token) (taken : Terminal →
+    AfterToken) (last : BeforeLast context start found more taken) where
   -- a phrase that is accepted
   pub phrase-goes : (after : Context) (next : State) → ((terminal : Terminal) → terminal_fault context terminal ≡ None
       → TakesToken (taken terminal) (Ok next) after) → TakesSome context start found (Ok more) after next
@@ -197,8 +200,9 @@ module _ (context : Context) (start : State) (found more : List Token) (taken : 
 
 -- after some tokens, the others
 pub some-after : (context between after : Context) (start middle next : State)
-    (found rest : List Token) (result : Result (List Token) LineError) → take_tokens between middle rest ≡ take_tokens context start found
-    → length rest ≤ length found → TakesSome between middle rest result after next → TakesSome context start found result after next
+    (found rest : List Token) (result : Result (List Token) LineError) →
+    take_tokens between middle rest ≡ take_tokens context start found → length rest ≤ length found →
+    TakesSome between middle rest result after next → TakesSome context start found result after next
 some-after = grind arith
 
 -- one token before others
@@ -222,8 +226,10 @@ limit-of = grind arith
 record TakesLimit (context : Context) (start : State) (taken : Limit → Terminal → AfterToken) : Type 0 where
   signed : SignOf → State
   to_signed : (sign : SignOf) → take context start (Sign sign) ≡ Goes context (signed sign)
-  after_sign : (sign : SignOf) (terminal : Terminal) → take context (signed sign) terminal ≡ take_side_value (λ limit. taken limit terminal) context sign terminal
-  unsigned : (terminal : Terminal) (limit : Limit) → limit_of_terminal Plus terminal ≡ Some limit → take context start terminal ≡ taken limit terminal
+  after_sign : (sign : SignOf) (terminal : Terminal) →
+      take context (signed sign) terminal ≡ take_side_value (λ limit. taken limit terminal) context sign terminal
+  unsigned : (terminal : Terminal) (limit : Limit) → limit_of_terminal Plus terminal ≡ Some limit →
+      take context start terminal ≡ taken limit terminal
 
 side-last : (context : Context) (start : State) (taken : Limit → Terminal → AfterToken) (found more : List Token) (limit : Limit)
     → TakesLimit context start taken → BeginsWithSide found limit more → BeforeLast context start found more (taken limit)
@@ -257,7 +263,8 @@ at-side context sided =
     record { signed = SideSign sided; to_signed = λ sign. refl; after_sign = λ sign terminal. refl; unsigned = unsigned_side }
   where
     unsigned_side : (terminal : Terminal) (limit : Limit)
-        → limit_of_terminal Plus terminal ≡ Some limit → take context (AtSide sided) terminal ≡ take_side context sided limit terminal
+        → limit_of_terminal Plus terminal ≡ Some limit →
+        take context (AtSide sided) terminal ≡ take_side context sided limit terminal
     unsigned_side = grind arith
 
 in-bounds : (context : Context) (before : Option (List ℕ × Relation))
@@ -266,12 +273,13 @@ in-bounds context before =
     record { signed = BoundSign; to_signed = λ sign. refl; after_sign = λ sign terminal. refl; unsigned = unsigned_left }
   where
     unsigned_left : (terminal : Terminal) (limit : Limit)
-        → limit_of_terminal Plus terminal ≡ Some limit → take context (Between (InBounds before)) terminal ≡ Goes context (BoundLeft limit)
+        → limit_of_terminal Plus terminal ≡ Some limit →
+        take context (Between (InBounds before)) terminal ≡ Goes context (BoundLeft limit)
     unsigned_left = grind arith
 
 -- a relation and the side after it
-pub right-last : (context : Context) (start : State) (sided : SideOwner) (found more : List Token) (relation : Relation) (limit : Limit)
-    → take context start (Compares relation) ≡ Goes context (AtSide sided)
+pub right-last : (context : Context) (start : State) (sided : SideOwner) (found more : List Token) (relation : Relation)
+    (limit : Limit) → take context start (Compares relation) ≡ Goes context (AtSide sided)
     → BeginsWithRight found relation limit more → BeforeLast context start found more (take_side context sided limit)
 right-last context start sided found more relation limit goes right = let side = side-last _ _ _ _ _ _ (at-side _ _) right.side in
     let shorter = begins-fewer _ _ _ right.compares in record {
@@ -291,7 +299,8 @@ pub row-compared : (context : Context) (row : PartialRow) (relation : Relation) 
 row-compared = grind arith
 
 pub bound-compared : (context : Context) (column : List ℕ) (first second : Relation) → fits_second first second ≡ true
-    → take context (Between (InBounds (Some (column, first)))) (Compares second) ≡ Goes context (AtSide (SideOfBound false column second))
+    → take context (Between (InBounds (Some (column, first)))) (Compares second) ≡ Goes context
+    (AtSide (SideOfBound false column second))
 bound-compared = grind arith
 
 -- ---- bounds
@@ -300,13 +309,17 @@ bound-compared = grind arith
 pub left-last : (context : Context) (before : Option (List ℕ × Relation))
     (found after_limit after_relation more : List Token) (limit : Limit) (relation : Relation) (column : List ℕ)
     → BeginsWithSide found limit after_limit → Begins after_limit (Compares relation) after_relation
-    → Begins after_relation (Name column) more → BeforeLast context (Between (InBounds before)) found more (λ terminal. take_bound context
-    (declare_column column ∷ []) column (limits_by (flip relation) limit) terminal (InBounds (Some (column, relation))))
+    → Begins after_relation (Name column) more →
+    BeforeLast context (Between (InBounds before)) found more
+    (λ terminal. take_bound context (declare_column column ∷ []) column (limits_by (flip relation) limit)
+    terminal (InBounds (Some (column, relation))))
 left-last context before found after_limit after_relation more limit relation column side compares name =
     let start = Between (InBounds before) in
     let at_left = phrase-goes _ _ _ _ _
-    (side-last context start (λ given terminal. Goes context (BoundLeft given)) found after_limit limit (in-bounds context before) side) _
-    (BoundLeft limit) (λ terminal unopened. refl) in let shorter = begins-fewer _ _ _ compares in record {
+    (side-last context start (λ given terminal. Goes context (BoundLeft given)) found after_limit limit
+    (in-bounds context before) side) _
+    (BoundLeft limit) (λ terminal unopened. refl) in
+    let shorter = begins-fewer _ _ _ compares in record {
       state = BoundLeftRelation limit relation;
       rest = after_relation;
       terminal = Name column;
@@ -319,7 +332,8 @@ left-last context before found after_limit after_relation more limit relation co
 
 -- a column and `free`
 pub free-last : (context : Context) (before : Option (List ℕ × Relation)) (found after_name more : List Token) (column : List ℕ)
-    → Begins found (Name column) after_name → Begins after_name Free more → BeforeLast context (Between (InBounds before)) found more
+    → Begins found (Name column) after_name → Begins after_name Free more →
+    BeforeLast context (Between (InBounds before)) found more
     (λ terminal. take_bound context (declare_column column ∷ []) column no_limits Free (InBounds None))
 free-last _ _ _ after_name _ _ name free = record {
   state = BoundName _;
@@ -336,7 +350,8 @@ free-last _ _ _ after_name _ _ name free = record {
 
 pub name-last : (context : Context) (section : ListSection) (found more : List Token) (column : List ℕ)
     → Begins found (Name column) more → BeforeLast context
-    (Between (listed_at section)) found more (λ terminal. name_taken (listed_at section) (kind_declared section) context (Name column))
+    (Between (listed_at section)) found more (λ terminal. name_taken (listed_at section) (kind_declared section) context
+    (Name column))
 name-last context section found more column name = record {
   state = Between _;
   rest = found;
@@ -348,7 +363,8 @@ name-last context section found more column name = record {
   takes = by _;
 }
   where
-    by : (s : ListSection) → take context (Between (listed_at s)) (Name column) ≡ name_taken (listed_at s) (kind_declared s) context (Name column)
+    by : (s : ListSection) → take context (Between (listed_at s)) (Name column) ≡ name_taken (listed_at s)
+        (kind_declared s) context (Name column)
     by = grind arith
 
 -- ---- the label of a row
@@ -371,8 +387,9 @@ after_first token more first = elim (least_kind (token_faults (token ∷ more)))
   ]
 ]
 
-pub same-first : (context : Context) (one other : State) (found more : List Token) (terminal : Terminal) → Begins found terminal more
-    → take context one terminal ≡ take context other terminal → take_tokens context one found ≡ take_tokens context other found
+pub same-first : (context : Context) (one other : State) (found more : List Token) (terminal : Terminal) →
+    Begins found terminal more → take context one terminal ≡ take context other terminal →
+    take_tokens context one found ≡ take_tokens context other found
 same-first = grind arith
 
 pub same-start : (context after : Context) (one other next : State) (found : List Token) (result : Result (List Token) LineError)
@@ -383,10 +400,13 @@ same-start = grind arith
 -- ---- the first term of a row
 
 -- after the sign, or where there is none
-from-sign : (context : Context) (name : List ℕ) (sign : SignOf) (start : State) (found more : List Token) (size : Decimal) (column : List ℕ)
-    → BeginsWithColumn found size column more → ((value : Decimal) → take context start (Number value) ≡ Goes context (RowNumber name
-    sign value)) → take context start (Name column) ≡ take_term context (OfRow (without_terms name None)) column (apply_sign sign one) (Name
-    column) → take_tokens context start found ≡ take_tokens context (Between (InRow (row_of_term name column (apply_sign sign size)))) more
+from-sign : (context : Context) (name : List ℕ) (sign : SignOf) (start : State) (found more : List Token)
+    (size : Decimal) (column : List ℕ) → BeginsWithColumn found size column more →
+    ((value : Decimal) → take context start (Number value) ≡ Goes context (RowNumber name sign value)) →
+    take context start (Name column) ≡ take_term context (OfRow (without_terms name None)) column
+    (apply_sign sign one) (Name column) →
+    take_tokens context start found ≡ take_tokens context
+    (Between (InRow (row_of_term name column (apply_sign sign size)))) more
 from-sign context name sign start _ more _ column begins to_number to_name = elim begins.number [
   | inl number ↦
       step _ _ _ _ _ _ _ number (to_number _)
@@ -394,28 +414,41 @@ from-sign context name sign start _ more _ column begins to_number to_name = eli
   | inr unnumbered ↦
       ap (take_tokens context start) (sym unnumbered.1)
       ∙ step _ _ _ _ _ _ _ begins.name to_name
-      ∙ ap (λ value. take_tokens context (Between (InRow (row_of_term name column (apply_sign sign value)))) more) (sym unnumbered.0)
+      ∙ ap (λ value. take_tokens context (Between (InRow (row_of_term name column (apply_sign sign value)))) more)
+      (sym unnumbered.0)
 ]
 
-column-fewer : (found more : List Token) (size : Decimal) (column : List ℕ) → BeginsWithColumn found size column more → length more ≤ length found
+column-fewer : (found more : List Token) (size : Decimal) (column : List ℕ) → BeginsWithColumn found size column more →
+    length more ≤ length found
 column-fewer = grind arith
 
-pub first-taken : (context : Context) (name : List ℕ) (found more : List Token) (value : Decimal) (column : List ℕ) → BeginsWithTerm
-    found value column more → TakesSome context (RowLabel name) found (Ok more) context (Between (InRow (row_of_term name column value)))
+pub first-taken : (context : Context) (name : List ℕ) (found more : List Token) (value : Decimal) (column : List ℕ) →
+    BeginsWithTerm found value column more →
+    TakesSome context (RowLabel name) found (Ok more) context (Between (InRow (row_of_term name column value)))
 first-taken context name found more value column begins =
     let reached = λ (given : Decimal). take_tokens context (Between (InRow (row_of_term name column given))) more in
     let fewer = column-fewer _ _ _ _ begins.term in
-    elim begins.signed as (λ _. TakesSome context (RowLabel name) found (Ok more) context (Between (InRow (row_of_term name column value)))) [
-      | inl sign ↦ let shorter = begins-fewer _ _ _ sign in
-          (sym (step _ _ _ _ _ _ _ sign refl ∙ from-sign _ _ _ _ _ _ _ _ begins.term (λ given. refl) refl ∙ ap reached (sym begins.gives)), omega (arith, fewer, shorter))
-      | inr unsigned ↦ let same = ap length unsigned.1 in (sym (ap (take_tokens context (RowLabel name)) (sym unsigned.1) ∙ from-sign _ _ _ _ _ _ _ _ begins.term (λ given. refl) refl ∙ ap reached (sym (begins.gives ∙ ap (λ sign. apply_sign sign begins.size) unsigned.0))), omega (arith, fewer, same))
+    elim begins.signed as (λ _. TakesSome context (RowLabel name) found (Ok more) context
+    (Between (InRow (row_of_term name column value)))) [
+      | inl sign ↦ let shorter = begins-fewer _ _ _ sign in (
+        sym (step _ _ _ _ _ _ _ sign refl ∙ from-sign _ _ _ _ _ _ _ _ begins.term (λ given. refl) refl
+            ∙ ap reached (sym begins.gives)),
+        omega (arith, fewer, shorter),
+      )
+      | inr unsigned ↦ let same = ap length unsigned.1 in (
+        sym (ap (take_tokens context (RowLabel name)) (sym unsigned.1) ∙ from-sign _ _ _ _ _ _ _ _ begins.term
+            (λ given. refl) refl ∙ ap reached
+            (sym (begins.gives ∙ ap (λ sign. apply_sign sign begins.size) unsigned.0))),
+        omega (arith, fewer, same),
+      )
     ]
 
 -- ---- the row that it begins
 
 -- a row without terms has no term of the column
-pub only-term : (name column : List ℕ) (value : Decimal) (result : Result PartialRow LineError) → AddsTerm (without_terms name None)
-    column value result → MatchResult result (λ row. row ≡ row_of_term name column value) (λ error. error ≡ OutOfMemory)
+pub only-term : (name column : List ℕ) (value : Decimal) (result : Result PartialRow LineError) →
+    AddsTerm (without_terms name None) column value result →
+    MatchResult result (λ row. row ≡ row_of_term name column value) (λ error. error ≡ OutOfMemory)
 only-term = grind arith
 
 -- a row, and the context that is unchanged

@@ -13,15 +13,21 @@ use Rattle.mpslp_lp_tokens.specs.declared.words.WordClass.{WordClass}
 use Rattle.mpslp_lp_tokens.specs.declared.words.WordClass.TheVariants as meanings
 
 -- A word that is a name and has no fault is a name in LP.
-pub lp-name : (text : List ℕ) → is_word text ≡ true → class_of text ≡ meanings.Name → name_fault text ≡ None → is_lp_name text ≡ true
+pub lp-name : (text : List ℕ) → is_word text ≡ true → class_of text ≡ meanings.Name → name_fault text ≡ None →
+    is_lp_name text ≡ true
 lp-name text word word_class none = let fault = name-without_fault text none in
-    let legal = fault.legal in let w = word-text text word in let no_marker = not (same_bytes text marker) in
+    let legal = fault.legal in
+    let w = word-text text word in
+    let no_marker = not (same_bytes text marker) in
     let named = second_so (has_name_length text) (list_all is_visible text && no_marker) legal in
-    let t4 = no_marker && not (is_reserved text) in let t3 = not (is_like_exponent text) && t4 in
+    let t4 = no_marker && not (is_reserved text) in
+    let t3 = not (is_like_exponent text) && t4 in
     let t2 = not (begins_a_number text) && t3 in both_so (has_name_length text) (list_all is_lp_byte text && t2)
     (first_so (has_name_length text) (list_all is_visible text && no_marker) legal) (both_so (list_all is_lp_byte text) t2 w.bytes
-    (both_so (not (begins_a_number text)) t3 w.no_number (both_so (not (is_like_exponent text)) t4 fault.no_exponent (both_so no_marker
-    (not (is_reserved text)) (second_so (list_all is_visible text) no_marker named) (name-not_reserved text word_class)))))
+    (both_so (not (begins_a_number text)) t3 w.no_number
+    (both_so (not (is_like_exponent text)) t4 fault.no_exponent
+    (both_so no_marker (not (is_reserved text)) (second_so (list_all is_visible text) no_marker named)
+    (name-not_reserved text word_class)))))
 
 -- ---- the tokens of a line without an error of its own have legal names and decimals
 
@@ -46,10 +52,12 @@ sound-append (x ∷ xs) _ h k = (h.0, sound-append xs _ h.1 k)
 -- ---- a token
 
 word-sound : (text : List ℕ) (word_class : WordClass)
-    → is_word text ≡ true → class_of text ≡ word_class → word_fault text word_class ≡ None → IsSoundTerminal (word_terminal text word_class)
+    → is_word text ≡ true → class_of text ≡ word_class → word_fault text word_class ≡ None →
+    IsSoundTerminal (word_terminal text word_class)
 word-sound = grind (arith, lp-name)
 
-token-sound : (kind : TokenKind) (text : List ℕ) → WordIs kind text → token_fault kind text ≡ None → IsSoundTerminal (terminal_of kind text)
+token-sound : (kind : TokenKind) (text : List ℕ) → WordIs kind text → token_fault kind text ≡ None →
+    IsSoundTerminal (terminal_of kind text)
 token-sound = grind (arith, word-sound, value-decimal)
 
 -- ---- a line
@@ -62,8 +70,9 @@ none-least : (found : List FaultKind) → least_kind found ≡ None → found �
 none-least [] h = refl
 none-least (kind ∷ found) h = cc
 
-tokens-sound : (n : ℕ) (found : List Token) → AreWords found → filter_map (λ (token : Token). token_fault token.kind token.text) found ≡ []
-    → AreSound (map (λ (token : Token). record { line = n; terminal = terminal_of token.kind token.text }) found)
+tokens-sound : (n : ℕ) (found : List Token) → AreWords found →
+    filter_map (λ (token : Token). token_fault token.kind token.text) found ≡ [] →
+    AreSound (map (λ (token : Token). record { line = n; terminal = terminal_of token.kind token.text }) found)
 tokens-sound n [] w h = tt
 tokens-sound n (token ∷ found) w h = let parts = by _ _ h in (token-sound _ _ w.0 parts.0, tokens-sound n found w.1 parts.1)
   where
@@ -74,7 +83,8 @@ pub line-sound : (line : ℕ × List ℕ) → lexical_fault line.1 ≡ None → 
 line-sound line h = tokens-sound _ _ (tokens-words line.1) (none-least _ (by _ _ h))
   where
     by : (legal : Option FaultKind) (found : List FaultKind)
-        → elim legal as (λ _. Option FaultKind) [ Some kind ↦ Some kind | None ↦ least_kind found ] ≡ None → least_kind found ≡ None
+        → elim legal as (λ _. Option FaultKind) [ Some kind ↦ Some kind | None ↦ least_kind found ] ≡ None →
+        least_kind found ≡ None
     by = grind arith
 
 pub text-sound : (numbered : List (ℕ × List ℕ)) → AreSound (sound_terminals numbered)
@@ -92,7 +102,8 @@ Holds P Unfinished = Unit {0}
 abbrev pub Gives : {A : Type 0} → (A → Type 0) → PhraseRule A → Type 0
 Gives P rule = (tokens : List TerminalAt) → AreSound tokens → Holds P (rule tokens)
 
-passing-holds : {A : Type 0} (P : A → Type 0) (taken : ℕ) (reading : Parsed Fault A) → Holds P reading → Holds P (after_taking taken reading)
+passing-holds : {A : Type 0} (P : A → Type 0) (taken : ℕ) (reading : Parsed Fault A) → Holds P reading →
+    Holds P (after_taking taken reading)
 passing-holds = grind arith
 
 pub passed : {A : Type 0} (P : A → Type 0) (reading : Parsed Fault A) → Holds P reading → Holds P (after_taking 1 reading)

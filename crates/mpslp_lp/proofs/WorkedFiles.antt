@@ -28,7 +28,8 @@ pub record Passes (bytes : List ℕ) (m : LinearModel) : Type 0 where
   pub model : model_of (draft_in bytes) ≡ m
 
 pub declares-from_passes : (bytes : List ℕ) (m : LinearModel) → Passes bytes m → DeclaresLp bytes (model_of (draft_in bytes))
-declares-from_passes bytes m h = record { text = h.is_text; means = means-from_none (declarations_of bytes) h.objective h.legal h.unrefused h.no_fault }
+declares-from_passes bytes m h =
+    record { text = h.is_text; means = means-from_none (declarations_of bytes) h.objective h.legal h.unrefused h.no_fault }
 
 -- ---- models by their entries, in byte order
 
@@ -90,7 +91,8 @@ worked_files =
       codes "\\ the same model\nMIN\nCOST: 2Y + X\ns.t.\nMYG: 1.5 Y => 1\nLIM1: X\n <= 4\nEND\n",
       model Minimize "COST"
           (row "LIM1" MinusInf (finite (pos 4)) ∷ row "MYG" (finite (pos 1)) PlusInf ∷ []) (usual "X" ∷ usual "Y" ∷ [])
-          (entry "X" "COST" one ∷ entry "X" "LIM1" one ∷ entry "Y" "COST" (units (pos 2)) ∷ entry "Y" "MYG" (number (pos 15) (negsuc 0)) ∷ []),
+          (entry "X" "COST" one ∷ entry "X" "LIM1" one ∷ entry "Y" "COST" (units (pos 2)) ∷ entry "Y" "MYG"
+          (number (pos 15) (negsuc 0)) ∷ []),
     ) ∷
     -- a ranged row with one infinite limit
     (
@@ -103,7 +105,8 @@ worked_files =
       codes "min 3e5x + 3x1 + - 2 y st c: x <= 1 end\n",
       model Minimize "obj"
           (row "c" MinusInf (finite (pos 1)) ∷ []) (usual "x" ∷ usual "x1" ∷ usual "y" ∷ [])
-          (entry "x" "c" one ∷ entry "x" "obj" (number (pos 3) (pos 5)) ∷ entry "x1" "obj" (units (pos 3)) ∷ entry "y" "obj" (units (negsuc 1)) ∷ []),
+          (entry "x" "c" one ∷ entry "x" "obj" (number (pos 3) (pos 5)) ∷ entry "x1" "obj" (units (pos 3)) ∷ entry "y"
+          "obj" (units (negsuc 1)) ∷ []),
     ) ∷
     -- a name that begins like an exponent
     (codes "min efficiency end\n", model Minimize "obj" [] (usual "efficiency" ∷ []) (entry "efficiency" "obj" one ∷ [])) ∷
@@ -111,7 +114,8 @@ worked_files =
     (
       text (unlabelled_lines ++ codes "end" ∷ []),
       model Minimize "obj"
-          (row "c1" (finite (pos 1)) PlusInf ∷ row "c2" MinusInf (finite (pos 5)) ∷ row "c3" MinusInf (finite (pos 4)) ∷ []) (usual "x" ∷ [])
+          (row "c1" (finite (pos 1)) PlusInf ∷ row "c2" MinusInf (finite (pos 5)) ∷ row "c3" MinusInf
+          (finite (pos 4)) ∷ []) (usual "x" ∷ [])
           (entry "x" "c1" one ∷ entry "x" "c2" one ∷ entry "x" "c3" one ∷ entry "x" "obj" one ∷ []),
     ) ∷
     -- a binary column that is fixed, and an integer column that is used nowhere else

@@ -10,8 +10,8 @@ use Rattle.mpslp_lines.specs.{ErrorOf.{error_of_build}, declared.errors.LineErro
 
 -- ---- a call that is rejected
 
-pub reported-by : (refusals : List BuildFault) (earlier later : Draft) (made : Declarations) (answer : LineResult) (error : LineError)
-    → IsErrAnd answer (λ e. e ≡ error)
+pub reported-by : (refusals : List BuildFault) (earlier later : Draft) (made : Declarations) (answer : LineResult)
+    (error : LineError) → IsErrAnd answer (λ e. e ≡ error)
     → DeclaresUnless refusals earlier made (Err error) later → DeclaresUnless refusals earlier made answer later
 reported-by = grind arith
 
@@ -28,8 +28,8 @@ refused-unless = grind arith
 -- ---- declarations one after another
 
 -- an error of the first declarations is the first of all
-pub refused-here : (first more all : List BuildFault) (a b c d : Draft) (xs ys : Declarations) (error : LineError) → all ≡ first ++ more
-    → DeclaresUnless first a xs (Err error) b → DeclaresUnless all c ys (Err error) d
+pub refused-here : (first more all : List BuildFault) (a b c d : Draft) (xs ys : Declarations) (error : LineError) →
+    all ≡ first ++ more → DeclaresUnless first a xs (Err error) b → DeclaresUnless all c ys (Err error) d
 refused-here = grind arith
 
 -- ---- the number of rows
@@ -44,8 +44,8 @@ pub refused-rows : (faults : List BuildFault) (fault : BuildFault) (earlier late
 refused-rows = grind arith
 
 -- a call that is accepted
-pub declared-by : (faults : List BuildFault) (earlier later made : Draft) → Answers faults (Ok tt) (later ≡ made) (later ≡ earlier)
-    → (faults ≡ []) × (later ≡ made)
+pub declared-by : (faults : List BuildFault) (earlier later made : Draft) →
+    Answers faults (Ok tt) (later ≡ made) (later ≡ earlier) → (faults ≡ []) × (later ≡ made)
 declared-by = grind arith
 
 pub bounds-rows : (earlier : Draft) (column : List ℕ) (lower upper : Option Limit)

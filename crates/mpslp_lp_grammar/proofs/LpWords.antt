@@ -27,11 +27,13 @@ visible-byte byte h =
 visible-bytes : (name : List ℕ) → list_all is_lp_byte name ≡ true → list_all is_visible name ≡ true
 visible-bytes [] h = refl
 visible-bytes (byte ∷ bytes) h =
-    both_so (is_visible byte) (list_all is_visible bytes) (visible-byte byte (first_so (is_lp_byte byte) (list_all is_lp_byte bytes) h))
+    both_so (is_visible byte) (list_all is_visible bytes)
+    (visible-byte byte (first_so (is_lp_byte byte) (list_all is_lp_byte bytes) h))
     (visible-bytes bytes (second_so (is_lp_byte byte) (list_all is_lp_byte bytes) h))
 
 -- the error of such a name, by the tests that are left
 pub fault-of_lp_bytes : (name : List ℕ) (long marked like : Bool) → has_name_length name ≡ long → same_bytes name marker ≡ marked
     → is_like_exponent name ≡ like → list_all is_lp_byte name ≡ true
-    → first_held ((not long, faults.NameLength) ∷ (marked, faults.NameMarker) ∷ (like, faults.NameLikeExponent) ∷ []) ≡ name_fault name
+    → first_held ((not long, faults.NameLength) ∷ (marked, faults.NameMarker) ∷ (like, faults.NameLikeExponent) ∷ []) ≡
+    name_fault name
 fault-of_lp_bytes = grind (arith, visible-bytes)

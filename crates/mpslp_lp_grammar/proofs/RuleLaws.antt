@@ -33,7 +33,8 @@ module _ {T F S D E : Type 0} (phrase : S → T → Rule T F (AfterPhrase S D E)
   phrases-more = grind arith
 
   -- a reading that took one more token
-  pub follow-one_more : {A : Type 0} (reading : Parsed F A) (following : A → Rule T F (AfterPhrase S D E)) (token : T) (tokens : List T)
-      → follow phrase (and_then (after_taking 1 reading) following (token ∷ tokens)) (token ∷ tokens)
+  pub follow-one_more : {A : Type 0} (reading : Parsed F A) (following : A →
+      Rule T F (AfterPhrase S D E)) (token : T) (tokens : List T) →
+      follow phrase (and_then (after_taking 1 reading) following (token ∷ tokens)) (token ∷ tokens)
       ≡ follow phrase (and_then reading following tokens) tokens
   follow-one_more = grind arith

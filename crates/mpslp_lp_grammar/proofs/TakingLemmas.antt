@@ -27,14 +27,14 @@ branch = grind arith
 
 -- ---- what a token completes
 
-completed-says : (context : Context) (line : ℕ) (terminal : Terminal) (refusals : List BuildFault) (place : Place) (made : Declarations)
-    (tokens : Tokens)
+completed-says : (context : Context) (line : ℕ) (terminal : Terminal) (refusals : List BuildFault) (place : Place)
+    (made : Declarations) (tokens : Tokens)
     → resume phrase_at (unless_refused context (at line terminal) refusals place made) tokens
     ≡ says_after line (declare_unless_refused context terminal refusals place made) tokens
 completed-says = grind arith
 
-term-says : (context : Context) (owner : ItemOwner) (column : List ℕ) (value : Decimal) (line : ℕ) (terminal : Terminal) (tokens : Tokens)
-    → resume phrase_at (item_read context owner (Term value column (at line terminal))) tokens
+term-says : (context : Context) (owner : ItemOwner) (column : List ℕ) (value : Decimal) (line : ℕ) (terminal : Terminal)
+    (tokens : Tokens) → resume phrase_at (item_read context owner (Term value column (at line terminal))) tokens
     ≡ says_after line (take_term context owner column value terminal) tokens
 term-says = grind arith
 
@@ -53,20 +53,23 @@ begun_item-says = grind (arith, resume-gives, term-says)
 -- ---- sections
 
 section_word-says : (context : Context) (line : ℕ) (word : SectionWord) (tokens : Tokens)
-    → resume phrase_at (section_from context (at line (Opens word)) word) tokens ≡ says_after line (open_section context word) tokens
+    → resume phrase_at (section_from context (at line (Opens word)) word) tokens ≡ says_after line
+    (open_section context word) tokens
 section_word-says = grind arith
 
 -- ---- the first token of a phrase
 
-named-says : (place : Place) (kind_declared : List ℕ → Declaration) (context : Context) (line : ℕ) (terminal : Terminal) (tokens : Tokens)
-    → resume phrase_at (name_in_section place kind_declared context (at line terminal)) tokens
+named-says : (place : Place) (kind_declared : List ℕ → Declaration) (context : Context) (line : ℕ) (terminal : Terminal)
+    (tokens : Tokens) → resume phrase_at (name_in_section place kind_declared context (at line terminal)) tokens
     ≡ says_after line (name_taken place kind_declared context terminal) tokens
 named-says = grind (arith, completed-says)
 
 begun_phrase-says : (place : Place) (context : Context) (line : ℕ) (terminal : Terminal) (tokens : Tokens)
-    → resume phrase_at (phrase place context (at line terminal)) tokens ≡ says_after line (begin_phrase place context terminal) tokens
+    → resume phrase_at (phrase place context (at line terminal)) tokens ≡ says_after line
+    (begin_phrase place context terminal) tokens
 begun_phrase-says AtStart context line terminal tokens = refl
-begun_phrase-says (BeforeItems name) context line terminal tokens = begun_item-says context (OfObjective name) line terminal tokens
+begun_phrase-says (BeforeItems name) context line terminal tokens =
+    begun_item-says context (OfObjective name) line terminal tokens
 begun_phrase-says (InObjective name) context line vz tokens = grind arith
 begun_phrase-says BetweenRows context line vz tokens = grind arith
 begun_phrase-says (InRow row) context line vz tokens = grind arith
@@ -109,10 +112,11 @@ objective-says context goal line (Name name) tokens = grind (arith, resume-next)
 objective-says context goal line _ tokens = grind (arith, begun_after-says)
 
 -- after a number: a name, or the token after a number without a name
-number-says : (context : Context) (following : Item → PhraseRule Follows) (sign : SignOf) (value : Decimal) (named : List ℕ → AfterToken)
-    (lone : AfterToken) (line : ℕ) (terminal : Terminal) (tokens : Tokens)
-    → ((column : List ℕ) → terminal ≡ Name column
-    → resume phrase_at (following (Term (apply_sign sign value) column (at line (Name column)))) tokens
+number-says : (context : Context) (following : Item →
+    PhraseRule Follows) (sign : SignOf) (value : Decimal) (named : List ℕ →
+    AfterToken) (lone : AfterToken) (line : ℕ) (terminal : Terminal) (tokens : Tokens) →
+    ((column : List ℕ) → terminal ≡ Name column →
+    resume phrase_at (following (Term (apply_sign sign value) column (at line (Name column)))) tokens
     ≡ says_after line (named column) tokens)
     → resume phrase_at (following (Lone (apply_sign sign value) (at line terminal))) (at line terminal ∷ tokens)
     ≡ says_after line lone tokens
@@ -126,7 +130,8 @@ item_number-says : (context : Context) (owner : ItemOwner) (sign : SignOf) (valu
     → resume phrase_at (number_item sign value >>= item_read context owner) (at line terminal ∷ tokens)
     ≡ says_after line (take context (ItemNumber owner sign value) terminal) tokens
 item_number-says context owner sign value line terminal tokens =
-    number-says context (item_read context owner) sign value (λ column. take_term context owner column (apply_sign sign value) terminal)
+    number-says context (item_read context owner) sign value
+    (λ column. take_term context owner column (apply_sign sign value) terminal)
     (take_after_lone_number context owner (apply_sign sign value) terminal) line terminal tokens
     (λ column is. term-says context owner column (apply_sign sign value) line (Name column) tokens
     ∙ ap (λ (t : Terminal). says_after line (take_term context owner column (apply_sign sign value) t) tokens) (sym is))
@@ -139,11 +144,13 @@ ruleset steps = (follow-one_more, follow-passing_one, resume-gives, begun-says, 
 pub take-says : (context : Context) (state : State) (line : ℕ) (terminal : Terminal) (tokens : Tokens)
     → says line context state (at line terminal ∷ tokens) ≡ says_after line (take context state terminal) tokens
 take-says context (AtObjective goal) line terminal tokens =
-    resume-ahead phrase_at (objective_from context goal) (at line terminal) tokens ∙ objective-says context goal line terminal tokens
+    resume-ahead phrase_at (objective_from context goal) (at line terminal) tokens ∙ objective-says context goal line
+    terminal tokens
 take-says context (ObjectiveName goal name) line (Opens word) tokens = grind (arith, steps)
 take-says context (ObjectiveName goal name) line _ tokens = grind (arith, steps)
 take-says context (Signs owner sign) line terminal tokens = signs-say context owner sign line terminal tokens
-take-says context (ItemNumber owner sign value) line terminal tokens = item_number-says context owner sign value line terminal tokens
+take-says context (ItemNumber owner sign value) line terminal tokens =
+    item_number-says context owner sign value line terminal tokens
 take-says context (BoundLeftRelation limit relation) line (Name column) tokens = grind (arith, resume-next, completed-says)
 take-says context (BoundLeftRelation limit relation) line _ tokens = grind (arith, steps)
 take-says context (AtSide (SideOfRow row relation)) line terminal tokens = grind (arith, steps, completed-says)

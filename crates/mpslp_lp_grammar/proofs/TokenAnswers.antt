@@ -8,10 +8,11 @@ use Prelude.{Context, Place, declare_unless_refused, DeclaresUnless, TokenResult
 -- ---- declarations
 
 -- a token that completes declarations
-pub completes : (context : Context) (later : Draft) (terminal : Terminal) (refusals : List BuildFault) (place : Place) (made : Declarations)
-    (answer : LineResult) (result : TokenResult)
-    → terminal_fault context terminal ≡ None → result ≡ answer_at place answer → DeclaresUnless refusals context.builder made answer later
-    → TakesToken (declare_unless_refused context terminal refusals place made) result (record context { builder = later })
+pub completes : (context : Context) (later : Draft) (terminal : Terminal) (refusals : List BuildFault) (place : Place)
+    (made : Declarations) (answer : LineResult) (result : TokenResult)
+    → terminal_fault context terminal ≡ None → result ≡ answer_at place answer →
+    DeclaresUnless refusals context.builder made answer later →
+    TakesToken (declare_unless_refused context terminal refusals place made) result (record context { builder = later })
 completes = grind arith
 
 -- ---- terms

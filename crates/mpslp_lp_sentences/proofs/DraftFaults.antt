@@ -29,8 +29,10 @@ use Rattle.mpslp_types.specs.declared.faults.FaultKind.TheVariants as kinds
 -- ---- what was declared is shown by the tokens
 
 pub record Shown (earlier : List Terminal) (all : Draft) : Type 0 where
-  pub lowers : (name : List ℕ) → has_name all.lowers name ≡ true → is_named name (collected (completes_bound gives_lower) earlier) ≡ true
-  pub uppers : (name : List ℕ) → has_name all.uppers name ≡ true → is_named name (collected (completes_bound gives_upper) earlier) ≡ true
+  pub lowers : (name : List ℕ) → has_name all.lowers name ≡ true →
+      is_named name (collected (completes_bound gives_lower) earlier) ≡ true
+  pub uppers : (name : List ℕ) → has_name all.uppers name ≡ true →
+      is_named name (collected (completes_bound gives_upper) earlier) ≡ true
   pub integers : (name : List ℕ) → is_integer all name ≡ true → is_named name (collected names_integer earlier) ≡ true
   pub semis : (name : List ℕ) → is_semi all name ≡ true → is_named name (collected names_semi earlier) ≡ true
   pub constant : is_some all.constant ≡ true → has_constant_before earlier ≡ true
@@ -73,7 +75,8 @@ shown-all (d ∷ ds) all earlier h k = grind (
   arith,
   shown-one,
   shown-all ds (with_declaration all d) earlier (shown-one d all earlier h (first_so
-      (is_shown earlier d) (list_all (is_shown earlier) ds) k)) (second_so (is_shown earlier d) (list_all (is_shown earlier) ds) k),
+      (is_shown earlier d) (list_all (is_shown earlier) ds) k))
+      (second_so (is_shown earlier d) (list_all (is_shown earlier) ds) k),
 )
 
 -- ---- one token more
@@ -83,13 +86,16 @@ named-more : (name : List ℕ) (new : Option (List ℕ)) (names : List (List ℕ
 named-more = grind arith
 
 -- a name that the last token names
-named-now : (name : List ℕ) (new : Option (List ℕ)) (names : List (List ℕ)) → new ≡ Some name → is_named name (cons_option new names) ≡ true
+named-now : (name : List ℕ) (new : Option (List ℕ)) (names : List (List ℕ)) → new ≡ Some name →
+    is_named name (cons_option new names) ≡ true
 named-now = grind (arith, or_left, itself_named)
 
 shown-later : (token : Terminal) (earlier : List Terminal) (all : Draft) → Shown earlier all → Shown (token ∷ earlier) all
 shown-later token earlier _ h = record {
-  lowers = λ name e. named-more name (completes_bound gives_lower earlier token) (collected (completes_bound gives_lower) earlier) (h.lowers _ e);
-  uppers = λ name e. named-more name (completes_bound gives_upper earlier token) (collected (completes_bound gives_upper) earlier) (h.uppers _ e);
+  lowers = λ name e. named-more name (completes_bound gives_lower earlier token)
+      (collected (completes_bound gives_lower) earlier) (h.lowers _ e);
+  uppers = λ name e. named-more name (completes_bound gives_upper earlier token)
+      (collected (completes_bound gives_upper) earlier) (h.uppers _ e);
   integers = λ name e. named-more name (names_integer earlier token) (collected names_integer earlier) (h.integers _ e);
   semis = λ name e. named-more name (names_semi earlier token) (collected names_semi earlier) (h.semis _ e);
   constant = λ e. or_right _ _ (h.constant e);
@@ -116,7 +122,8 @@ refused : (context : Context) (earlier : List Terminal) (token : Terminal) (kind
     → Says earlier token kind → KeepsShown earlier token (refuse context token kind)
 refused context earlier (Opens word) kind h = by _ _
   where
-    by : (a b : Bool) → Says earlier (Opens word) (unwrap_or (if a then Some kinds.SectionRepeated else (if b then Some kinds.SectionOrder else None)) kind)
+    by : (a b : Bool) → Says earlier (Opens word)
+        (unwrap_or (if a then Some kinds.SectionRepeated else (if b then Some kinds.SectionOrder else None)) kind)
     by = grind arith
 refused _ _ _ _ h = h
 
@@ -149,7 +156,8 @@ declared context earlier token place made shown refusal n = by (refusals_in_turn
 declared-before : (context : Context) (earlier : List Terminal) (token : Terminal) (made : Declarations) (next : AfterToken)
     → list_all (is_shown (token ∷ earlier)) made ≡ true
     → Refused earlier token context.builder made → Steps earlier (with_declarations context.builder made) token next
-    → Steps earlier context.builder token (take_after_declarations context token (refusals_in_turn context.builder made) made next)
+    → Steps earlier context.builder token (take_after_declarations context token (refusals_in_turn context.builder made)
+    made next)
 declared-before context earlier token made next shown refusal h n = by (refusals_in_turn context.builder made) refl
   where
     by : (refusals : List BuildFault) → refusals_in_turn context.builder made ≡ refusals
@@ -188,20 +196,23 @@ record Completes (earlier : List Terminal) (token : Terminal) (column : List ℕ
   upper : is_some limits.upper ≡ true → completes_bound gives_upper earlier token ≡ Some column
 
 -- a name that an earlier token has named
-again : (naming : List Terminal → Terminal → Option (List ℕ)) (earlier : List Terminal) (token : Terminal) (column : List ℕ) → naming
-    earlier token ≡ Some column → is_named column (collected naming earlier) ≡ true → names_again naming naming earlier token ≡ true
+again : (naming : List Terminal → Terminal → Option (List ℕ)) (earlier : List Terminal) (token : Terminal)
+    (column : List ℕ) → naming earlier token ≡ Some column → is_named column (collected naming earlier) ≡ true →
+    names_again naming naming earlier token ≡ true
 again = grind arith
 
-bounds-shown : (earlier : List Terminal) (token : Terminal) (column : List ℕ) (limits : Limits) → Completes earlier token column limits
-    → list_all (is_shown (token ∷ earlier)) (bounds_declared column limits.lower limits.upper) ≡ true
+bounds-shown : (earlier : List Terminal) (token : Terminal) (column : List ℕ) (limits : Limits) →
+    Completes earlier token column limits →
+    list_all (is_shown (token ∷ earlier)) (bounds_declared column limits.lower limits.upper) ≡ true
 bounds-shown earlier token column limits h = search (rules, both_so, named-now)
 
-bound : (context : Context) (is_new : Bool) (column : List ℕ) (limits : Limits) (earlier : List Terminal) (token : Terminal) (place : Place)
-    → Shown earlier context.builder → Completes earlier token column limits
+bound : (context : Context) (is_new : Bool) (column : List ℕ) (limits : Limits) (earlier : List Terminal)
+    (token : Terminal) (place : Place) → Shown earlier context.builder → Completes earlier token column limits
     → KeepsShown earlier token (take_bound context (new_column is_new column) column limits token place)
 bound context is_new column limits earlier token place shown h = by (not (has_column front column))
     ((is_some limits.lower && has_name front.lowers column) || (is_some limits.upper && has_name front.uppers column))
-    (option_map_or is_plus_infinite limits.lower false || option_map_or is_minus_infinite limits.upper false) (λ e. twice is_new e)
+    (option_map_or is_plus_infinite limits.lower false || option_map_or is_minus_infinite limits.upper false)
+    (λ e. twice is_new e)
   where
     front : Draft
     front = with_declarations context.builder (new_column is_new column)
@@ -217,28 +228,35 @@ bound context is_new column limits earlier token place shown h = by (not (has_co
         || (is_some limits.upper && has_name context.builder.uppers column)) ≡ true → repeats_bound earlier token ≡ true
     repeated e = either (is_some limits.lower && has_name context.builder.lowers column) (is_some limits.upper
         && has_name context.builder.uppers column) (repeats_bound earlier token) (λ a. let parts = one (is_some limits.lower)
-        (has_name context.builder.lowers column) a in or_left _ _ (again (completes_bound gives_lower) earlier token column (h.lower
-        parts.0) (shown.lowers column parts.1))) (λ a. let parts = one (is_some limits.upper) (has_name context.builder.uppers column) a in
+        (has_name context.builder.lowers column) a in
+        or_left _ _ (again (completes_bound gives_lower) earlier token column (h.lower
+        parts.0) (shown.lowers column parts.1))) (λ a. let parts =
+        one (is_some limits.upper) (has_name context.builder.uppers column) a in
         or_right _ _ (again (completes_bound gives_upper) earlier token column (h.upper parts.0) (shown.uppers column parts.1))) e
 
-    twice : (b : Bool) → ((is_some limits.lower && has_name (with_declarations context.builder (new_column b column)).lowers column)
+    twice : (b : Bool) → ((is_some limits.lower && has_name
+        (with_declarations context.builder (new_column b column)).lowers column)
         || (is_some limits.upper && has_name (with_declarations context.builder (new_column b column)).uppers column)) ≡ true
         → repeats_bound earlier token ≡ true
     twice true e = repeated e
     twice false e = repeated e
 
-    by : (a b c : Bool) → (b ≡ true → repeats_bound earlier token ≡ true) → KeepsShown earlier token (declare_unless_refused context token
+    by : (a b c : Bool) → (b ≡ true → repeats_bound earlier token ≡ true) →
+        KeepsShown earlier token (declare_unless_refused context token
         (those_of ((a, builds.UnknownColumn) ∷ (b, builds.DuplicateBound) ∷ (c, builds.InfiniteValue) ∷ [])) place
         (new_column is_new column ++ bounds_declared column limits.lower limits.upper))
     by true b c k = refused context earlier token kinds.UnknownColumn tt
     by false true c k = refused context earlier token kinds.DuplicateBound (k refl)
     by false false true k = refused context earlier token kinds.InfiniteValue tt
-    by false false false k = shown-all (new_column is_new column ++ bounds_declared column limits.lower limits.upper) context.builder
-        (token ∷ earlier) (shown-later token earlier context.builder shown) (list_all-append (is_shown (token ∷ earlier)) (new_column is_new
-        column) (bounds_declared column limits.lower limits.upper) ∙ both_so _ _ (fine is_new) (bounds-shown earlier token column limits h))
+    by false false false k = shown-all (new_column is_new column ++ bounds_declared column limits.lower limits.upper)
+        context.builder (token ∷ earlier) (shown-later token earlier context.builder shown)
+        (list_all-append (is_shown (token ∷ earlier)) (new_column is_new column)
+        (bounds_declared column limits.lower limits.upper)
+        ∙ both_so _ _ (fine is_new) (bounds-shown earlier token column limits h))
 
-within : (gives : Relation → Bool) (earlier : List Terminal) (token : Terminal) (column : List ℕ) → current_section earlier ≡ Some Bounds
-    → completed gives earlier token ≡ Some column → completes_bound gives earlier token ≡ Some column
+within : (gives : Relation → Bool) (earlier : List Terminal) (token : Terminal) (column : List ℕ) →
+    current_section earlier ≡ Some Bounds → completed gives earlier token ≡ Some column →
+    completes_bound gives earlier token ≡ Some column
 within = grind arith
 
 free-completes : (earlier : List Terminal) (column : List ℕ)
@@ -247,7 +265,8 @@ free-completes = grind arith
 
 -- a number or an infinity
 abbrev IsValue : Terminal → Type 0
-IsValue token = (gives : Relation → Bool) (earlier : List Terminal) → completed gives earlier token ≡ after_sign (column_before gives) earlier
+IsValue token = (gives : Relation → Bool) (earlier : List Terminal) →
+    completed gives earlier token ≡ after_sign (column_before gives) earlier
 
 side-completes : (earlier : List Terminal) (token : Terminal) (relation : Relation) (l : Limit) (column : List ℕ)
     → IsValue token → current_section earlier ≡ Some Bounds → ((gives : Relation → Bool) → gives relation ≡ true
@@ -271,28 +290,43 @@ semi-named : (earlier : List Terminal) (column : List ℕ)
 semi-named = grind arith
 
 integer-refused : (earlier : List Terminal) (column : List ℕ) (all : Draft) (made : Declarations) → (is_under Generals earlier
-    || is_under Binaries earlier) ≡ true → Shown earlier all → is_semi all column ≡ true → changes_kind earlier (Name column) ≡ true
+    || is_under Binaries earlier) ≡ true → Shown earlier all → is_semi all column ≡ true →
+    changes_kind earlier (Name column) ≡ true
 integer-refused = grind arith
 
 integers_listed : (context : Context) (earlier : List Terminal) → (is_under Generals earlier || is_under Binaries earlier) ≡ true
     → Shown earlier context.builder → (column : List ℕ) → Steps earlier context.builder
     (Name column) (declare_at context (Name column) InGenerals (declare_column column ∷ declare_integer column ∷ []))
 integers_listed context earlier under shown column n = declared _ _ _ _ (declare_column _ ∷ declare_integer _ ∷ []) (both_so _ _
-    (named-now column (names_integer earlier (Name column)) (collected names_integer earlier) (integer-named earlier column under)) refl)
-    (record { bound = λ e. absurd cc; semi = λ e. integer-refused _ _ _ [] under shown (only _ e); rhs = λ e. absurd cc }) n
+    (named-now column (names_integer earlier (Name column)) (collected names_integer earlier)
+    (integer-named earlier column under)) refl)
+    (record {
+      bound = λ e. absurd cc;
+      semi = λ e. integer-refused _ _ _ [] under shown (only _ e);
+      rhs =
+          λ e. absurd cc;
+    }) n
 
 binaries_listed : (context : Context) (earlier : List Terminal) → (is_under Generals earlier || is_under Binaries earlier) ≡ true
     → Shown earlier context.builder → (column : List ℕ) → Steps earlier context.builder
     (Name column) (declare_at context (Name column) InBinaries (declare_column column ∷ declare_binary column ∷ []))
 binaries_listed context earlier under shown column n = declared _ _ _ _ (declare_column _ ∷ declare_binary _ ∷ []) (both_so _ _
-    (named-now column (names_integer earlier (Name column)) (collected names_integer earlier) (integer-named earlier column under)) refl)
-    (record { bound = λ e. absurd cc; semi = λ e. integer-refused _ _ _ [] under shown (only _ e); rhs = λ e. absurd cc }) n
+    (named-now column (names_integer earlier (Name column)) (collected names_integer earlier)
+    (integer-named earlier column under)) refl)
+    (record {
+      bound = λ e. absurd cc;
+      semi = λ e. integer-refused _ _ _ [] under shown (only _ e);
+      rhs =
+          λ e. absurd cc;
+    }) n
 
-semis_listed : (context : Context) (earlier : List Terminal) → (is_under SemiContinuous earlier && not (ends_in_sign earlier)) ≡ true
-    → Shown earlier context.builder → (column : List ℕ) → Steps earlier context.builder
-    (Name column) (declare_at context (Name column) InSemis (declare_column column ∷ declare_semi column ∷ []))
+semis_listed : (context : Context) (earlier : List Terminal) →
+    (is_under SemiContinuous earlier && not (ends_in_sign earlier)) ≡ true → Shown earlier context.builder →
+    (column : List ℕ) → Steps earlier context.builder (Name column)
+    (declare_at context (Name column) InSemis (declare_column column ∷ declare_semi column ∷ []))
 semis_listed context earlier under shown column n =
-    declared _ _ _ _ (declare_column _ ∷ declare_semi _ ∷ []) (both_so _ _ (named-now _ _ _ (semi-named earlier _ under)) refl) (record {
+    declared _ _ _ _ (declare_column _ ∷ declare_semi _ ∷ [])
+    (both_so _ _ (named-now _ _ _ (semi-named earlier _ under)) refl) (record {
       bound = λ e. absurd cc;
       semi = λ e. or_right _ _ (ap (λ o. option_map_or (λ c. is_named c (collected names_integer earlier)) o false)
           (semi-named earlier column under) ∙ shown.integers column (only _ e));
@@ -307,13 +341,16 @@ constant-completes = grind arith
 
 -- ---- the first token of a phrase
 
-opened : (context : Context) (earlier : List Terminal) (word : SectionWord) → Steps earlier context.builder (Opens word) (open_section context word)
+opened : (context : Context) (earlier : List Terminal) (word : SectionWord) →
+    Steps earlier context.builder (Opens word) (open_section context word)
 opened context earlier word n = grind arith
 
-item : (context : Context) (owner : ItemOwner) (earlier : List Terminal) (token : Terminal) → Steps earlier context.builder token (begin_item context owner token)
+item : (context : Context) (owner : ItemOwner) (earlier : List Terminal) (token : Terminal) →
+    Steps earlier context.builder token (begin_item context owner token)
 item = grind (arith, item-by, bad, term)
 
-row : (context : Context) (label : List ℕ) (earlier : List Terminal) (token : Terminal) → Steps earlier context.builder token (begin_row context label token)
+row : (context : Context) (label : List ℕ) (earlier : List Terminal) (token : Terminal) →
+    Steps earlier context.builder token (begin_row context label token)
 row = grind arith
 
 second : (context : Context) (left : Option (List ℕ × Relation)) (earlier : List Terminal) (relation : Relation)
@@ -328,17 +365,21 @@ Listed InSemis earlier all = (current_section earlier ≡ Some SemiContinuous) �
 Listed _ earlier all = Unit {0}
 
 phrase : (place : Place) (context : Context) (earlier : List Terminal)
-    → Listed place earlier context.builder → (token : Terminal) → Steps earlier context.builder token (begin_phrase place context token)
+    → Listed place earlier context.builder → (token : Terminal) →
+    Steps earlier context.builder token (begin_phrase place context token)
 phrase (BeforeItems objective) _ _ h _ = item _ (OfObjective objective) _ _
 phrase InGenerals context earlier h token =
-    listed-by (Steps earlier context.builder) context InGenerals declare_integer (bad context earlier context.builder) (integers_listed
-    context _ (ap (λ o. option_map_or (is_section Generals) o false || option_map_or (is_section Binaries) o false) h.0) h.1) token
+    listed-by (Steps earlier context.builder) context InGenerals declare_integer (bad context earlier context.builder)
+    (integers_listed context _ (ap (λ o. option_map_or (is_section Generals) o false || option_map_or
+    (is_section Binaries) o false) h.0) h.1) token
 phrase InBinaries context earlier h token =
-    listed-by (Steps earlier context.builder) context InBinaries declare_binary (bad context earlier context.builder) (binaries_listed
-    context _ (ap (λ o. option_map_or (is_section Generals) o false || option_map_or (is_section Binaries) o false) h.0) h.1) token
+    listed-by (Steps earlier context.builder) context InBinaries declare_binary (bad context earlier context.builder)
+    (binaries_listed context _ (ap (λ o. option_map_or (is_section Generals) o false || option_map_or
+    (is_section Binaries) o false) h.0) h.1) token
 phrase InSemis context earlier h token =
     listed-by (Steps earlier context.builder) context InSemis declare_semi (bad context earlier context.builder)
-    (semis_listed context _ (both_so _ _ (ap (λ o. option_map_or (is_section SemiContinuous) o false) h.0) (so_not _ h.2)) h.1) token
+    (semis_listed context _ (both_so _ _ (ap (λ o. option_map_or (is_section SemiContinuous) o false) h.0)
+    (so_not _ h.2)) h.1) token
 phrase _ context earlier h token = grind arith
 
 first : (place : Place) (context : Context) (earlier : List Terminal)
@@ -348,8 +389,9 @@ first = grind (arith, begin-by, opened, bad, phrase)
 lone : (context : Context) (owner : ItemOwner) (value : Decimal) (earlier : List Terminal)
     → Shown earlier context.builder → current_section earlier ≡ section_of_item owner → NumberShape owner earlier
     → (token : Terminal) → Steps earlier context.builder token (take_after_lone_number context owner value token)
-lone context (OfObjective objective) value earlier shown here last token = lone-by (Steps earlier context.builder) context objective value
-    (bad context earlier context.builder) (λ sign. complete (Sign sign) refl) (λ word. complete (Opens word) refl) token
+lone context (OfObjective objective) value earlier shown here last token =
+    lone-by (Steps earlier context.builder) context objective value (bad context earlier context.builder)
+    (λ sign. complete (Sign sign) refl) (λ word. complete (Opens word) refl) token
   where
     complete : (t : Terminal) → may_follow_constant t ≡ true
         → Steps earlier context.builder t (begin_phrase_after context (declare_constant value ∷ []) (InObjective objective) t)
@@ -363,11 +405,13 @@ lone context (OfRow partial) value earlier shown here last token = grind arith
 
 -- the declarations at the start of the objective
 started : (context : Context) (earlier : List Terminal) (made : Declarations) (place : Place)
-    → Listed place earlier (with_declarations context.builder made) → (token : Terminal) → list_all (is_shown (token ∷ earlier)) made ≡ true
-    → Refused earlier token context.builder made → Steps earlier context.builder token (begin_phrase_after context made place token)
+    → Listed place earlier (with_declarations context.builder made) → (token : Terminal) →
+    list_all (is_shown (token ∷ earlier)) made ≡ true → Refused earlier token context.builder made →
+    Steps earlier context.builder token (begin_phrase_after context made place token)
 started = grind (arith, declared-before, first)
 
-nothing-refused : (earlier : List Terminal) (token : Terminal) (all : Draft) (sense : Sense) (label : List ℕ) → Refused earlier token all (objective_declared sense label)
+nothing-refused : (earlier : List Terminal) (token : Terminal) (all : Draft) (sense : Sense) (label : List ℕ) →
+    Refused earlier token all (objective_declared sense label)
 nothing-refused = grind arith
 
 first-refused_none : (earlier : List Terminal) (token : Terminal) (all : Draft) (sense : Sense) (column : List ℕ)
@@ -392,19 +436,23 @@ step : (context : Context) (state : State) (earlier : List Terminal) → Shown e
     ≡ section_at state → Shape state earlier → (token : Terminal) → Steps earlier context.builder token (take context state token)
 step _ (Between _) _ shown here shape _ = first _ _ _ (grind arith) _
 step context (AtObjective sense) earlier _ _ _ _ = objective-by (Steps earlier context.builder) _ _
-    (λ name n. n) (λ t. started context _ _ (BeforeItems default_objective) tt t refl (nothing-refused _ t _ sense default_objective)) _
+    (λ name n. n) (λ t. started context _ _ (BeforeItems default_objective) tt t refl
+    (nothing-refused _ t _ sense default_objective)) _
 step context (ObjectiveName sense label) earlier _ _ _ _ = objective_name-by (Steps earlier context.builder) context sense label
     (declared context earlier Colon (BeforeItems label) _ refl (nothing-refused _ _ context.builder sense label))
     (λ t. started context earlier _ (InObjective default_objective) tt t refl (first-refused_none _ t _ _ _)) _
 step context AtSemi earlier shown here shape token =
-    semi-by (Steps earlier context.builder) context (λ n. n) (first InSemis (with_made context []) earlier (here, shown, shape)) token
+    semi-by (Steps earlier context.builder) context (λ n. n)
+    (first InSemis (with_made context []) earlier (here, shown, shape)) token
 step _ (Signs _ _) _ _ _ _ token = (grind (arith, signs-by, bad, term))
 step context (ItemNumber owner sign value) earlier shown here shape token = grind (arith, item_number-by, term, lone)
 step context (RowLabel label) earlier _ _ _ token = row context label earlier token
-step context (BoundName column) earlier shown here shape token = bound_name-by (Steps earlier context.builder) context column (bad context
-    earlier context.builder) (λ n. bound context true _ _ _ _ (InBounds None) shown (free-completes _ _ here shape)) (λ relation n. n) token
-step context (BoundLeftRelation l relation) earlier shown here shape token = bound_column-by (Steps earlier context.builder) context l
-    relation (bad context earlier context.builder) (λ name n. bound context true name (limits_by (flip relation) l) earlier (Name name)
+step context (BoundName column) earlier shown here shape token =
+    bound_name-by (Steps earlier context.builder) context column (bad context earlier context.builder)
+    (λ n. bound context true _ _ _ _ (InBounds None) shown (free-completes _ _ here shape)) (λ relation n. n) token
+step context (BoundLeftRelation l relation) earlier shown here shape token =
+    bound_column-by (Steps earlier context.builder) context l relation (bad context earlier context.builder)
+    (λ name n. bound context true name (limits_by (flip relation) l) earlier (Name name)
     (InBounds (Some (name, relation))) shown (grind arith)) token
 step context (AtSide sided) earlier shown here shape token = grind (arith, side-by, bad, side)
 step context (SideSign sided sign) earlier shown here shape token = grind (arith, limit-by, bad, signed_side)
@@ -423,8 +471,8 @@ taken : (earlier : List Terminal) (context : Context) (state : State) (token : T
     → Known earlier context state → KeepsShown earlier token (take context state token)
 taken _ _ _ _ known = step _ _ _ known.shown known.shaped.opened.current known.shaped.shape _ (shown-later _ _ _ known.shown)
 
-pub known-later : (earlier : List Terminal) (context : Context) (state : State) (token : Terminal) (after : Context) (next : State)
-    → Known earlier context state → take context state token ≡ Goes after next → Known (token ∷ earlier) after next
+pub known-later : (earlier : List Terminal) (context : Context) (state : State) (token : Terminal) (after : Context)
+    (next : State) → Known earlier context state → take context state token ≡ Goes after next → Known (token ∷ earlier) after next
 known-later earlier _ _ token _ _ known h = record {
   shaped = shaped-later _ _ _ _ _ _ known.shaped h;
   shown = subst (λ answer. KeepsShown earlier token answer) h (taken _ _ _ _ known);

@@ -77,10 +77,12 @@ abbrev KeepsEntries : Tokens → Terminal → AfterToken → Type 0
 KeepsEntries earlier token (Goes after next) = AreKnown after.builder × EntriesAt next (token ∷ earlier) after.builder
 KeepsEntries earlier token (Refuses kind) = Says earlier token kind
 
-refused : (context : Context) (earlier : Tokens) (token : Terminal) (kind : FaultKind) → Says earlier token kind → KeepsEntries earlier token (refuse context token kind)
+refused : (context : Context) (earlier : Tokens) (token : Terminal) (kind : FaultKind) → Says earlier token kind →
+    KeepsEntries earlier token (refuse context token kind)
 refused context earlier (Opens word) kind h = by _ _
   where
-    by : (a b : Bool) → Says earlier (Opens word) (unwrap_or (if a then Some kinds.SectionRepeated else (if b then Some kinds.SectionOrder else None)) kind)
+    by : (a b : Bool) → Says earlier (Opens word)
+        (unwrap_or (if a then Some kinds.SectionRepeated else (if b then Some kinds.SectionOrder else None)) kind)
     by = grind arith
 refused _ _ _ _ h = h
 
@@ -101,9 +103,11 @@ says-by = grind arith
 
 -- ---- declarations
 
-declared : (context : Context) (earlier : Tokens) (token : Terminal) (place : Place) (made : Declarations) → (refuses kinds.DuplicateEntry
-    context.builder made ≡ true → repeats_entry earlier token ≡ true) → AreKnown (with_declarations context.builder made) → PlaceEntries
-    place (token ∷ earlier) (with_declarations context.builder made) → KeepsEntries earlier token (declare_at context token place made)
+declared : (context : Context) (earlier : Tokens) (token : Terminal) (place : Place) (made : Declarations) →
+    (refuses kinds.DuplicateEntry context.builder made ≡ true → repeats_entry earlier token ≡ true) →
+    AreKnown (with_declarations context.builder made) →
+    PlaceEntries place (token ∷ earlier) (with_declarations context.builder made) →
+    KeepsEntries earlier token (declare_at context token place made)
 declared context earlier token place made refusal known entries = by (refusals_in_turn context.builder made) refl
   where
     by : (refusals : List BuildFault) → refusals_in_turn context.builder made ≡ refusals
@@ -119,11 +123,13 @@ declared-before context earlier token made next unrefused h = by (refusals_in_tu
     by : (refusals : List BuildFault) → refusals_in_turn context.builder made ≡ refusals
         → KeepsEntries earlier token (take_after_declarations context token refusals made next)
     by [] e = h
-    by (first ∷ _) e = refused context earlier token _ (says-by earlier _ _ made (λ k. never unrefused k) _ (first-refused made _ _ _ e))
+    by (first ∷ _) e = refused context earlier token _
+        (says-by earlier _ _ made (λ k. never unrefused k) _ (first-refused made _ _ _ e))
 
 bound : (context : Context) (is_new : Bool)
-    (column : List ℕ) (limits : Limits) (earlier : Tokens) (token : Terminal) (left : Option (List ℕ × Relation)) → AreKnown context.builder
-    → KeepsEntries earlier token (take_bound context (new_column is_new column) column limits token (InBounds left))
+    (column : List ℕ) (limits : Limits) (earlier : Tokens) (token : Terminal) (left : Option (List ℕ × Relation)) →
+    AreKnown context.builder → KeepsEntries earlier token
+    (take_bound context (new_column is_new column) column limits token (InBounds left))
 bound context is_new column limits earlier token left known = by _ _ _
   where
     front : Draft
@@ -148,8 +154,9 @@ known-terms _ (term ∷ terms) all known there = known-terms _ terms _ (known-mo
 
 -- the columns of a row that has no coefficients yet are new
 terms-unrefused : (name : List ℕ) (terms seen : List Pair) (all : Draft) → AreNew seen terms
-    → ((column : List ℕ) → has_coefficient all (key name column) ≡ true → list_any (λ (term : Pair). same_bytes column term.0) seen ≡ true)
-    → refuses kinds.DuplicateEntry all (flat_map (term_declared name) terms) ≡ false
+    → ((column : List ℕ) → has_coefficient all (key name column) ≡ true →
+    list_any (λ (term : Pair). same_bytes column term.0) seen ≡ true) →
+    refuses kinds.DuplicateEntry all (flat_map (term_declared name) terms) ≡ false
 terms-unrefused _ [] _ _ _ _ = refl
 terms-unrefused name (term ∷ terms) seen all new known = none _ refl _ (terms-unrefused _ terms _ _ new.1 further)
   where
@@ -161,11 +168,13 @@ terms-unrefused name (term ∷ terms) seen all new known = none _ refl _ (terms-
     further = grind (arith, list_any-append, has-put_key, or_right, or_left)
 
 row_ended : (context : Context) (row : PartialRow) (relation : Relation) (l : Limit) (earlier : Tokens) (token : Terminal)
-    → AreKnown context.builder → AreNew [] row.terms → KeepsEntries earlier token (take_side context (SideOfRow row relation) l token)
+    → AreKnown context.builder → AreNew [] row.terms →
+    KeepsEntries earlier token (take_side context (SideOfRow row relation) l token)
 row_ended context row relation l earlier token known new = by (has_row context.builder row.name) refl (have_infinite_side form)
   where
     form : RowDefinition
-    form = by_limits (unwrap_or (row_limits row.left relation l).lower MinusInf) (unwrap_or (row_limits row.left relation l).upper PlusInf)
+    form = by_limits (unwrap_or (row_limits row.left relation l).lower MinusInf)
+        (unwrap_or (row_limits row.left relation l).upper PlusInf)
 
     all : Draft
     all = with_declaration context.builder (declare_row row.name form)
@@ -178,11 +187,14 @@ row_ended context row relation l earlier token known new = by (has_row context.b
         (declare_unless_refused context token refusals BetweenRows (row_declared row (row_limits row.left relation l)))
     after e [] k = (known-terms row.name row.terms all (grind (arith, has-put, or_right)) there, tt)
     after e (first ∷ more) k = refused context earlier token (kind_of_build_fault first) (says-by earlier token all
-        (flat_map (term_declared row.name) row.terms) (λ m. never (terms-unrefused row.name row.terms [] all new (λ column n. never e
-        (known (key row.name column) n))) m) first (first-refused (flat_map (term_declared row.name) row.terms) all first more k))
+        (flat_map (term_declared row.name) row.terms)
+        (λ m. never (terms-unrefused row.name row.terms [] all new
+        (λ column n. never e (known (key row.name column) n))) m) first
+        (first-refused (flat_map (term_declared row.name) row.terms) all first more k))
 
     by : (b : Bool) → has_row context.builder row.name ≡ b → (c : Bool) → KeepsEntries earlier token
-        (declare_unless_refused context token (those_of ((b, builds.DuplicateRow) ∷ (c, builds.InfiniteValue) ∷ []) ++ refusals_in_turn all
+        (declare_unless_refused context token
+        (those_of ((b, builds.DuplicateRow) ∷ (c, builds.InfiniteValue) ∷ []) ++ refusals_in_turn all
         (flat_map (term_declared row.name) row.terms)) BetweenRows (row_declared row (row_limits row.left relation l)))
     by = grind (arith, refused, after, all)
 
@@ -209,15 +221,20 @@ repeats : (earlier : Tokens) (column : List ℕ) → (is_under Objective earlier
 repeats = grind arith
 
 term : (context : Context) (owner : ItemOwner) (column : List ℕ) (value : Decimal) (earlier : Tokens) → AreKnown context.builder
-    → Owned owner earlier context.builder → KeepsEntries earlier (Name column) (take_term context owner column value (Name column))
-term context (OfObjective name) column value earlier known h = grind (arith, declared, repeats, known-more, or_left, has-put_key, or_right)
-term context (OfRow _) column _ earlier known h = branch _ _ _ _ _ (λ e. refused context earlier (Name column) kinds.DuplicateEntry (repeats
-    earlier column (grind arith) (h.1 _ e))) (λ e. (known, new-more _ _ _ _ h.0 e))
+    → Owned owner earlier context.builder →
+    KeepsEntries earlier (Name column) (take_term context owner column value (Name column))
+term context (OfObjective name) column value earlier known h =
+    grind (arith, declared, repeats, known-more, or_left, has-put_key, or_right)
+term context (OfRow _) column _ earlier known h =
+    branch _ _ _ _ _ (λ e. refused context earlier (Name column) kinds.DuplicateEntry
+    (repeats earlier column (grind arith) (h.1 _ e))) (λ e. (known, new-more _ _ _ _ h.0 e))
 
-owner-signed : (owner : ItemOwner) (sign : SignOf) (earlier : Tokens) (all : Draft) → OwnerEntries owner earlier all → OwnerEntries owner (Sign sign ∷ earlier) all
+owner-signed : (owner : ItemOwner) (sign : SignOf) (earlier : Tokens) (all : Draft) → OwnerEntries owner earlier all →
+    OwnerEntries owner (Sign sign ∷ earlier) all
 owner-signed = grind arith
 
-owner-numbered : (owner : ItemOwner) (value : Decimal) (earlier : Tokens) (all : Draft) → OwnerEntries owner earlier all → OwnerEntries owner (Number value ∷ earlier) all
+owner-numbered : (owner : ItemOwner) (value : Decimal) (earlier : Tokens) (all : Draft) →
+    OwnerEntries owner earlier all → OwnerEntries owner (Number value ∷ earlier) all
 owner-numbered = grind arith
 
 owner-entries : (owner : ItemOwner) (earlier : Tokens) (all : Draft) → Owned owner earlier all → OwnerEntries owner earlier all
@@ -228,12 +245,14 @@ item : (context : Context) (owner : ItemOwner) (earlier : Tokens) → AreKnown c
 item = grind (arith, owner-entries, item-by, bad, owner-signed, term, owner-numbered)
 
 -- a row without terms
-no_terms : (label : List ℕ) (earlier : Tokens) (all : Draft) → current_section earlier ≡ Some Rows → Owned (OfRow (without_terms label None)) earlier all
+no_terms : (label : List ℕ) (earlier : Tokens) (all : Draft) → current_section earlier ≡ Some Rows →
+    Owned (OfRow (without_terms label None)) earlier all
 no_terms label earlier all here = (tt, λ column e. absurd cc, here)
 
 -- ---- the first token of a phrase
 
-opened : (context : Context) (earlier : Tokens) (word : SectionWord) → AreKnown context.builder → KeepsEntries earlier (Opens word) (open_section context word)
+opened : (context : Context) (earlier : Tokens) (word : SectionWord) → AreKnown context.builder →
+    KeepsEntries earlier (Opens word) (open_section context word)
 opened = grind arith
 
 row : (context : Context) (label : List ℕ) (earlier : Tokens) → AreKnown context.builder
@@ -241,32 +260,39 @@ row : (context : Context) (label : List ℕ) (earlier : Tokens) → AreKnown con
 row = grind arith
 
 second : (context : Context) (left : Option (List ℕ × Relation)) (earlier : Tokens) → AreKnown context.builder
-    → (relation : Relation) → KeepsEntries earlier (Compares relation) (take_second_relation context left relation (Compares relation))
+    → (relation : Relation) → KeepsEntries earlier (Compares relation)
+    (take_second_relation context left relation (Compares relation))
 second = grind arith
 
 listed : (place : Place) (kind_declared : List ℕ → Declaration) (context : Context) (earlier : Tokens) → AreKnown context.builder
-    → ((column : List ℕ) → refuses kinds.DuplicateEntry context.builder (declare_column column ∷ kind_declared column ∷ []) ≡ false)
-    → ((column : List ℕ) → AreKnown (with_declarations context.builder (declare_column column ∷ kind_declared column ∷ [])))
+    → ((column : List ℕ) → refuses kinds.DuplicateEntry context.builder
+    (declare_column column ∷ kind_declared column ∷ []) ≡ false) →
+    ((column : List ℕ) → AreKnown (with_declarations context.builder (declare_column column ∷ kind_declared column ∷ [])))
     → ((column : List ℕ) → PlaceEntries place (Name column ∷ earlier) (with_declarations context.builder (declare_column column
-    ∷ kind_declared column ∷ []))) → (token : Terminal) → KeepsEntries earlier token (name_taken place kind_declared context token)
+    ∷ kind_declared column ∷ []))) → (token : Terminal) →
+    KeepsEntries earlier token (name_taken place kind_declared context token)
 listed place kind_declared context earlier _ none same entries token =
     listed-by (KeepsEntries earlier) context place kind_declared (bad context earlier) (λ column. declared context _ _ _
     (declare_column _ ∷ kind_declared column ∷ []) (λ e. never (none column) e) (same column) (entries column)) token
 
 phrase : (place : Place) (context : Context) (earlier : Tokens)
     → AreKnown context.builder → PlaceEntries place earlier context.builder → PlaceShape place earlier
-    → current_section earlier ≡ section_at_place place → (token : Terminal) → KeepsEntries earlier token (begin_phrase place context token)
+    → current_section earlier ≡ section_at_place place → (token : Terminal) →
+    KeepsEntries earlier token (begin_phrase place context token)
 phrase AtStart context earlier _ h _ _ token = bad context earlier token
 phrase (BeforeItems name) context earlier known h shape here token = grind (arith, item)
-phrase InSemis context earlier known h _ _ token = listed InSemis declare_semi context earlier known (λ column. refl) (λ column. known) (λ column. tt) token
+phrase InSemis context earlier known h _ _ token =
+    listed InSemis declare_semi context earlier known (λ column. refl) (λ column. known) (λ column. tt) token
 phrase _ context earlier known h shape here token = grind arith
 
 first : (place : Place) (context : Context) (earlier : Tokens)
     → AreKnown context.builder → PlaceEntries place earlier context.builder → PlaceShape place earlier
-    → current_section earlier ≡ section_at_place place → (token : Terminal) → KeepsEntries earlier token (begin place context token)
+    → current_section earlier ≡ section_at_place place → (token : Terminal) →
+    KeepsEntries earlier token (begin place context token)
 first place context earlier known h shape here token = begin-by (KeepsEntries earlier) context place
-    (λ word. branch earlier (Opens word) (may_begin_section place) (open_section context word) (refuse context (Opens word) kinds.BadToken)
-    (λ e. opened context earlier word known) (λ e. bad context earlier (Opens word))) (phrase _ context _ known h shape here) token
+    (λ word. branch earlier (Opens word) (may_begin_section place) (open_section context word)
+    (refuse context (Opens word) kinds.BadToken) (λ e. opened context earlier word known)
+    (λ e. bad context earlier (Opens word))) (phrase _ context _ known h shape here) token
 
 lone : (context : Context) (owner : ItemOwner) (value : Decimal) (earlier : Tokens)
     → AreKnown context.builder → OwnerEntries owner earlier context.builder → current_section earlier ≡ section_of_item owner
@@ -278,13 +304,18 @@ lone context owner value earlier known h here token = grind arith
 none-there : (all : Draft) → all ≡ empty_draft → (k : CoefficientKey) → has_coefficient all k ≡ false
 none-there = grind arith
 
-first_objective : (context : Context) (sense : Sense) (earlier : Tokens) → AreKnown context.builder → context.builder ≡ empty_draft
-    → current_section earlier ≡ Some Objective → (token : Terminal) → KeepsEntries earlier token (take context (AtObjective sense) token)
+first_objective : (context : Context) (sense : Sense) (earlier : Tokens) → AreKnown context.builder →
+    context.builder ≡ empty_draft → current_section earlier ≡ Some Objective → (token : Terminal) →
+    KeepsEntries earlier token (take context (AtObjective sense) token)
 first_objective context sense earlier known none here _ = objective-by (KeepsEntries earlier) _ _ (λ label. (known, tt))
     (λ t. declared-before context _ t (objective_declared sense default_objective) _ (ap (λ d. refuses kinds.DuplicateEntry d
-    (objective_declared sense default_objective)) none) (first (BeforeItems default_objective) _ _ (λ k e. never (none-there _ none k) e)
-    (record { named = itself_named default_objective; columns = λ column e. never (none-there _ none (key default_objective column)) e })
-    tt here t)) _
+    (objective_declared sense default_objective)) none)
+    (first (BeforeItems default_objective) _ _ (λ k e. never (none-there _ none k) e)
+    (record {
+      named = itself_named default_objective;
+      columns =
+          λ column e. never (none-there _ none (key default_objective column)) e;
+    }) tt here t)) _
 
 named_objective : (context : Context) (sense : Sense) (label : List ℕ) (earlier : Tokens)
     → context.builder ≡ empty_draft → last_name earlier ≡ Some label → current_section earlier ≡ Some Objective
@@ -293,14 +324,17 @@ named_objective context sense label earlier none last here token = objective_nam
     (declared context earlier Colon (BeforeItems label) (objective_declared sense label) (λ e. never (ap (λ (d : Draft).
     refuses kinds.DuplicateEntry d (objective_declared sense label)) none) e) (λ k e. never (none-there context.builder none k) e)
     (record { named = itself_named label; columns = λ column e. never (none-there context.builder none (key label column)) e }))
-    (λ t. declared-before context earlier t (first_item_declared sense label) (begin (InObjective default_objective) (with_made context
-    (first_item_declared sense label)) t) (ap (λ (d : Draft). refuses kinds.DuplicateEntry d (first_item_declared sense label)) none)
-    (first (InObjective default_objective) (with_made context (first_item_declared sense label)) earlier known entries tt here t)) token
+    (λ t. declared-before context earlier t (first_item_declared sense label)
+    (begin (InObjective default_objective) (with_made context (first_item_declared sense label)) t)
+    (ap (λ (d : Draft). refuses kinds.DuplicateEntry d (first_item_declared sense label)) none)
+    (first (InObjective default_objective) (with_made context (first_item_declared sense label)) earlier known entries
+    tt here t)) token
   where
     known : AreKnown (with_declarations context.builder (first_item_declared sense label))
-    known = known-more (with_declarations context.builder (objective_declared sense default_objective)) default_objective label one
-        (λ k e. never (none-there context.builder none k) e) (or_left
-        (same_bytes default_objective default_objective) (has_name context.builder.rows default_objective) (itself_named default_objective))
+    known = known-more (with_declarations context.builder (objective_declared sense default_objective))
+        default_objective label one (λ k e. never (none-there context.builder none k) e) (or_left
+        (same_bytes default_objective default_objective) (has_name context.builder.rows default_objective)
+        (itself_named default_objective))
 
     last_of : (a b : Bool) → (a && b) ≡ true → b ≡ true
     last_of = grind arith
@@ -317,11 +351,13 @@ named_objective context sense label earlier none last here token = objective_nam
 side : (context : Context) (sided : SideOwner) (l : Limit) (earlier : Tokens) (token : Terminal)
     → AreKnown context.builder → SideEntries sided → KeepsEntries earlier token (take_side context sided l token)
 side _ (SideOfRow row _) l _ _ known h = row_ended _ row _ l _ _ known h
-side context (SideOfBound is_new column relation) l earlier token known h = bound context is_new column (limits_by relation l) earlier token None known
+side context (SideOfBound is_new column relation) l earlier token known h =
+    bound context is_new column (limits_by relation l) earlier token None known
 
 step : (context : Context) (state : State) (earlier : Tokens)
-    → AreKnown context.builder → EntriesAt state earlier context.builder → ObjectiveAt state earlier context.builder → Shape state earlier
-    → current_section earlier ≡ section_at state → (token : Terminal) → KeepsEntries earlier token (take context state token)
+    → AreKnown context.builder → EntriesAt state earlier context.builder → ObjectiveAt state earlier context.builder →
+    Shape state earlier → current_section earlier ≡ section_at state → (token : Terminal) →
+    KeepsEntries earlier token (take context state token)
 step context (Between place) earlier known h o shape here token = grind (arith, first)
 step context (AtObjective sense) earlier known h o shape here token = grind (arith, first_objective)
 step _ (ObjectiveName _ _) _ _ h o _ here _ = named_objective _ _ _ _ o.0.none o.1 here _
@@ -333,13 +369,16 @@ step context (ItemNumber owner sign value) earlier known h o shape here token = 
 step context (RowLeftRelation partial) earlier known h o shape here token = grind (arith, item)
 step context (BoundName column) earlier known h o _ _ token = bound_name-by (KeepsEntries earlier) context column
     (bad context earlier) (bound context true column no_limits earlier Free None known) (λ relation. (known, tt)) token
-step context (BoundLeftRelation l relation) earlier known h o _ _ token = bound_column-by (KeepsEntries earlier) context l relation
-    (bad context earlier) (λ name. bound context true name (limits_by (flip _) l) earlier (Name name) (Some (name, relation)) known) token
+step context (BoundLeftRelation l relation) earlier known h o _ _ token =
+    bound_column-by (KeepsEntries earlier) context l relation (bad context earlier)
+    (λ name. bound context true name (limits_by (flip _) l) earlier (Name name) (Some (name, relation)) known) token
 step context (AtSide _) earlier known h o _ _ token = side-by
-    (KeepsEntries earlier) _ _ (bad context earlier) (λ sign. (known, h)) (λ value. side _ _ _ _ _ known h) (side _ _ _ _ _ known h) token
+    (KeepsEntries earlier) _ _ (bad context earlier) (λ sign. (known, h)) (λ value. side _ _ _ _ _ known h)
+    (side _ _ _ _ _ known h) token
 step context (SideSign sided sign) earlier known h o _ _ token =
-    limit-by (KeepsEntries earlier) context (λ l t. take_side context sided l t) sign (bad context earlier) (λ value. side context _
-    (limit_of (apply_sign sign value)) earlier (Number value) known h) (side context _ (infinity sign) earlier Infinity known h) token
+    limit-by (KeepsEntries earlier) context (λ l t. take_side context sided l t) sign (bad context earlier)
+    (λ value. side context _ (limit_of (apply_sign sign value)) earlier (Number value) known h)
+    (side context _ (infinity sign) earlier Infinity known h) token
 step context AfterEnd earlier _ h o _ _ token = bad context earlier token
 step context _ earlier known h o shape here token = grind arith
 
@@ -350,7 +389,8 @@ record Entered (earlier : Tokens) (context : Context) (state : State) : Type 0 w
   known : AreKnown context.builder
   entries : EntriesAt state earlier context.builder
 
-taken : (earlier : Tokens) (context : Context) (state : State) (token : Terminal) → Entered earlier context state → KeepsEntries earlier token (take context state token)
+taken : (earlier : Tokens) (context : Context) (state : State) (token : Terminal) → Entered earlier context state →
+    KeepsEntries earlier token (take context state token)
 taken = grind (arith, step, opened)
 
 entered-later : (earlier : Tokens) (context : Context) (state : State) (token : Terminal) (after : Context) (next : State)
@@ -359,4 +399,5 @@ entered-later earlier _ _ token _ _ h e = let parts = subst (λ answer. KeepsEnt
     record { rows = known-later _ _ _ _ _ _ h.rows e; known = parts.0; entries = parts.1 }
 
 pub duplicate-entry : IsInWords kinds.DuplicateEntry repeats_entry
-duplicate-entry = in-words _ _ _ (record { at_start = grind arith; goes = entered-later; refuses = (grind (arith, taken)) }) refl refl
+duplicate-entry = in-words _ _ _
+    (record { at_start = grind arith; goes = entered-later; refuses = (grind (arith, taken)) }) refl refl

@@ -27,15 +27,17 @@ use Rattle.mpslp_types.specs.declared.faults.FaultKind.TheVariants as kinds
 
 abbrev pub is_lexical : FaultKind → Bool
 is_lexical kind = list_any
-    (is_kind kind) (kinds.LineTooLong ∷ kinds.BadByte ∷ kinds.Quadratic ∷ kinds.Sos ∷ kinds.Indicator ∷ kinds.NameLength ∷ kinds.NameByte
-    ∷ kinds.NameMarker ∷ kinds.NameLikeExponent ∷ kinds.BadNumber ∷ kinds.LongNumber ∷ kinds.TooManyDigits ∷ kinds.ExponentRange ∷ [])
+    (is_kind kind) (kinds.LineTooLong ∷ kinds.BadByte ∷ kinds.Quadratic ∷ kinds.Sos ∷ kinds.Indicator ∷
+    kinds.NameLength ∷ kinds.NameByte ∷ kinds.NameMarker ∷ kinds.NameLikeExponent ∷ kinds.BadNumber ∷
+    kinds.LongNumber ∷ kinds.TooManyDigits ∷ kinds.ExponentRange ∷ [])
 
 abbrev AreLexical : Option FaultKind → Type 0
 AreLexical o = option_map_or is_lexical o true ≡ true
 
 held-lexical : (tests : FaultTests) → list_all (λ test. is_lexical test.1) tests ≡ true → AreLexical (first_held tests)
 held-lexical [] h = refl
-held-lexical ((held, kind) ∷ more) h = grind (arith, held-lexical more (second_so (is_lexical kind) (list_all (λ test. is_lexical test.1) more) h))
+held-lexical ((held, kind) ∷ more) h =
+    grind (arith, held-lexical more (second_so (is_lexical kind) (list_all (λ test. is_lexical test.1) more) h))
 
 number-lexical : (literal : List ℕ) → AreLexical (number_fault literal)
 number-lexical = grind arith
@@ -46,17 +48,20 @@ name-lexical = grind arith
 word-lexical : (text : List ℕ) (word_class : WordClass) → AreLexical (word_fault text word_class)
 word-lexical = grind (arith, name-lexical)
 
-tokens-lexical : (found : List Token) → AreLexical (least_kind (filter_map (λ (token : Token). token_fault token.kind token.text) found))
+tokens-lexical : (found : List Token) →
+    AreLexical (least_kind (filter_map (λ (token : Token). token_fault token.kind token.text) found))
 tokens-lexical [] = refl
 tokens-lexical (token ∷ found) = by _ (grind (arith, word-lexical, number-lexical)) (tokens-lexical found)
   where
     rest : List FaultKind
     rest = filter_map (λ token. token_fault token.kind token.text) found
 
-    lesser : (kind other : FaultKind) → is_lexical kind ≡ true → is_lexical other ≡ true → (b : Bool) → is_lexical (if b then other else kind) ≡ true
+    lesser : (kind other : FaultKind) → is_lexical kind ≡ true → is_lexical other ≡ true → (b : Bool) →
+        is_lexical (if b then other else kind) ≡ true
     lesser = grind arith
 
-    least : (kind : FaultKind) → is_lexical kind ≡ true → (o : Option FaultKind) → least_kind rest ≡ o → AreLexical o → AreLexical (least_kind (kind ∷ rest))
+    least : (kind : FaultKind) → is_lexical kind ≡ true → (o : Option FaultKind) → least_kind rest ≡ o → AreLexical o →
+        AreLexical (least_kind (kind ∷ rest))
     least = grind (arith, lesser)
 
     by : (o : Option FaultKind) → AreLexical o → AreLexical (least_kind rest) → AreLexical (least_kind (cons_option o rest))
@@ -64,13 +69,18 @@ tokens-lexical (token ∷ found) = by _ (grind (arith, word-lexical, number-lexi
 
 pub lexical-kind : (line : List ℕ) (kind : FaultKind) → lexical_fault line ≡ Some kind → is_lexical kind ≡ true
 lexical-kind line _ h =
-    sym (ap (λ (o : Option FaultKind). option_map_or is_lexical o true) h) ∙ line_lexical (first_held tests) (held-lexical tests refl)
+    sym (ap (λ (o : Option FaultKind). option_map_or is_lexical o true) h) ∙ line_lexical (first_held tests)
+    (held-lexical tests refl)
   where
     tests : FaultTests
-    tests = (not (has_legal_length line), kinds.LineTooLong) ∷ (not (list_all is_legal_byte (outside_comment line)), kinds.BadByte) ∷ []
+    tests = (not (has_legal_length line), kinds.LineTooLong) ∷
+        (not (list_all is_legal_byte (outside_comment line)), kinds.BadByte) ∷ []
 
-    line_lexical : (o : Option FaultKind) → AreLexical o → AreLexical (elim o as (λ _. Option FaultKind)
-        [ Some other ↦ Some other | None ↦ least_kind (filter_map (λ (token : Token). token_fault token.kind token.text) (tokens line)) ])
+    line_lexical : (o : Option FaultKind) → AreLexical o → AreLexical (elim o as (λ _. Option FaultKind) [
+      | Some other ↦ Some other
+      | None ↦ least_kind (filter_map (λ (token : Token). token_fault token.kind token.text)
+          (tokens line))
+    ])
     line_lexical (Some _) a = a
     line_lexical None a = tokens-lexical (tokens line)
 
@@ -79,15 +89,18 @@ lexical-kind line _ h =
 abbrev pub is_of_whole : FaultKind → Bool
 is_of_whole kind = nat_le (kind_rank kinds.MissingEnd) (kind_rank kind)
 
-named-whole : (all : Draft) (ks : List FaultKind) (fault : Fault) → list_all is_of_whole ks ≡ true → head_of (filter_map (λ kind. option_map
-    (λ name. whole_fault kind (Some name)) (head_of (names_with all kind))) ks) ≡ Some fault → is_of_whole fault.kind ≡ true
+named-whole : (all : Draft) (ks : List FaultKind) (fault : Fault) → list_all is_of_whole ks ≡ true →
+    head_of (filter_map (λ kind. option_map (λ name. whole_fault kind (Some name)) (head_of (names_with all kind)))
+    ks) ≡ Some fault → is_of_whole fault.kind ≡ true
 named-whole all [] fault h e = cc
-named-whole all (kind ∷ ks) fault h e = grind (arith, named-whole all ks fault (second_so (is_of_whole kind) (list_all is_of_whole ks) h))
+named-whole all (kind ∷ ks) fault h e =
+    grind (arith, named-whole all ks fault (second_so (is_of_whole kind) (list_all is_of_whole ks) h))
 
 pub file-kind : (all : Draft) (fault : Fault) → file_fault all ≡ Some fault → is_of_whole fault.kind ≡ true
 file-kind all fault h = by (is_nonempty all.columns) h
   where
-    by : (b : Bool) → (if b then head_of (named_faults all) else Some (whole_fault kinds.NoColumns None)) ≡ Some fault → is_of_whole fault.kind ≡ true
+    by : (b : Bool) → (if b then head_of (named_faults all) else Some (whole_fault kinds.NoColumns None)) ≡ Some fault →
+        is_of_whole fault.kind ≡ true
     by true e = named-whole all named_kinds _ refl e
     by false e = let same : whole_fault kinds.NoColumns None ≡ fault = cc in sym (ap (λ f. is_of_whole f.kind) same)
 
@@ -95,7 +108,8 @@ file-kind all fault h = by (is_nonempty all.columns) h
 
 -- What is known of the tokens before one, of the context and of the state, and what follows from it for a kind of errors.
 pub record Knowing
-    (kind : FaultKind) (is_such : List Terminal → Terminal → Bool) (Knows : List Terminal → Context → State → Type 0) : Type 0 where
+    (kind : FaultKind) (is_such : List Terminal → Terminal → Bool) (Knows : List Terminal → Context → State →
+    Type 0) : Type 0 where
   pub at_start : Knows [] start.context (Between AtStart)
   pub goes : (earlier : List Terminal) (context : Context) (state : State) (token : Terminal) (after : Context) (next : State)
       → Knows earlier context state → take context state token ≡ Goes after next → Knows (token ∷ earlier) after next
@@ -112,7 +126,8 @@ record OnToken (is_such : List Terminal → Terminal → Bool) (earlier xs : Lis
 
 -- such a token on one of the lines from line n on, after earlier tokens
 record OnLine
-    (is_such : List Terminal → Terminal → Bool) (earlier : List Terminal) (ls : List (List ℕ)) (n : ℕ) (fault : Fault) : Type 0 where
+    (is_such : List Terminal → Terminal → Bool) (earlier : List Terminal) (ls : List (List ℕ)) (n : ℕ)
+    (fault : Fault) : Type 0 where
   before : List (List ℕ)
   line : List ℕ
   later : List (List ℕ)
@@ -125,36 +140,37 @@ record OnLine
   tokens : terminals line ≡ front ++ token ∷ back
   such : is_such (reverse (flat_map terminals before ++ front) ++ earlier) token ≡ true
 
--- an outcome with an error
-abbrev the_refused : Fault → Outcome Fault Draft
-the_refused fault = Refused fault
-
-module _ (kind : FaultKind) (is_such : List Terminal → Terminal → Bool) (Knows : List Terminal → Context → State → Type 0) (knowing : Knowing kind is_such Knows) where
+module _ (kind : FaultKind) (is_such : List Terminal → Terminal → Bool) (Knows : List Terminal → Context → State →
+    Type 0) (knowing : Knowing kind is_such Knows) where
   -- ---- the tokens of a line
 
   abbrev IsAfter : List Terminal → List Terminal → AfterToken → Type 0
   IsAfter earlier xs (Goes after next) = Knows (reverse xs ++ earlier) after next
   IsAfter earlier xs (Refuses other) = other ≡ kind → OnToken is_such earlier xs
 
-  tokens-taken : (xs earlier : List Terminal) (context : Context) (state : State) → Knows earlier context state → IsAfter earlier xs (take_all context state xs)
+  tokens-taken : (xs earlier : List Terminal) (context : Context) (state : State) → Knows earlier context state →
+      IsAfter earlier xs (take_all context state xs)
   tokens-taken [] _ _ _ known = known
   tokens-taken (x ∷ xs) earlier context state known =
       by (take context state x) refl (λ after next k. tokens-taken xs (x ∷ earlier) after next k)
     where
       later : (taken : AfterToken) → IsAfter (x ∷ earlier) xs taken → IsAfter earlier (x ∷ xs) taken
-      later (Goes after next) k = subst (λ (ys : List Terminal). Knows ys after next) (grind (arith, reverse_onto, append_assoc, reverse)) k
+      later (Goes after next) k = subst (λ (ys : List Terminal). Knows ys after next)
+          (grind (arith, reverse_onto, append_assoc, reverse)) k
       later (Refuses _) k = λ e. let found = k e in record {
         front = x ∷ found.front;
         token = found.token;
         back = found.back;
         parted = ap (λ (ys : List Terminal). x ∷ ys) found.parted;
-        such = ap (λ (ys : List Terminal). is_such ys found.token) (sym (grind (arith, reverse_onto, append_assoc, reverse))) ∙ found.such;
+        such = ap (λ (ys : List Terminal). is_such ys found.token)
+            (sym (grind (arith, reverse_onto, append_assoc, reverse))) ∙ found.such;
       }
 
       by : (taken : AfterToken) → take context state x ≡ taken → ((after : Context) (next : State)
           → Knows (x ∷ earlier) after next → IsAfter (x ∷ earlier) xs (take_all after next xs)) → IsAfter earlier
           (x ∷ xs) (elim taken as (λ _. AfterToken) [ Goes after next ↦ take_all after next xs | Refuses other ↦ Refuses other ])
-      by (Goes after next) e more = later (take_all after next xs) (more after next (knowing.goes earlier context state x after next known e))
+      by (Goes after next) e more = later (take_all after next xs)
+          (more after next (knowing.goes earlier context state x after next known e))
       by (Refuses _) e _ = λ same. record {
         front = [];
         token = x;
@@ -167,14 +183,17 @@ module _ (kind : FaultKind) (is_such : List Terminal → Terminal → Bool) (Kno
 
   -- the lines after this one
   abbrev Rest : List (List ℕ) → ℕ → List ℕ → List Terminal → Fault → Type 0
-  Rest ls n l earlier fault = (after : Context) (next : State) → Knows (reverse (terminals l) ++ earlier) after next → read_from after next
-      (enumerate_from (n + 1) ls) ≡ Refused fault → OnLine is_such (reverse (terminals l) ++ earlier) ls (n + 1) fault
+  Rest ls n l earlier fault = (after : Context) (next : State) → Knows (reverse (terminals l) ++ earlier) after next →
+      read_from after next (enumerate_from (n + 1) ls) ≡ Refused fault →
+      OnLine is_such (reverse (terminals l) ++ earlier) ls (n + 1) fault
 
   lines-read : (ls : List (List ℕ)) (n : ℕ) (earlier : List Terminal) (context : Context) (state : State) (fault : Fault)
       → is_lexical kind ≡ false → fault.kind ≡ kind
-      → Knows earlier context state → read_from context state (enumerate_from n ls) ≡ Refused fault → OnLine is_such earlier ls n fault
+      → Knows earlier context state → read_from context state (enumerate_from n ls) ≡ Refused fault →
+      OnLine is_such earlier ls n fault
   lines-read [] n earlier context state fault own k known h = grind arith
-  lines-read (l ∷ ls) n earlier context state fault own k known h = by (λ after next more e. lines-read ls _ _ _ _ _ own k more e) _ h
+  lines-read (l ∷ ls) n earlier context state fault own k known h =
+      by (λ after next more e. lines-read ls _ _ _ _ _ own k more e) _ h
     where
       -- the line is read, and the error is on a later one
       later_line : Rest ls n l earlier fault
@@ -195,7 +214,8 @@ module _ (kind : FaultKind) (is_such : List Terminal → Terminal → Bool) (Kno
             ∙ sym (grind (arith, reverse-append, append_assoc, reverse))) ∙ found.such;
       }
 
-      this_line : lexical_fault l ≡ None → OnToken is_such earlier (terminals l) → fault_on_line n fault.kind ≡ fault → OnLine is_such earlier (l ∷ ls) n fault
+      this_line : lexical_fault l ≡ None → OnToken is_such earlier (terminals l) → fault_on_line n fault.kind ≡ fault →
+          OnLine is_such earlier (l ∷ ls) n fault
       this_line fine found e = record {
         before = [];
         line = l;
@@ -241,7 +261,8 @@ module _ (kind : FaultKind) (is_such : List Terminal → Terminal → Bool) (Kno
       by (Finished all) e f = absurd (false≢true (sym early ∙ ap is_of_whole (sym k) ∙ file-kind all _ f))
       by Open e f = grind arith
       by (Refused other) e f =
-          let found = lines-read _ 1 _ _ _ _ own k knowing.at_start (sym (outcome-read bytes) ∙ e ∙ ap (λ x. Refused x) (same f)) in
+          let found = lines-read _ 1 _ _ _ _ own k knowing.at_start
+          (sym (outcome-read bytes) ∙ e ∙ ap (λ x. Refused x) (same f)) in
           record {
             before = found.before;
             line = found.line;
@@ -264,25 +285,29 @@ module _ (kind : FaultKind) (is_such : List Terminal → Terminal → Bool) (Kno
 -- one of the tests of this kind fails
 abbrev pub refused_as : FaultKind → List (Bool × BuildFault) → Bool
 refused_as kind [] = false
-refused_as kind (test ∷ more) = if is_kind kind (kind_of_build_fault test.1) then (test.0 || refused_as kind more) else refused_as kind more
+refused_as kind (test ∷ more) = if is_kind kind (kind_of_build_fault test.1) then (test.0 || refused_as kind more)
+    else refused_as kind more
 
 abbrev pub refuses : FaultKind → Draft → Declarations → Bool
 refuses kind earlier [] = false
 refuses kind earlier (d ∷ ds) = refused_as kind (refusal_tests earlier d) || refuses kind (with_declaration earlier d) ds
 
-any-refused : (kind : FaultKind) (tests : List (Bool × BuildFault)) → list_any (is_kind kind) (map kind_of_build_fault (those_of tests)) ≡ refused_as kind tests
+any-refused : (kind : FaultKind) (tests : List (Bool × BuildFault)) →
+    list_any (is_kind kind) (map kind_of_build_fault (those_of tests)) ≡ refused_as kind tests
 any-refused _ [] = refl
 any-refused kind ((held, other) ∷ more) = by (any-refused _ more) _ _ refl
   where
     by : list_any (is_kind kind) (map kind_of_build_fault (those_of more)) ≡ refused_as kind more → (b c : Bool) → is_kind kind
-        (kind_of_build_fault other) ≡ c → list_any (is_kind kind) (map kind_of_build_fault (cond b (other ∷ those_of more) (those_of more)))
+        (kind_of_build_fault other) ≡ c →
+        list_any (is_kind kind) (map kind_of_build_fault (cond b (other ∷ those_of more) (those_of more)))
         ≡ cond c (b || refused_as kind more) (refused_as kind more)
     by = grind arith
 
 any-declaring : (kind : FaultKind) (ds : Declarations) (earlier : Draft)
     → list_any (is_kind kind) (map kind_of_build_fault (refusals_in_turn earlier ds)) ≡ refuses kind earlier ds
 any-declaring _ [] _ = refl
-any-declaring kind (d ∷ ds) earlier = grind (arith, map-append, list_any-append, any-refused, any-declaring kind ds (with_declaration earlier d))
+any-declaring kind (d ∷ ds) earlier =
+    grind (arith, map-append, list_any-append, any-refused, any-declaring kind ds (with_declaration earlier d))
 
 pub first-refused : (ds : Declarations) (earlier : Draft) (first : BuildFault) (more : List BuildFault)
     → refusals_in_turn earlier ds ≡ first ∷ more → refuses (kind_of_build_fault first) earlier ds ≡ true
@@ -307,9 +332,12 @@ module _ (P : Terminal → AfterToken → Type 0) (context : Context) where
   Bad = (t : Terminal) → P t (refuse context t kinds.BadToken)
 
   -- after the signs of an item
-  pub signs-by : (owner : ItemOwner) (before : SignOf) → Bad → ((sign : SignOf) → P (Sign sign) (Goes context (Signs owner (product before
-      sign)))) → ((name : List ℕ) → P (Name name) (take_term context owner name (apply_sign before one) (Name name))) → ((value : Decimal)
-      → P (Number value) (Goes context (ItemNumber owner before value))) → (t : Terminal) → P t (take_after_signs context owner before t)
+  pub signs-by : (owner : ItemOwner) (before : SignOf) → Bad →
+      ((sign : SignOf) → P (Sign sign) (Goes context (Signs owner (product before
+      sign)))) → ((name : List ℕ) → P (Name name) (take_term context owner name (apply_sign before one) (Name name))) →
+      ((value : Decimal)
+      → P (Number value) (Goes context (ItemNumber owner before value))) → (t : Terminal) →
+      P t (take_after_signs context owner before t)
   signs-by = grind arith
 
   -- the first token of an item
@@ -325,14 +353,18 @@ module _ (P : Terminal → AfterToken → Type 0) (context : Context) where
   limit-by = grind arith
 
   -- a name in Generals, Binaries or among the semi-continuous columns
-  pub listed-by : (place : Place) (kind_declared : List ℕ → Declaration) → Bad → ((name : List ℕ) → P (Name name) (declare_at context
-      (Name name) place (declare_column name ∷ kind_declared name ∷ []))) → (t : Terminal) → P t (name_taken place kind_declared context t)
+  pub listed-by : (place : Place) (kind_declared : List ℕ → Declaration) → Bad →
+      ((name : List ℕ) → P (Name name) (declare_at context
+      (Name name) place (declare_column name ∷ kind_declared name ∷ []))) → (t : Terminal) →
+      P t (name_taken place kind_declared context t)
   listed-by = grind arith
 
   -- after a number of the objective that no name follows
   pub lone-by : (objective : List ℕ) (number : Decimal) → Bad
-      → ((sign : SignOf) → P (Sign sign) (begin_phrase_after context (declare_constant number ∷ []) (InObjective objective) (Sign sign)))
-      → ((word : SectionWord) → P (Opens word) (begin_phrase_after context (declare_constant number ∷ []) (InObjective objective) (Opens word)))
+      → ((sign : SignOf) → P (Sign sign)
+      (begin_phrase_after context (declare_constant number ∷ []) (InObjective objective) (Sign sign)))
+      → ((word : SectionWord) → P (Opens word)
+      (begin_phrase_after context (declare_constant number ∷ []) (InObjective objective) (Opens word)))
       → (t : Terminal) → P t (take_after_lone_number context (OfObjective objective) number t)
   lone-by = grind arith
 
@@ -344,8 +376,9 @@ module _ (P : Terminal → AfterToken → Type 0) (context : Context) where
 
   -- after the column of a bound
   pub bound_name-by : (column : List ℕ) → Bad → (P Free (take_bound context (declare_column column ∷ []) column no_limits Free
-      (InBounds None))) → ((relation : Relation) → P (Compares relation) (Goes context (AtSide (SideOfBound true column relation))))
-      → (t : Terminal) → P t (take context (BoundName column) t)
+      (InBounds None))) → ((relation : Relation) →
+      P (Compares relation) (Goes context (AtSide (SideOfBound true column relation)))) → (t : Terminal) →
+      P t (take context (BoundName column) t)
   bound_name-by = grind arith
 
   -- after the left side of a bound and its relation
@@ -362,25 +395,28 @@ module _ (P : Terminal → AfterToken → Type 0) (context : Context) where
 
   -- a token at a place
   pub begin-by : (place : Place) → ((word : SectionWord)
-      → P (Opens word) (if may_begin_section place then open_section context word else refuse context (Opens word) kinds.BadToken))
-      → ((t : Terminal) → P t (begin_phrase place context t)) → (t : Terminal) → P t (begin place context t)
+      → P (Opens word) (if may_begin_section place then open_section context word else refuse context (Opens word)
+      kinds.BadToken)) → ((t : Terminal) → P t (begin_phrase place context t)) → (t : Terminal) → P t (begin place context t)
   begin-by = grind arith
 
   -- the first token of the objective
   pub objective-by : (sense : Sense) → ((name : List ℕ) → P (Name name) (Goes context (ObjectiveName sense name)))
-      → ((t : Terminal) → P t (begin_phrase_after context (objective_declared sense default_objective) (BeforeItems default_objective) t))
-      → (t : Terminal) → P t (take context (AtObjective sense) t)
+      → ((t : Terminal) → P t (begin_phrase_after context (objective_declared sense default_objective)
+      (BeforeItems default_objective) t)) → (t : Terminal) → P t (take context (AtObjective sense) t)
   objective-by = grind arith
 
   -- after the first name of the objective
-  pub objective_name-by : (sense : Sense) (label : List ℕ) → (P Colon (declare_at context Colon (BeforeItems label) (objective_declared
-      sense label))) → ((t : Terminal) → P t (begin_phrase_after context (first_item_declared sense label) (InObjective default_objective) t))
+  pub objective_name-by : (sense : Sense) (label : List ℕ) →
+      (P Colon (declare_at context Colon (BeforeItems label) (objective_declared
+      sense label))) → ((t : Terminal) →
+      P t (begin_phrase_after context (first_item_declared sense label) (InObjective default_objective) t))
       → (t : Terminal) → P t (take context (ObjectiveName sense label) t)
   objective_name-by = grind arith
 
   -- after the number of an item
   pub item_number-by : (owner : ItemOwner) (before : SignOf) (number : Decimal) → ((name : List ℕ)
-      → P (Name name) (take_term context owner name (apply_sign before number) (Name name))) → ((t : Terminal) → P t (take_after_lone_number
+      → P (Name name) (take_term context owner name (apply_sign before number) (Name name))) →
+      ((t : Terminal) → P t (take_after_lone_number
       context owner (apply_sign before number) t)) → (t : Terminal) → P t (take context (ItemNumber owner before number) t)
   item_number-by = grind arith
 

@@ -40,12 +40,14 @@ pub complete-phrase : (point : Point) (line : ℕ → ℕ) (x : Terminal) (xs : 
     → Complete point line (x ∷ xs) made → Heard (phrase_at point (at (line 0) x)) (onward line) xs made
 complete-phrase = grind arith
 
-pub heard-next : (following : TerminalAt → PhraseRule Follows) (line : ℕ → ℕ) (x : Terminal) (xs : List Terminal) (made : Declarations)
-    → Heard (next >>= following) line (x ∷ xs) made → Heard (following (at (line 0) x)) (onward line) xs made
+pub heard-next : (following : TerminalAt → PhraseRule Follows) (line : ℕ →
+    ℕ) (x : Terminal) (xs : List Terminal) (made : Declarations) → Heard (next >>= following) line (x ∷ xs) made →
+    Heard (following (at (line 0) x)) (onward line) xs made
 heard-next = grind arith
 
-pub heard-ahead : (following : TerminalAt → PhraseRule Follows) (line : ℕ → ℕ) (x : Terminal) (xs : List Terminal) (made : Declarations)
-    → Heard (ahead >>= following) line (x ∷ xs) made → Heard (following (at (line 0) x)) line (x ∷ xs) made
+pub heard-ahead : (following : TerminalAt → PhraseRule Follows) (line : ℕ →
+    ℕ) (x : Terminal) (xs : List Terminal) (made : Declarations) → Heard (ahead >>= following) line (x ∷ xs) made →
+    Heard (following (at (line 0) x)) line (x ∷ xs) made
 heard-ahead = grind arith
 
 -- ---- what follows a phrase
@@ -56,8 +58,8 @@ pub record Goes (point : Point) (first : Declarations) (line : ℕ → ℕ) (xs 
   pub is : made ≡ first ++ more
   pub rest : Complete point line xs more
 
-pub goes-heard : (context : Context) (place : Place) (first : Declarations) (line : ℕ → ℕ) (xs : List Terminal) (made : Declarations)
-    → Heard (goes_to context place first) line xs made
+pub goes-heard : (context : Context) (place : Place) (first : Declarations) (line : ℕ →
+    ℕ) (xs : List Terminal) (made : Declarations) → Heard (goes_to context place first) line xs made
     → Goes (point_at place context.sections_seen (with_declarations context.builder first)) first line xs made
 goes-heard = grind arith
 
@@ -68,7 +70,8 @@ pub record GoesUnrefused (context : Context) (refusals : List BuildFault)
 
 pub unless-heard : (context : Context) (token : TerminalAt)
     (refusals : List BuildFault) (place : Place) (first : Declarations) (line : ℕ → ℕ) (xs : List Terminal) (made : Declarations)
-    → Heard (unless_refused context token refusals place first) line xs made → GoesUnrefused context refusals place first line xs made
+    → Heard (unless_refused context token refusals place first) line xs made →
+    GoesUnrefused context refusals place first line xs made
 unless-heard = grind arith
 
 -- ---- items
@@ -79,12 +82,16 @@ constant_tokens signs value = sign_tokens signs ++ Number value ∷ []
 
 -- An item without its first sign: a term, or a number that no name follows.
 pub data SignedItem
-    (sign : SignOf) (following : Item → PhraseRule Follows) (line : ℕ → ℕ) (xs : List Terminal) (made : Declarations) : Type 0 where
-  signed_term : (signs : List SignOf) (number : Option Decimal) (column : List ℕ) (rest : List Terminal) (n : ℕ) → xs ≡ term_tokens
-      (term signs number column) ++ rest → Heard (following (items.Term (apply_sign (multiplied sign signs) (unwrap_or number one)) column
-      (at n (Name column)))) (onwards (term_tokens (term signs number column)) line) rest made → SignedItem sign following line xs made
+    (sign : SignOf) (following : Item → PhraseRule Follows) (line : ℕ →
+    ℕ) (xs : List Terminal) (made : Declarations) : Type 0 where
+  signed_term : (signs : List SignOf) (number : Option Decimal) (column : List ℕ) (rest : List Terminal) (n : ℕ) →
+      xs ≡ term_tokens (term signs number column) ++ rest →
+      Heard (following (items.Term (apply_sign (multiplied sign signs) (unwrap_or number one)) column
+      (at n (Name column)))) (onwards (term_tokens (term signs number column)) line) rest made →
+      SignedItem sign following line xs made
   signed_lone : (signs : List SignOf) (value : Decimal) (y : Terminal) (rest : List Terminal) (n : ℕ)
-      → xs ≡ constant_tokens signs value ++ y ∷ rest → Heard (following (items.Lone (apply_sign (multiplied sign signs) value) (at n y)))
+      → xs ≡ constant_tokens signs value ++ y ∷ rest →
+      Heard (following (items.Lone (apply_sign (multiplied sign signs) value) (at n y)))
       (onwards (constant_tokens signs value) line) (y ∷ rest) made → SignedItem sign following line xs made
 
 pub number-heard : (sign : SignOf)
@@ -92,13 +99,16 @@ pub number-heard : (sign : SignOf)
     → Heard (number_item sign value >>= following) (onward line) xs made → SignedItem sign following line (Number value ∷ xs) made
 number-heard _ _ _ [] _ _ h = absurd (none-some _ h)
 number-heard _ value following (Name column ∷ xs) line _ h = signed_term []
-    (Some value) column xs (line 1) refl (sym (listened-one (following _ _) (at (line 1) _) (all_at (onward (onward line)) xs)) ∙ h)
-number-heard _ _ following (y ∷ xs) line _ h = signed_lone [] _ y xs (line 1) refl (sym (listened-none (following _ _) (all_at (onward line) (y ∷ xs))) ∙ h)
+    (Some value) column xs (line 1) refl
+    (sym (listened-one (following _ _) (at (line 1) _) (all_at (onward (onward line)) xs)) ∙ h)
+number-heard _ _ following (y ∷ xs) line _ h =
+    signed_lone [] _ y xs (line 1) refl (sym (listened-none (following _ _) (all_at (onward line) (y ∷ xs))) ∙ h)
 
 signed-heard : (xs : List Terminal) (context : Context) (sign : SignOf) (following : Item → PhraseRule Follows) (line : ℕ → ℕ)
     (made : Declarations) → Heard (signed_item context sign >>= following) line xs made → SignedItem sign following line xs made
 signed-heard (Sign more ∷ xs) context sign following line made h = by (signed-heard xs context _ _ _ _ (sym (heard-later
-    (signed_item context (product sign more) (all_at (onward line) xs)) following (at (line 0) (Sign more)) (all_at (onward line) xs)) ∙ h))
+    (signed_item context (product sign more) (all_at (onward line) xs)) following (at (line 0) (Sign more))
+    (all_at (onward line) xs)) ∙ h))
   where
     by : SignedItem (product sign more) following (onward line) xs made → SignedItem sign following line (Sign more ∷ xs) made
     by (signed_term signs _ _ _ n same heard) = signed_term (more ∷ signs) _ _ _ n (ap (λ ys. Sign more ∷ ys) same) heard
@@ -106,7 +116,8 @@ signed-heard (Sign more ∷ xs) context sign following line made h = by (signed-
 signed-heard (Name column ∷ xs) _ _ following line _ h =
     signed_term [] None column xs (line 0) refl (sym (listened-one (following _ _) (at (line 0) _) (all_at (onward line) xs)) ∙ h)
 signed-heard (Number value ∷ xs) _ sign following line _ h = number-heard _ _ _ _ _ _ (sym
-    (heard-later (number_item sign value (all_at (onward line) xs)) following (at (line 0) (Number value)) (all_at (onward line) xs)) ∙ h)
+    (heard-later (number_item sign value (all_at (onward line) xs)) following (at (line 0) (Number value))
+    (all_at (onward line) xs)) ∙ h)
 signed-heard _ _ _ _ _ _ h = absurd (none-some _ h)
 
 -- A whole item.
@@ -119,14 +130,18 @@ pub data AnItem (following : Item → PhraseRule Follows) (line : ℕ → ℕ) (
       (onwards (constant_tokens signs value) line) (y ∷ rest) made → AnItem following line xs made
 
 -- an item with its first sign
-pub item-from_signed : (sign : SignOf) (following : Item → PhraseRule Follows) (line : ℕ → ℕ) (xs : List Terminal) (made : Declarations)
-    → SignedItem sign following (onward line) xs made → AnItem following line (Sign sign ∷ xs) made
+pub item-from_signed : (sign : SignOf) (following : Item → PhraseRule Follows) (line : ℕ →
+    ℕ) (xs : List Terminal) (made : Declarations) → SignedItem sign following (onward line) xs made →
+    AnItem following line (Sign sign ∷ xs) made
 item-from_signed sign following line _ made (signed_term signs number column rest n same heard) = found_term (sign ∷ signs)
-    number column rest n (ap (λ ys. Sign sign ∷ ys) same) (subst (λ v. Heard (following (items.Term v column (at n (Name column))))
-    (onwards (term_tokens (term signs number column)) (onward line)) rest made) (multiplied-value sign signs (unwrap_or number one)) heard)
+    number column rest n (ap (λ ys. Sign sign ∷ ys) same)
+    (subst (λ v. Heard (following (items.Term v column (at n (Name column))))
+    (onwards (term_tokens (term signs number column)) (onward line)) rest made)
+    (multiplied-value sign signs (unwrap_or number one)) heard)
 item-from_signed sign following line _ made (signed_lone signs value y rest n same heard) =
-    found_lone (sign ∷ signs) value y rest n (ap (λ ys. Sign sign ∷ ys) same) (subst (λ v. Heard (following (items.Lone v (at n y)))
-    (onwards (constant_tokens signs value) (onward line)) (y ∷ rest) made) (multiplied-value sign signs value) heard)
+    found_lone (sign ∷ signs) value y rest n (ap (λ ys. Sign sign ∷ ys) same)
+    (subst (λ v. Heard (following (items.Lone v (at n y))) (onwards (constant_tokens signs value) (onward line))
+    (y ∷ rest) made) (multiplied-value sign signs value) heard)
 
 -- an item that begins with a sign
 pub sign-heard : (xs : List Terminal)
@@ -135,12 +150,15 @@ pub sign-heard : (xs : List Terminal)
 sign-heard _ context _ _ _ _ h = item-from_signed _ _ _ _ _ (signed-heard _ context _ _ _ _ h)
 
 -- a number first
-pub first_number-heard : (xs : List Terminal) (value : Decimal) (following : Item → PhraseRule Follows) (line : ℕ → ℕ) (made : Declarations)
-    → Heard (number_item Plus value >>= following) (onward line) xs made → AnItem following line (Number value ∷ xs) made
+pub first_number-heard : (xs : List Terminal) (value : Decimal) (following : Item → PhraseRule Follows) (line : ℕ →
+    ℕ) (made : Declarations) → Heard (number_item Plus value >>= following) (onward line) xs made →
+    AnItem following line (Number value ∷ xs) made
 first_number-heard [] _ _ _ _ h = absurd (none-some _ h)
 first_number-heard (Name column ∷ xs) value following line _ h = found_term []
-    (Some value) column xs (line 1) refl (sym (listened-one (following _ _) (at (line 1) _) (all_at (onward (onward line)) xs)) ∙ h)
-first_number-heard (y ∷ xs) _ following line _ h = found_lone [] _ y xs (line 1) refl (sym (listened-none (following _ _) (all_at (onward line) (y ∷ xs))) ∙ h)
+    (Some value) column xs (line 1) refl
+    (sym (listened-one (following _ _) (at (line 1) _) (all_at (onward (onward line)) xs)) ∙ h)
+first_number-heard (y ∷ xs) _ following line _ h =
+    found_lone [] _ y xs (line 1) refl (sym (listened-none (following _ _) (all_at (onward line) (y ∷ xs))) ∙ h)
 
 pub item-heard : (x : Terminal)
     (xs : List Terminal) (context : Context) (following : Item → PhraseRule Follows) (line : ℕ → ℕ) (made : Declarations)
@@ -152,7 +170,8 @@ item-heard _ _ _ _ _ _ h = absurd (none-some _ h)
 
 -- ---- sides and relations
 
-pub record ASide (following : SideOf → PhraseRule Follows) (line : ℕ → ℕ) (xs : List Terminal) (made : Declarations) : Type 0 where
+pub record ASide (following : SideOf → PhraseRule Follows) (line : ℕ →
+    ℕ) (xs : List Terminal) (made : Declarations) : Type 0 where
   pub part : Side
   pub rest : List Terminal
   pub last : TerminalAt
@@ -177,7 +196,8 @@ side_from-heard (Sign sign) (Number value ∷ xs) context following line made h 
   last = token;
   same = refl;
   heard = subst (λ v. Heard
-      (following (record { limit = limit_of v; last = token })) (onward (onward line)) xs made) (signed-is sign value) (grind arith);
+      (following (record { limit = limit_of v; last = token })) (onward (onward line)) xs made) (signed-is sign value)
+      (grind arith);
 }
 side_from-heard (Sign sign) (Infinity ∷ xs) context following line made h = let token = at (line 1) Infinity in record {
   part = side (Some sign) None;
@@ -189,19 +209,21 @@ side_from-heard (Sign sign) (Infinity ∷ xs) context following line made h = le
 }
 side_from-heard _ _ _ _ _ _ h = absurd (none-some _ h)
 
-pub side-heard : (xs : List Terminal) (context : Context) (following : SideOf → PhraseRule Follows) (line : ℕ → ℕ) (made : Declarations)
-    → Heard (side_rule context >>= following) line xs made → ASide following line xs made
+pub side-heard : (xs : List Terminal) (context : Context) (following : SideOf → PhraseRule Follows) (line : ℕ →
+    ℕ) (made : Declarations) → Heard (side_rule context >>= following) line xs made → ASide following line xs made
 side-heard [] _ _ _ _ h = absurd (none-some _ h)
 side-heard (x ∷ xs) context following line made h = grind (arith, side_from-heard, heard-later, at, onward)
 
-pub record ARelation (following : Relation → PhraseRule Follows) (line : ℕ → ℕ) (xs : List Terminal) (made : Declarations) : Type 0 where
+pub record ARelation (following : Relation → PhraseRule Follows) (line : ℕ →
+    ℕ) (xs : List Terminal) (made : Declarations) : Type 0 where
   pub relation : Relation
   pub rest : List Terminal
   pub same : xs ≡ Compares relation ∷ rest
   pub heard : Heard (following relation) (onward line) rest made
 
 pub relation-heard : (xs : List Terminal) (context : Context) (following : Relation → PhraseRule Follows)
-    (line : ℕ → ℕ) (made : Declarations) → Heard (next_relation context >>= following) line xs made → ARelation following line xs made
+    (line : ℕ → ℕ) (made : Declarations) → Heard (next_relation context >>= following) line xs made →
+    ARelation following line xs made
 relation-heard (Compares relation ∷ xs) context following line made h = grind arith
 relation-heard _ _ _ _ _ h = absurd (none-some _ h)
 
@@ -217,17 +239,22 @@ is_no_opening _ = true
 
 -- the drafts of two parts one after the other
 pub complete-joined : (place : Place) (seen : SectionsSeen)
-    (earlier : Draft) (first more : Declarations) (front next : List Terminal) (line : ℕ → ℕ) (xs : List Terminal) (made : Declarations)
-    → Complete (point_at place seen (with_declarations (with_declarations earlier first) more)) (onwards next (onwards front line)) xs made
-    → Complete (point_at place seen (with_declarations earlier (first ++ more))) (onwards (front ++ next) line) xs made
+    (earlier : Draft) (first more : Declarations) (front next : List Terminal) (line : ℕ →
+    ℕ) (xs : List Terminal) (made : Declarations) →
+    Complete (point_at place seen (with_declarations (with_declarations earlier first) more))
+    (onwards next (onwards front line)) xs made →
+    Complete (point_at place seen (with_declarations earlier (first ++ more)))
+    (onwards (front ++ next) line) xs made
 complete-joined = grind (arith, onwards, with_declarations-append, onwards-append)
 
 -- what parts declare, each after those before it
 abbrev pub all_declare : {A : Type 0} → (Draft → A → Declarations) → Draft → List A → Declarations
 all_declare declares earlier [] = []
-all_declare declares earlier (it ∷ its) = declares earlier it ++ all_declare declares (with_declarations earlier (declares earlier it)) its
+all_declare declares earlier (it ∷ its) =
+    declares earlier it ++ all_declare declares (with_declarations earlier (declares earlier it)) its
 
-module _ {A S : Type 0} (tokens_of : A → List Terminal) (declares : Draft → A → Declarations) (good : A → Bool) (place_of : S → Place) (Next : S → List Terminal → Type 0) (seen : SectionsSeen) where
+module _ {A S : Type 0} (tokens_of : A → List Terminal) (declares : Draft → A → Declarations) (good : A →
+    Bool) (place_of : S → Place) (Next : S → List Terminal → Type 0) (seen : SectionsSeen) where
   -- ---- one phrase
 
   pub record OnePhrase (earlier : Draft) (line : ℕ → ℕ) (xs : List Terminal) (made : Declarations) : Type 0 where
@@ -239,12 +266,14 @@ module _ {A S : Type 0} (tokens_of : A → List Terminal) (declares : Draft → 
     pub is : made ≡ declares earlier it ++ more
     pub to : S
     pub after : Next to rest
-    pub heard : Complete (point_at (place_of to) seen (with_declarations earlier (declares earlier it))) (onwards (tokens_of it) line) rest more
+    pub heard : Complete (point_at (place_of to) seen (with_declarations earlier (declares earlier it)))
+        (onwards (tokens_of it) line) rest more
     pub shorter : length rest < length xs
 
   abbrev pub Reading : Type 0
-  Reading = (from : S) (earlier : Draft) (line : ℕ → ℕ) (x : Terminal) (xs : List Terminal) (made : Declarations) → is_no_opening x ≡ true
-      → Next from (x ∷ xs) → Complete (point_at (place_of from) seen earlier) line (x ∷ xs) made → OnePhrase earlier line (x ∷ xs) made
+  Reading = (from : S) (earlier : Draft) (line : ℕ → ℕ) (x : Terminal) (xs : List Terminal) (made : Declarations) →
+      is_no_opening x ≡ true → Next from (x ∷ xs) →
+      Complete (point_at (place_of from) seen earlier) line (x ∷ xs) made → OnePhrase earlier line (x ∷ xs) made
 
   -- ---- phrases up to a section word
 
@@ -269,15 +298,18 @@ module _ {A S : Type 0} (tokens_of : A → List Terminal) (declares : Draft → 
     word = all.word;
     rest = all.rest;
     more = all.more;
-    same = one.same ∙ ap (λ ys. tokens_of one.it ++ ys) all.same ∙ sym (append_assoc (tokens_of _) (flat_map tokens_of all.its) (Opens all.word ∷ all.rest));
-    is = one.is ∙ ap (λ ds. first ++ ds) all.is ∙ sym (append_assoc first (all_declare declares (with_declarations earlier first) all.its) all.more);
+    same = one.same ∙ ap (λ ys. tokens_of one.it ++ ys) all.same
+        ∙ sym (append_assoc (tokens_of _) (flat_map tokens_of all.its) (Opens all.word ∷ all.rest));
+    is = one.is ∙ ap (λ ds. first ++ ds) all.is
+        ∙ sym (append_assoc first (all_declare declares (with_declarations earlier first) all.its) all.more);
     to = all.to;
     heard = complete-joined (place_of _) seen earlier first (all_declare declares (with_declarations earlier first) all.its)
         (tokens_of _) (flat_map tokens_of all.its) line (Opens all.word ∷ all.rest) _ all.heard;
   }
 
   pub all-phrases : Reading → (n : ℕ) (from : S) (earlier : Draft) (line : ℕ → ℕ) (xs : List Terminal) (made : Declarations)
-      → length xs ≤ n → Next from xs → Complete (point_at (place_of from) seen earlier) line xs made → AllPhrases earlier line xs made
+      → length xs ≤ n → Next from xs → Complete (point_at (place_of from) seen earlier) line xs made →
+      AllPhrases earlier line xs made
   all-phrases _ n _ _ _ [] _ _ _ h = absurd (none-some _ h)
   all-phrases _ n from _ _ (Opens word ∷ xs) made _ _ h =
       record { its = []; good_its = refl; word = word; rest = xs; more = made; same = refl; is = refl; to = from; heard = h }
@@ -308,7 +340,8 @@ any_name column = true
 -- at a place names are read like this
 abbrev pub ReadsNames : Place → (List ℕ → Declaration) → SectionsSeen → Type 0
 ReadsNames place kind seen = (earlier : Draft) (n : ℕ) (x : Terminal) (tokens : Tokens) → is_no_opening x ≡ true → listened
-    (phrase_at (point_at place seen earlier) (at n x)) tokens ≡ listened (name_in_section place kind (here seen earlier) (at n x)) tokens
+    (phrase_at (point_at place seen earlier) (at n x)) tokens ≡ listened
+    (name_in_section place kind (here seen earlier) (at n x)) tokens
 
 pub one-name : (place : Place) (kind : List ℕ → Declaration) (seen : SectionsSeen)
     → ReadsNames place kind seen → Reading name_token (name_declares kind) any_name (λ (s : Unit {0}). place) Anything seen
@@ -352,14 +385,16 @@ OneBound seen earlier line xs made = OnePhrase bound_tokens bound_declared any_b
 
 -- bounds of a column that were read
 sides-heard : (seen : SectionsSeen) (earlier : Draft) (front : Declarations)
-    (column : List ℕ) (limits : Limits) (token : TerminalAt) (place : Place) (line : ℕ → ℕ) (xs : List Terminal) (made : Declarations)
-    → Heard (bound_sides (here seen earlier) front column limits token place) line xs made → Goes (point_at place seen
+    (column : List ℕ) (limits : Limits) (token : TerminalAt) (place : Place) (line : ℕ →
+    ℕ) (xs : List Terminal) (made : Declarations) →
+    Heard (bound_sides (here seen earlier) front column limits token place) line xs made → Goes (point_at place seen
     (with_declarations earlier (front ++ limits_declared column limits))) (front ++ limits_declared column limits) line xs made
 sides-heard = grind arith
 
 -- a column first
 column-heard : (seen : SectionsSeen) (earlier : Draft) (column : List ℕ) (line : ℕ → ℕ) (xs : List Terminal) (made : Declarations)
-    → Heard (next >>= bound_after (here seen earlier) column) (onward line) xs made → OneBound seen earlier line (Name column ∷ xs) made
+    → Heard (next >>= bound_after (here seen earlier) column) (onward line) xs made →
+    OneBound seen earlier line (Name column ∷ xs) made
 column-heard seen earlier column line (Free ∷ xs) made h =
     let found = sides-heard seen earlier (declare_column _ ∷ []) column no_limits (at (line 1) Free)
     (InBounds None) (onward (onward line)) xs _ (heard-next (bound_after (here _ _) column) (onward line) Free xs _ h) in record {
@@ -376,7 +411,8 @@ column-heard seen earlier column line (Free ∷ xs) made h =
     }
 column-heard seen earlier column line (Compares relation ∷ xs) made h = let front = declare_column _ ∷ [] in
     let part = side-heard _ (here seen earlier) (bound_right (here seen earlier) front column relation)
-    (onward (onward line)) made (heard-next (bound_after (here seen earlier) column) (onward line) (Compares relation) xs made h) in
+    (onward (onward line)) made (heard-next (bound_after (here seen earlier) column) (onward line) (Compares relation)
+    xs made h) in
     let limits : Limits = limits_by relation (limit part.part) in
     let found = sides-heard seen earlier front column limits part.last
     (InBounds None) (onwards (side_tokens part.part) (onward (onward line))) part.rest made part.heard in
@@ -409,11 +445,13 @@ record LeftBound (seen : SectionsSeen) (earlier : Draft) (line : ℕ → ℕ) (x
   same : xs ≡ side_tokens part ++ Compares relation ∷ Name column ∷ rest
   is : made ≡ (declare_column column ∷ limits_declared column (limits_by (flip relation) (limit part))) ++ more
   heard : Complete (point_at (InBounds (Some (column, relation))) seen (with_declarations earlier (declare_column column
-      ∷ limits_declared column (limits_by (flip relation) (limit part))))) (onward (onward (onwards (side_tokens part) line))) rest more
+      ∷ limits_declared column (limits_by (flip relation) (limit part)))))
+      (onward (onward (onwards (side_tokens part) line))) rest more
 
 left-column : (seen : SectionsSeen) (earlier : Draft) (value : Limit) (relation : Relation) (line : ℕ → ℕ)
     (xs : List Terminal) (made : Declarations) → Heard (next >>= bound_column (here seen earlier) value relation) line xs made
-    → (column : List ℕ) × (rest : List Terminal) × (xs ≡ Name column ∷ rest) × Goes (point_at (InBounds (Some (column, relation))) seen
+    → (column : List ℕ) × (rest : List Terminal) × (xs ≡ Name column ∷ rest) × Goes
+    (point_at (InBounds (Some (column, relation))) seen
     (with_declarations earlier (declare_column column ∷ limits_declared column (limits_by (flip relation) value))))
     (declare_column column ∷ limits_declared column (limits_by (flip relation) value)) (onward line) rest made
 left-column seen earlier value relation line (Name column ∷ xs) made h = grind arith
@@ -428,16 +466,19 @@ left-heard _ earlier _ _ _ part = let compared = relation-heard _ (here _ earlie
       column = named.0;
       rest = named.1;
       more = named.3.more;
-      same = part.same ∙ ap (λ ys. side_tokens part.part ++ ys) (compared.same ∙ ap (λ ys. Compares compared.relation ∷ ys) named.2);
+      same = part.same ∙ ap (λ ys. side_tokens part.part ++ ys)
+          (compared.same ∙ ap (λ ys. Compares compared.relation ∷ ys) named.2);
       is = named.3.is;
       heard = named.3.rest;
     }
 
 -- no second side
 left-only : (seen : SectionsSeen) (earlier : Draft) (line : ℕ → ℕ)
-    (xs : List Terminal) (made : Declarations) (x : Terminal) (tail : List Terminal) (left : LeftBound seen earlier line (x ∷ tail) made)
-    → length left.rest ≤ length tail → is_no_relation (first_of_all left.rest) ≡ true → OneBound seen earlier line (x ∷ tail) made
-left-only seen earlier line xs made x tail left short no_relation = let tokens = side_tokens left.part ++ Compares _ ∷ Name _ ∷ [] in
+    (xs : List Terminal) (made : Declarations) (x : Terminal) (tail : List Terminal)
+    (left : LeftBound seen earlier line (x ∷ tail) made) → length left.rest ≤ length tail →
+    is_no_relation (first_of_all left.rest) ≡ true → OneBound seen earlier line (x ∷ tail) made
+left-only seen earlier line xs made x tail left short no_relation = let tokens =
+    side_tokens left.part ++ Compares _ ∷ Name _ ∷ [] in
     let declared = ap (λ ds. declare_column left.column ∷ ds)
     (ap (λ r. limits_declared left.column (limits_by r (limit left.part))) (flipped _) ∙ by-relation _ _ _) in
     let on : onwards tokens line ≡ onward (onward (onwards (side_tokens left.part) line)) =
@@ -453,38 +494,54 @@ left-only seen earlier line xs made x tail left short no_relation = let tokens =
       heard = subst (λ ds. Complete (point_at (InBounds (Some (left.column, left.relation))) seen (with_declarations earlier ds))
           (onwards tokens line) left.rest left.more) declared (subst (λ l. Complete
           (point_at (InBounds (Some (left.column, left.relation))) seen (with_declarations earlier (declare_column left.column
-          ∷ limits_declared left.column (limits_by (flip left.relation) (limit left.part))))) l left.rest left.more) (sym on) left.heard);
+          ∷ limits_declared left.column (limits_by (flip left.relation) (limit left.part))))) l left.rest left.more)
+          (sym on) left.heard);
       shorter = omega (arith, short);
     }
 
 -- a second side
 record SecondSide (seen : SectionsSeen)
-    (earlier : Draft) (column : List ℕ) (relation : Relation) (line : ℕ → ℕ) (xs : List Terminal) (made : Declarations) : Type 0 where
+    (earlier : Draft) (column : List ℕ) (relation : Relation) (line : ℕ →
+    ℕ) (xs : List Terminal) (made : Declarations) : Type 0 where
   part : Side
   rest : List Terminal
   more : Declarations
   same : xs ≡ side_tokens part ++ rest
   is : made ≡ limits_declared column (limits_by relation (limit part)) ++ more
-  heard : Complete (point_at (InBounds None) seen (with_declarations earlier (limits_declared column (limits_by relation (limit part)))))
+  heard : Complete (point_at (InBounds None) seen
+      (with_declarations earlier (limits_declared column (limits_by relation (limit part)))))
       (onwards (side_tokens part) line) rest more
 
 second-heard : (seen : SectionsSeen) (earlier : Draft) (column : List ℕ) (relation : Relation) (line : ℕ → ℕ) (xs : List Terminal)
-    (made : Declarations) → Heard (side_rule (here seen earlier) >>= bound_right (here seen earlier) [] column relation) line xs made
-    → SecondSide seen earlier column relation line xs made
-second-heard _ earlier _ _ _ _ _ h = let part = side-heard _ (here _ earlier) _ _ _ h in let found = sides-heard _ _ [] _ _ _ _ _
-    _ _ part.heard in record { part = part.part; rest = part.rest; more = found.more; same = part.same; is = found.is; heard = found.rest }
+    (made : Declarations) → Heard (side_rule (here seen earlier) >>= bound_right (here seen earlier) [] column relation)
+    line xs made → SecondSide seen earlier column relation line xs made
+second-heard _ earlier _ _ _ _ _ h =
+    let part = side-heard _ (here _ earlier) _ _ _ h in
+    let found = sides-heard _ _ [] _ _ _ _ _
+    _ _ part.heard in record {
+      part = part.part;
+      rest = part.rest;
+      more = found.more;
+      same = part.same;
+      is =
+          found.is;
+      heard = found.rest;
+    }
 
 both-bound : (seen : SectionsSeen) (earlier : Draft) (line : ℕ → ℕ) (made : Declarations) (x : Terminal)
-    (tail : List Terminal) (part : Side) (relation r : Relation) (column : List ℕ) (ws : List Terminal) (more : Declarations) → x ∷ tail
-    ≡ side_tokens part ++ Compares relation ∷ Name column ∷ Compares r ∷ ws → made ≡ (declare_column column ∷ limits_declared column
-    (limits_by (flip relation) (limit part))) ++ more → Complete (point_at (InBounds (Some (column, relation))) seen
-    (with_declarations earlier (declare_column column ∷ limits_declared column (limits_by (flip relation) (limit part))))) (onward (onward
-    (onwards (side_tokens part) line))) (Compares r ∷ ws) more → length ws ≤ length tail → OneBound seen earlier line (x ∷ tail) made
+    (tail : List Terminal) (part : Side) (relation r : Relation) (column : List ℕ) (ws : List Terminal)
+    (more : Declarations) → x ∷ tail ≡ side_tokens part ++ Compares relation ∷ Name column ∷ Compares r ∷ ws →
+    made ≡ (declare_column column ∷ limits_declared column (limits_by (flip relation) (limit part))) ++ more →
+    Complete (point_at (InBounds (Some (column, relation))) seen
+    (with_declarations earlier (declare_column column ∷ limits_declared column
+    (limits_by (flip relation) (limit part))))) (onward (onward (onwards (side_tokens part) line)))
+    (Compares r ∷ ws) more → length ws ≤ length tail → OneBound seen earlier line (x ∷ tail) made
 both-bound seen earlier line made x tail part AtMost AtMost column ws more same is h short =
     let front = declare_column _ ∷ limits_declared column (limits_by (flip AtMost) (limit part)) in
     let on = onward (onward (onwards (side_tokens part) line)) in
     let second = second-heard seen (with_declarations earlier front) column AtMost (onward on) ws more
-    (complete-phrase (point_at (InBounds (Some (column, AtMost))) seen (with_declarations earlier front)) on (Compares AtMost) ws more h) in
+    (complete-phrase (point_at (InBounds (Some (column, AtMost))) seen (with_declarations earlier front)) on
+    (Compares AtMost) ws more h) in
     let less : length second.rest ≤ length ws = rest-shorter (side_tokens second.part) second.rest ws second.same in
     let middle : List Terminal = Compares AtMost ∷ Name column ∷ Compares AtMost ∷ side_tokens second.part in record {
       it = bounds_between part _ second.part;
@@ -497,7 +554,8 @@ both-bound seen earlier line made x tail part AtMost AtMost column ws more same 
       to = None;
       after = grind arith;
       heard = subst (λ l. Complete (point_at (InBounds None) seen (with_declarations earlier (bound_declares (bounds_between
-          part column second.part)))) l second.rest second.more) (sym (onwards-append (side_tokens part) middle line)) second.heard;
+          part column second.part)))) l second.rest second.more) (sym (onwards-append (side_tokens part) middle line))
+          second.heard;
       shorter = omega (arith, less, short);
     }
 both-bound seen earlier line made x tail part AtLeast AtLeast column ws more same is h short =
@@ -511,13 +569,15 @@ both-bound seen earlier line made x tail part AtLeast AtLeast column ws more sam
       good_it = refl;
       rest = second.rest;
       more = second.more;
-      same = same ∙ ap (λ (ys : List Terminal). side_tokens part ++ Compares AtLeast ∷ Name column ∷ Compares AtLeast ∷ ys) second.same
-          ∙ sym (append_assoc (side_tokens part) middle second.rest);
+      same = same ∙ ap (λ (ys : List Terminal). side_tokens part ++ Compares AtLeast ∷ Name column ∷ Compares
+          AtLeast ∷ ys) second.same ∙ sym (append_assoc (side_tokens part) middle second.rest);
       is = is ∙ ap (λ (ds : Declarations). front ++ ds) second.is;
       to = None;
       after = grind arith;
-      heard = subst (λ (l : ℕ → ℕ). Complete (point_at (InBounds None) seen (with_declarations earlier (bound_declares (bounds_from_above
-          part column second.part)))) l second.rest second.more) (sym (onwards-append (side_tokens part) middle line)) second.heard;
+      heard = subst (λ (l : ℕ → ℕ). Complete
+          (point_at (InBounds None) seen (with_declarations earlier (bound_declares (bounds_from_above
+          part column second.part)))) l second.rest second.more) (sym (onwards-append (side_tokens part) middle line))
+          second.heard;
       shorter = omega (arith, less, short);
     }
 both-bound seen earlier line made x tail part _ _ column ws more same is h short = absurd cc
@@ -533,10 +593,13 @@ left-bound seen earlier line made x tail left = by left.rest refl
     short = omega (arith, shorter_rest)
 
     by : (ys : List Terminal) → left.rest ≡ ys → OneBound seen earlier line (x ∷ tail) made
-    by (Compares r ∷ ws) e = both-bound _ _ _ _ x _ _ _ r _ _ _ (left.same ∙ ap (λ ys. side_tokens left.part ++ Compares left.relation
-        ∷ Name left.column ∷ ys) e) left.is (subst (λ ys. Complete (point_at (InBounds (Some (left.column, left.relation))) seen
-        (with_declarations earlier (declare_column left.column ∷ limits_declared left.column (limits_by (flip left.relation)
-        (limit left.part))))) (onward (onward (onwards (side_tokens left.part) line))) ys left.more) e left.heard) (left-shorter_tail r _ e)
+    by (Compares r ∷ ws) e = both-bound _ _ _ _ x _ _ _ r _ _ _
+        (left.same ∙ ap (λ ys. side_tokens left.part ++ Compares left.relation ∷ Name left.column ∷ ys) e) left.is
+        (subst (λ ys. Complete (point_at (InBounds (Some (left.column, left.relation))) seen
+        (with_declarations earlier (declare_column left.column ∷ limits_declared left.column
+        (limits_by (flip left.relation) (limit left.part)))))
+        (onward (onward (onwards (side_tokens left.part) line))) ys left.more) e left.heard)
+        (left-shorter_tail r _ e)
       where
         left-shorter_tail : (q : Relation) (ys : List Terminal) → left.rest ≡ Compares q ∷ ys → length ys ≤ length tail
         left-shorter_tail q ys same = omega (arith, short, ap (λ (zs : List Terminal). length zs) same)
@@ -548,11 +611,15 @@ left-bound seen earlier line made x tail left = by left.rest refl
 pub one-bound : (seen : SectionsSeen) → Reading bound_tokens bound_declared any_bound InBounds NoRelation seen
 one-bound _ _ _ _ (Opens _) _ _ no_opening _ h = absurd (false≢true no_opening)
 one-bound seen left earlier line (Compares relation) xs made no_opening after h = absurd cc
-one-bound seen left earlier line (Name column) xs _ _ _ h = column-heard _ _ _ _ _ _ (complete-phrase (point_at (InBounds left) seen earlier) line (Name column) xs _ h)
+one-bound seen left earlier line (Name column) xs _ _ _ h =
+    column-heard _ _ _ _ _ _ (complete-phrase (point_at (InBounds left) seen earlier) line (Name column) xs _ h)
 one-bound seen left earlier line (Number value) xs _ _ _ h = left-bound _ _ _ _ _ _ (left-heard _ _ _ _ _
-    (side_from-heard _ _ (here seen earlier) _ _ _ (complete-phrase (point_at (InBounds left) seen earlier) line (Number value) xs _ h)))
+    (side_from-heard _ _ (here seen earlier) _ _ _
+    (complete-phrase (point_at (InBounds left) seen earlier) line (Number value) xs _ h)))
 one-bound seen left earlier line (Sign sign) xs _ _ _ h = left-bound _ _ _ _ _ _ (left-heard _ _ _ _ _
-    (side_from-heard _ _ (here _ earlier) _ _ _ (complete-phrase (point_at (InBounds left) seen earlier) line (Sign sign) xs _ h)))
+    (side_from-heard _ _ (here _ earlier) _ _ _
+    (complete-phrase (point_at (InBounds left) seen earlier) line (Sign sign) xs _ h)))
 one-bound seen left earlier line Infinity xs _ _ _ h = left-bound _ _ _ _ _ _ (left-heard _ _ _ _ _
-    (side_from-heard _ _ (here seen earlier) _ _ _ (complete-phrase (point_at (InBounds left) seen earlier) line Infinity xs _ h)))
+    (side_from-heard _ _ (here seen earlier) _ _ _
+    (complete-phrase (point_at (InBounds left) seen earlier) line Infinity xs _ h)))
 one-bound _ _ _ _ _ _ _ _ _ h = absurd (none-some _ h)

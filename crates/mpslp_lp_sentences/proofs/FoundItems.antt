@@ -29,13 +29,15 @@ use Rattle.mpslp_lp_grammar.specs.Items as grammar_items
 
 -- an item, and the rest of the objective
 record ItemFound
-    (name : List ℕ) (seen : SectionsSeen) (earlier : Draft) (line : ℕ → ℕ) (xs : List Terminal) (made : Declarations) : Type 0 where
+    (name : List ℕ) (seen : SectionsSeen) (earlier : Draft) (line : ℕ →
+    ℕ) (xs : List Terminal) (made : Declarations) : Type 0 where
   it : Item
   rest : List Terminal
   more : Declarations
   same : xs ≡ item_tokens it ++ rest
   is : made ≡ item_declares name it ++ more
-  heard : Complete (point_at (InObjective name) seen (with_declarations earlier (item_declares name it))) (onwards (item_tokens it) line) rest more
+  heard : Complete (point_at (InObjective name) seen (with_declarations earlier (item_declares name it)))
+      (onwards (item_tokens it) line) rest more
 
 item-found : (name : List ℕ) (seen : SectionsSeen) (earlier : Draft) (line : ℕ → ℕ) (xs : List Terminal) (made : Declarations)
     → AnItem (objective_item (here seen earlier) name) line xs made → ItemFound name seen earlier line xs made
@@ -52,7 +54,15 @@ item-found name seen earlier line xs made (found_lone signs value y rest n same 
         → Heard (declares (here seen earlier) (at n z) (InObjective name) (item_declares name (a_constant signs value)))
         (onwards (constant_tokens signs value) line) (z ∷ rest) made → ItemFound name seen earlier line xs made
     from z e k = let found = unless-heard _ _ _ _ _ (onwards (constant_tokens signs value) line) (z ∷ rest) _ k in
-        record { it = a_constant _ _; rest = z ∷ rest; more = found.goes.more; same = e; is = found.goes.is; heard = found.goes.rest }
+        record {
+          it = a_constant _ _;
+          rest = z ∷ rest;
+          more = found.goes.more;
+          same = e;
+          is = found.goes.is;
+          heard =
+              found.goes.rest;
+        }
 
     by : (z : Terminal) → xs ≡ constant_tokens signs value ++ z ∷ rest
         → Heard (objective_item (here seen earlier) name (items.Lone (signed (product_of signs) value) (at n z)))
@@ -83,11 +93,13 @@ item_declared name earlier part = item_declares name part
 abbrev in_objective : List ℕ → Unit {0} → Place
 in_objective name from = InObjective name
 
-one-item : (name : List ℕ) (seen : SectionsSeen) → Reading item_tokens (item_declared name) is_signed_item (in_objective name) Anything seen
+one-item : (name : List ℕ) (seen : SectionsSeen) →
+    Reading item_tokens (item_declared name) is_signed_item (in_objective name) Anything seen
 one-item _ _ _ _ _ (Opens _) _ _ no_opening _ h = absurd (false≢true no_opening)
 one-item name seen _ earlier line (Sign sign) xs _ _ after h =
     let found = item-found _ _ _ _ _ _
-    (sign-heard _ (here _ earlier) _ _ _ _ (complete-phrase (point_at (InObjective name) seen earlier) line (Sign sign) xs _ h)) in record {
+    (sign-heard _ (here _ earlier) _ _ _ _ (complete-phrase (point_at (InObjective name) seen earlier) line (Sign sign)
+    xs _ h)) in record {
       it = found.it;
       good_it = grind arith;
       rest = found.rest;
@@ -104,7 +116,8 @@ one-item _ _ _ _ _ _ _ _ _ _ h = absurd (none-some _ h)
 -- ---- all items
 
 record ItemsFound (good : List Item → Bool)
-    (name : List ℕ) (seen : SectionsSeen) (earlier : Draft) (line : ℕ → ℕ) (xs : List Terminal) (made : Declarations) : Type 0 where
+    (name : List ℕ) (seen : SectionsSeen) (earlier : Draft) (line : ℕ →
+    ℕ) (xs : List Terminal) (made : Declarations) : Type 0 where
   its : List Item
   good_its : good its ≡ true
   word : SectionWord
@@ -118,8 +131,10 @@ record ItemsFound (good : List Item → Bool)
       (onwards (flat_map item_tokens its) line) (Opens word ∷ rest) more
 
 later-items : (name : List ℕ) (seen : SectionsSeen) (earlier : Draft) (line : ℕ → ℕ) (xs : List Terminal) (made : Declarations)
-    → Complete (point_at (InObjective name) seen earlier) line xs made → ItemsFound (list_all is_signed_item) name seen earlier line xs made
-later-items name seen earlier line xs made h = let all = all-phrases _ _ _ _ _ _ (one-item _ _) (length xs) tt _ _ _ _ (omega arith) tt h in
+    → Complete (point_at (InObjective name) seen earlier) line xs made →
+    ItemsFound (list_all is_signed_item) name seen earlier line xs made
+later-items name seen earlier line xs made h = let all =
+    all-phrases _ _ _ _ _ _ (one-item _ _) (length xs) tt _ _ _ _ (omega arith) tt h in
     let flat : all_declare (item_declared name) earlier all.its ≡ flat_map (item_declares name) all.its =
     all-flat (item_declares name) all.its earlier in record {
       its = all.its;
@@ -147,7 +162,8 @@ items-after name seen earlier line _ _ first = let declared = item_declares name
       more = all.more;
       same = first.same ∙ ap (λ ys. item_tokens first.it ++ ys) all.same
           ∙ sym (append_assoc (item_tokens first.it) (flat_map item_tokens all.its) (Opens all.word ∷ all.rest));
-      is = first.is ∙ ap (λ ds. declared ++ ds) all.is ∙ sym (append_assoc declared (flat_map (item_declares name) all.its) all.more);
+      is = first.is ∙ ap (λ ds. declared ++ ds) all.is
+          ∙ sym (append_assoc declared (flat_map (item_declares name) all.its) all.more);
       place = all.place;
       may = all.may;
       heard = complete-joined all.place seen earlier declared (flat_map (item_declares name) all.its)
@@ -207,11 +223,14 @@ body-heard : (sense : Sense) (line : ℕ → ℕ) (xs : List Terminal) (made : D
 body-heard _ _ [] _ h = absurd (none-some _ h)
 body-heard sense line (Name name ∷ []) made h = grind arith
 body-heard sense line (Name name ∷ Colon ∷ xs) _ h = let context = here after_word empty_draft in
-    let second = heard-ahead (objective_named context sense name) (onward line) Colon xs _ (heard-next (λ first. ahead >>= objective_named
-    context sense name) line (Name name) (Colon ∷ xs) _ (heard-ahead (objective_from context sense) line (Name name) (Colon ∷ xs) _ h)) in
+    let second = heard-ahead (objective_named context sense name) (onward line) Colon xs _
+    (heard-next (λ first. ahead >>= objective_named context sense name) line (Name name) (Colon ∷ xs) _
+    (heard-ahead (objective_from context sense) line (Name name) (Colon ∷ xs) _ h)) in
     let found = unless-heard context (at (line 1) Colon) (refusals_in_turn empty_draft (objective_declared sense name)) _
-    (objective_declared sense name) (onward (onward line)) xs _ (heard-next (λ colon. declares context (at (line 1) Colon) (BeforeItems
-    name) (objective_declared sense name)) (onward line) Colon xs _ second) in let all = all-items _ _ _ _ _ _ found.goes.rest in record {
+    (objective_declared sense name) (onward (onward line)) xs _
+    (heard-next (λ colon. declares context (at (line 1) Colon) (BeforeItems
+    name) (objective_declared sense name)) (onward line) Colon xs _ second) in
+    let all = all-items _ _ _ _ _ _ found.goes.rest in record {
       label = Some name;
       its = all.its;
       good_its = all.good_its;
@@ -224,9 +243,11 @@ body-heard sense line (Name name ∷ Colon ∷ xs) _ h = let context = here afte
       may = all.may;
       heard = all.heard;
     }
-body-heard sense line (Name name ∷ y ∷ xs) _ h = let context = here after_word empty_draft in let first = first_item_declared sense name in
-    let second = heard-ahead (objective_named context sense name) (onward line) y xs _ (heard-next (λ token. ahead >>= objective_named
-    context sense name) line (Name name) (y ∷ xs) _ (heard-ahead (objective_from context sense) line (Name name) (y ∷ xs) _ h)) in
+body-heard sense line (Name name ∷ y ∷ xs) _ h = let context = here after_word empty_draft in
+    let first = first_item_declared sense name in
+    let second = heard-ahead (objective_named context sense name) (onward line) y xs _
+    (heard-next (λ token. ahead >>= objective_named context sense name) line (Name name) (y ∷ xs) _
+    (heard-ahead (objective_from context sense) line (Name name) (y ∷ xs) _ h)) in
     let found = unless-heard context
     (at (line 1) y) (refusals_in_turn empty_draft first) (InObjective default_objective) first (onward line) (y ∷ xs) _ second in
     let all = later-items default_objective _ (with_declarations empty_draft first) (onward line) _ _ found.goes.rest in record {
@@ -245,7 +266,8 @@ body-heard sense line (Name name ∷ y ∷ xs) _ h = let context = here after_wo
 body-heard sense line (x ∷ xs) _ h = let context = here after_word empty_draft in
     let found = unless-heard context (at (line 0) x) (refusals_in_turn empty_draft (objective_declared sense default_objective))
     (BeforeItems default_objective) (objective_declared sense default_objective) line
-    (x ∷ xs) _ (heard-ahead (objective_from context sense) line x xs _ h) in let all = all-items _ _ _ _ _ _ found.goes.rest in record {
+    (x ∷ xs) _ (heard-ahead (objective_from context sense) line x xs _ h) in
+    let all = all-items _ _ _ _ _ _ found.goes.rest in record {
       label = None;
       its = all.its;
       good_its = all.good_its;
@@ -274,7 +296,8 @@ objective-from_body sense _ _ _ body = record {
   heard = body.heard;
 }
 
-pub objective-heard : (line : ℕ → ℕ) (xs : List Terminal) (made : Declarations) → Complete start line xs made → ObjectiveFound line xs made
+pub objective-heard : (line : ℕ → ℕ) (xs : List Terminal) (made : Declarations) → Complete start line xs made →
+    ObjectiveFound line xs made
 objective-heard line (Opens words.Minimize ∷ xs) _ h =
     objective-from_body Minimize _ xs _ (body-heard _ _ _ _ (complete-phrase start line (Opens words.Minimize) xs _ h))
 objective-heard line (Opens words.Maximize ∷ xs) _ h =
@@ -293,7 +316,8 @@ record TermFound (seen : SectionsSeen) (earlier : Draft)
   column : List ℕ
   rest : List Terminal
   same : xs ≡ term_tokens (term signs number column) ++ rest
-  heard : Complete (in_row seen earlier name left ((column, coefficient signs number) ∷ [])) (onwards (term_tokens (term signs number column)) line) rest made
+  heard : Complete (in_row seen earlier name left ((column, coefficient signs number) ∷ []))
+      (onwards (term_tokens (term signs number column)) line) rest made
 
 term-found : (seen : SectionsSeen)
     (earlier : Draft) (name : List ℕ) (left : Option (Limit × Relation)) (line : ℕ → ℕ) (xs : List Terminal) (made : Declarations)
@@ -323,10 +347,12 @@ after_left-heard seen earlier name value line xs made h =
     }
   where
     by : (relation : Relation) (ys : List Terminal) → Heard (next >>= row_first (here seen earlier) (without_terms name
-        (Some (value, relation)))) (onward line) ys made → TermFound seen earlier name (Some (value, relation)) (onward line) ys made
+        (Some (value, relation)))) (onward line) ys made →
+        TermFound seen earlier name (Some (value, relation)) (onward line) ys made
     by relation [] k = absurd cc
     by relation (y ∷ ys) k = term-found seen earlier name (Some (value, relation)) (onward line) (y ∷ ys) made
-        (item-heard y ys (here seen earlier) (row_item (here seen earlier) (without_terms name (Some (value, relation)))) (onward line) made
+        (item-heard y ys (here seen earlier)
+        (row_item (here seen earlier) (without_terms name (Some (value, relation)))) (onward line) made
         (heard-next (row_first (here seen earlier) (without_terms name (Some (value, relation)))) (onward line) y ys made k))
 
 abbrev left_tokens : Option (Side × Relation) → List Terminal
@@ -339,7 +365,8 @@ left_of (Some left) = Some (limit left.0, left.1)
 
 -- a row after its label, up to its first term
 record Begun
-    (seen : SectionsSeen) (earlier : Draft) (name : List ℕ) (line : ℕ → ℕ) (xs : List Terminal) (made : Declarations) : Type 0 where
+    (seen : SectionsSeen) (earlier : Draft) (name : List ℕ) (line : ℕ →
+    ℕ) (xs : List Terminal) (made : Declarations) : Type 0 where
   left : Option (Side × Relation)
   tail : List Terminal
   same : xs ≡ left_tokens left ++ tail
@@ -355,18 +382,20 @@ begun-sided : (seen : SectionsSeen) (earlier : Draft)
 begun-sided seen earlier name part line _ _ made same after = record {
   left = Some (part, after.relation);
   tail = after.tail;
-  same = same ∙ ap (λ ys. side_tokens part ++ ys) after.same ∙ sym (append_assoc (side_tokens part) (Compares after.relation ∷ []) after.tail);
+  same = same ∙ ap (λ ys. side_tokens part ++ ys) after.same
+      ∙ sym (append_assoc (side_tokens part) (Compares after.relation ∷ []) after.tail);
   first = subst (λ l. TermFound seen earlier name (Some (limit part, after.relation)) l after.tail made)
       (sym (onwards-append (side_tokens part) (Compares after.relation ∷ []) line)) after.first;
 }
 
 -- the tokens of a number with its signs as a side, of which at most one is a sign
 abbrev IsSide : List SignOf → Decimal → Type 0
-IsSide signs value = (part : Side) × (limit part ≡ limit_of (signed (product_of signs) value)) × (side_tokens part ≡ constant_tokens signs value)
+IsSide signs value = (part : Side) × (limit part ≡ limit_of (signed (product_of signs) value))
+    × (side_tokens part ≡ constant_tokens signs value)
 
 number-begins : (seen : SectionsSeen) (earlier : Draft) (name : List ℕ) (line : ℕ → ℕ) (xs : List Terminal) (made : Declarations)
-    → ((signs : List SignOf) (value : Decimal) (rest : List Terminal) → xs ≡ constant_tokens signs value ++ rest → IsSide signs value)
-    → AnItem (row_number (here seen earlier) name) line xs made → Begun seen earlier name line xs made
+    → ((signs : List SignOf) (value : Decimal) (rest : List Terminal) → xs ≡ constant_tokens signs value ++ rest →
+    IsSide signs value) → AnItem (row_number (here seen earlier) name) line xs made → Begun seen earlier name line xs made
 number-begins = grind
     (arith, found_term, begun-plain, term-found, found_lone, constant_tokens, here, at, onwards, begun-sided, after_left-heard)
 
@@ -377,7 +406,8 @@ plain-side v tail (sign ∷ signs) value rest e = absurd cc
 
 signed-side : (s : SignOf) (v : Decimal) (tail : List Terminal) (signs : List SignOf) (value : Decimal) (rest : List Terminal)
     → Sign s ∷ Number v ∷ tail ≡ constant_tokens signs value ++ rest → IsSide signs value
-signed-side s v _ (sign ∷ []) value _ e = (side (Some sign) (Some value), ap (λ q. limit_of (signed q value)) (sym (grind arith)), refl)
+signed-side s v _ (sign ∷ []) value _ e =
+    (side (Some sign) (Some value), ap (λ q. limit_of (signed q value)) (sym (grind arith)), refl)
 signed-side s v tail _ value rest e = absurd cc
 
 begun-heard : (seen : SectionsSeen)
@@ -385,14 +415,17 @@ begun-heard : (seen : SectionsSeen)
     → Heard (row_from (here seen earlier) name (at (line 0) x)) (onward line) xs made → Begun seen earlier name line (x ∷ xs) made
 begun-heard _ _ _ _ Infinity xs _ h = begun-sided _ _ _ (side None None) _ _ xs _ refl (after_left-heard _ _ _ _ _ _ _ h)
 begun-heard _ _ _ _ (Number _) _ _ h = number-begins _ _ _ _ _ _ (plain-side _ _) (first_number-heard _ _ _ _ _ h)
-begun-heard _ _ _ line (Name column) xs _ h = begun-plain _ _ _ _ _ _ (term-found _ _ _ _ _ _ _ (found_term [] None column xs (line 0) refl h))
+begun-heard _ _ _ line (Name column) xs _ h =
+    begun-plain _ _ _ _ _ _ (term-found _ _ _ _ _ _ _ (found_term [] None column xs (line 0) refl h))
 begun-heard seen earlier name line (Sign sign) (Infinity ∷ xs) made h = begun-sided _ _ _
-    (side (Some sign) None) _ _ _ _ refl (subst (λ v. AfterLeft seen earlier name v (onward (onward line)) xs made) (infinity-is sign)
-    (after_left-heard _ _ _ _ _ _ _ (heard-next (λ word. row_after_left (here seen earlier) name (grammar_items.infinity sign))
+    (side (Some sign) None) _ _ _ _ refl (subst (λ v. AfterLeft seen earlier name v (onward (onward line)) xs made)
+    (infinity-is sign) (after_left-heard _ _ _ _ _ _ _
+    (heard-next (λ word. row_after_left (here seen earlier) name (grammar_items.infinity sign))
     (onward line) Infinity xs _ (heard-ahead (row_signed (here _ _) name sign) (onward line) Infinity xs _ h))))
 begun-heard seen earlier name line (Sign sign) (Number value ∷ xs) _ h = number-begins _ _ _ _ _ _ (signed-side _ _ _)
-    (item-from_signed _ _ _ _ _ (number-heard _ _ _ _ _ _ (heard-next (λ number. number_item sign value >>= row_number (here seen earlier)
-    name) (onward line) (Number value) xs _ (heard-ahead (row_signed (here _ _) name sign) (onward line) (Number value) xs _ h))))
+    (item-from_signed _ _ _ _ _ (number-heard _ _ _ _ _ _
+    (heard-next (λ number. number_item sign value >>= row_number (here seen earlier) name) (onward line)
+    (Number value) xs _ (heard-ahead (row_signed (here _ _) name sign) (onward line) (Number value) xs _ h))))
 begun-heard seen earlier name line (Sign sign) (y ∷ xs) _ h = begun-plain _ _ _ _ _ _ (term-found _ _ _ _ _ _ _
     (sign-heard _ (here seen earlier) _ _ _ _ (heard-ahead (row_signed (here seen earlier) name sign) (onward line) y xs _ h)))
 begun-heard _ _ _ _ _ _ _ h = absurd (none-some _ h)
@@ -411,7 +444,8 @@ after_colon _ _ _ _ [] _ h = absurd (none-some _ h)
 after_colon _ _ name line (y ∷ xs) _ h = begun-heard _ _ _ _ y _ _ (heard-next (row_from (here _ _) name) line y xs _ h)
 
 named-heard : (seen : SectionsSeen) (earlier : Draft) (name : List ℕ) (line : ℕ → ℕ) (xs : List Terminal) (made : Declarations)
-    → Heard (colon >>= row_named (here seen earlier) name) (onward line) xs made → Labelled seen earlier line (Name name ∷ xs) made
+    → Heard (colon >>= row_named (here seen earlier) name) (onward line) xs made →
+    Labelled seen earlier line (Name name ∷ xs) made
 named-heard _ _ _ _ [] _ h = absurd (none-some _ h)
 named-heard seen earlier name line (Colon ∷ xs) _ h = record {
   label = Some name;
@@ -435,15 +469,18 @@ named-heard seen earlier name line (y ∷ xs) _ h = let default = default_row (h
 }
 
 labelled-heard : (seen : SectionsSeen) (earlier : Draft) (line : ℕ → ℕ) (x : Terminal) (xs : List Terminal) (made : Declarations)
-    → is_no_opening x ≡ true → Complete (point_at BetweenRows seen earlier) line (x ∷ xs) made → Labelled seen earlier line (x ∷ xs) made
+    → is_no_opening x ≡ true → Complete (point_at BetweenRows seen earlier) line (x ∷ xs) made →
+    Labelled seen earlier line (x ∷ xs) made
 labelled-heard _ _ _ (Opens _) _ _ no_opening h = absurd (false≢true no_opening)
-labelled-heard seen earlier line (Name name) xs _ _ h = named-heard _ _ _ _ _ _ (complete-phrase (point_at BetweenRows seen earlier) line (Name name) xs _ h)
+labelled-heard seen earlier line (Name name) xs _ _ h =
+    named-heard _ _ _ _ _ _ (complete-phrase (point_at BetweenRows seen earlier) line (Name name) xs _ h)
 labelled-heard seen earlier line x xs _ _ h = grind (arith, begun-heard, here)
 
 -- ---- further terms, and the end of a row
 
 record Ended (seen : SectionsSeen) (earlier : Draft) (name : List ℕ)
-    (left : Option (Limit × Relation)) (before : List Pair) (line : ℕ → ℕ) (xs : List Terminal) (made : Declarations) : Type 0 where
+    (left : Option (Limit × Relation)) (before : List Pair) (line : ℕ →
+    ℕ) (xs : List Terminal) (made : Declarations) : Type 0 where
   terms : List Term
   good : list_all is_signed_term terms ≡ true
   relation : Relation
@@ -453,21 +490,26 @@ record Ended (seen : SectionsSeen) (earlier : Draft) (name : List ℕ)
   same : xs ≡ terms_tokens terms ++ Compares relation ∷ (side_tokens part ++ rest)
   fits : fits_left left relation ≡ true
   is : made ≡ row_declared (row_at name left (before ++ map pair terms)) (row_limits left relation (limit part)) ++ more
-  heard : Complete (point_at BetweenRows seen (with_declarations earlier (row_declared (row_at name left (before ++ map pair terms))
-      (row_limits left relation (limit part))))) (onwards (terms_tokens terms ++ Compares relation ∷ side_tokens part) line) rest more
+  heard : Complete (point_at BetweenRows seen
+      (with_declarations earlier (row_declared (row_at name left (before ++ map pair terms))
+      (row_limits left relation (limit part)))))
+      (onwards (terms_tokens terms ++ Compares relation ∷ side_tokens part) line) rest more
 
-end-heard : (seen : SectionsSeen) (earlier : Draft) (name : List ℕ) (left : Option (Limit × Relation)) (before : List Pair) (line : ℕ → ℕ)
-    (relation : Relation) (n : ℕ) (xs : List Terminal) (made : Declarations) → Heard (row_end (here seen earlier) (row_at name left before)
-    relation (at n (Compares relation))) (onward line) xs made → Ended seen earlier name left before line (Compares relation ∷ xs) made
+end-heard : (seen : SectionsSeen) (earlier : Draft) (name : List ℕ) (left : Option (Limit × Relation))
+    (before : List Pair) (line : ℕ → ℕ) (relation : Relation) (n : ℕ) (xs : List Terminal) (made : Declarations) →
+    Heard (row_end (here seen earlier) (row_at name left before) relation (at n (Compares relation))) (onward line)
+    xs made → Ended seen earlier name left before line (Compares relation ∷ xs) made
 end-heard seen earlier name left before line relation n xs made h = by (fits_left left relation) refl h
   where
-    by : (b : Bool) → fits_left left relation ≡ b → Heard (if b then (side_rule (here seen earlier) >>= row_whole (here seen earlier)
-        (row_at name left before) relation) else refuses (here seen earlier) (at n (Compares relation)) MixedSenses) (onward line) xs made
+    by : (b : Bool) → fits_left left relation ≡ b →
+        Heard (if b then (side_rule (here seen earlier) >>= row_whole (here seen earlier) (row_at name left before)
+        relation) else refuses (here seen earlier) (at n (Compares relation)) MixedSenses) (onward line) xs made
         → Ended seen earlier name left before line (Compares relation ∷ xs) made
     by false fits k = absurd cc
     by true fits k =
         let part = side-heard xs (here seen earlier) (row_whole (here seen earlier) (row_at name left before) relation)
-        (onward line) made k in let declared = row_declared (row_at name left before) (row_limits left relation (limit part.part)) in
+        (onward line) made k in
+        let declared = row_declared (row_at name left before) (row_limits left relation (limit part.part)) in
         let found = unless-heard (here seen earlier) part.last (refusals_in_turn earlier declared) BetweenRows declared
         (onwards (side_tokens part.part) (onward line)) part.rest made part.heard in
         let all : before ++ map pair [] ≡ before = append-nil before in record {
@@ -479,7 +521,8 @@ end-heard seen earlier name left before line relation n xs made h = by (fits_lef
           more = found.goes.more;
           same = ap (λ (ys : List Terminal). Compares relation ∷ ys) part.same;
           fits = fits;
-          is = found.goes.is ∙ ap (λ (ts : List Pair). row_declared (row_at name left ts) (row_limits left relation (limit part.part)) ++ found.goes.more) (sym all);
+          is = found.goes.is ∙ ap (λ (ts : List Pair). row_declared (row_at name left ts)
+              (row_limits left relation (limit part.part)) ++ found.goes.more) (sym all);
           heard = subst (λ (ts : List Pair). Complete (point_at BetweenRows seen
               (with_declarations earlier (row_declared (row_at name left ts) (row_limits left relation (limit part.part)))))
               (onwards (side_tokens part.part) (onward line)) part.rest found.goes.more) (sym all) found.goes.rest;
@@ -499,22 +542,28 @@ term-shorter signs number column rest xs same = subst (λ ys. length rest < leng
     by (sign ∷ _) v = of_more (Sign sign) _
 
 terms-heard : (n : ℕ) (seen : SectionsSeen) (earlier : Draft)
-    (name : List ℕ) (left : Option (Limit × Relation)) (before : List Pair) (line : ℕ → ℕ) (xs : List Terminal) (made : Declarations)
-    → length xs ≤ n → Complete (in_row seen earlier name left before) line xs made → Ended seen earlier name left before line xs made
-terms-heard n seen earlier name left before line (Compares relation ∷ xs) made _ h = end-heard seen earlier name left before line relation
-    (line 0) xs made (complete-phrase (in_row seen earlier name left before) line (Compares relation) xs made h)
+    (name : List ℕ) (left : Option (Limit × Relation)) (before : List Pair) (line : ℕ →
+    ℕ) (xs : List Terminal) (made : Declarations) → length xs ≤ n →
+    Complete (in_row seen earlier name left before) line xs made → Ended seen earlier name left before line xs made
+terms-heard n seen earlier name left before line (Compares relation ∷ xs) made _ h =
+    end-heard seen earlier name left before line relation (line 0) xs made
+    (complete-phrase (in_row seen earlier name left before) line (Compares relation) xs made h)
 terms-heard zero seen earlier name left before line (Sign sign ∷ xs) made fits h = absurd (omega (arith, fits))
 terms-heard (suc n) seen earlier name left before line (Sign sign ∷ xs) made fits h = by (sign-heard xs (here seen earlier) sign
-    (row_item (here seen earlier) (row_at name left before)) line made (complete-phrase (in_row seen earlier name left before) line (Sign
-    sign) xs made h)) (λ more tokens l short k. terms-heard n seen earlier name left more l tokens made (omega (arith, fits, short)) k)
+    (row_item (here seen earlier) (row_at name left before)) line made
+    (complete-phrase (in_row seen earlier name left before) line (Sign sign) xs made h))
+    (λ more tokens l short k. terms-heard n seen earlier name left more l tokens made (omega (arith, fits, short)) k)
   where
     joined : (signs : List SignOf) (number : Option Decimal) (column : List ℕ) (rest : List Terminal) → Sign sign ∷ xs
-        ≡ term_tokens (term signs number column) ++ rest → Ended seen earlier name left (before ++ (column, coefficient signs number) ∷ [])
-        (onwards (term_tokens (term signs number column)) line) rest made → Ended seen earlier name left before line (Sign sign ∷ xs) made
+        ≡ term_tokens (term signs number column) ++ rest →
+        Ended seen earlier name left (before ++ (column, coefficient signs number) ∷ [])
+        (onwards (term_tokens (term signs number column)) line) rest made →
+        Ended seen earlier name left before line (Sign sign ∷ xs) made
     joined signs number column rest same later = let first : Term = term signs number column in
         let value : Pair = (column, coefficient signs number) in
         let all : (before ++ value ∷ []) ++ map pair later.terms ≡ before ++ map pair (first ∷ later.terms) = append_assoc before
-        (value ∷ []) (map pair later.terms) in let end : List Terminal = Compares later.relation ∷ side_tokens later.part in
+        (value ∷ []) (map pair later.terms) in
+        let end : List Terminal = Compares later.relation ∷ side_tokens later.part in
         let declared : List Pair → Declarations =
         λ ts. row_declared (row_at name left ts) (row_limits left later.relation (limit later.part)) in record {
           terms = first ∷ later.terms;
@@ -528,21 +577,25 @@ terms-heard (suc n) seen earlier name left before line (Sign sign ∷ xs) made f
           fits = later.fits;
           is = later.is ∙ ap (λ (ts : List Pair). declared ts ++ later.more) all;
           heard = subst (λ (ts : List Pair). Complete (point_at BetweenRows seen (with_declarations earlier (declared ts)))
-              (onwards (terms_tokens (first ∷ later.terms) ++ end) line) later.rest later.more) all (subst (λ (l : ℕ → ℕ). Complete
-              (point_at BetweenRows seen (with_declarations earlier (declared ((before ++ value ∷ []) ++ map pair later.terms))))
-              l later.rest later.more) (sym (ap (λ (tokens : List Terminal). onwards tokens line) (append_assoc (term_tokens first)
-              (terms_tokens later.terms) end) ∙ onwards-append (term_tokens first) (terms_tokens later.terms ++ end) line)) later.heard);
+              (onwards (terms_tokens (first ∷ later.terms) ++ end) line) later.rest later.more) all
+              (subst (λ (l : ℕ → ℕ). Complete
+              (point_at BetweenRows seen (with_declarations earlier
+              (declared ((before ++ value ∷ []) ++ map pair later.terms)))) l later.rest later.more)
+              (sym (ap (λ (tokens : List Terminal). onwards tokens line) (append_assoc (term_tokens first)
+              (terms_tokens later.terms) end) ∙ onwards-append (term_tokens first) (terms_tokens later.terms ++ end)
+              line)) later.heard);
         }
 
-    taken : (signs : List SignOf) (number : Option Decimal) (column : List ℕ) (rest : List Terminal) (n : ℕ) (l : ℕ → ℕ) (b : Bool)
-        → Heard (if b then refuses (here seen earlier) (at n (Name column)) DuplicateEntry else goes_to
+    taken : (signs : List SignOf) (number : Option Decimal) (column : List ℕ) (rest : List Terminal) (n : ℕ) (l : ℕ →
+        ℕ) (b : Bool) → Heard (if b then refuses (here seen earlier) (at n (Name column)) DuplicateEntry else goes_to
         (here seen earlier) (InRow (row_at name left (before ++ (column, coefficient signs number) ∷ []))) []) l rest made
         → Complete (in_row seen earlier name left (before ++ (column, coefficient signs number) ∷ [])) l rest made
     taken = grind arith
 
     by : AnItem (row_item (here seen earlier) (row_at name left before)) line (Sign sign ∷ xs) made → ((more : List Pair)
-        (tokens : List Terminal) (l : ℕ → ℕ) → length tokens < length (Sign sign ∷ xs) → Complete (in_row seen earlier name left more)
-        l tokens made → Ended seen earlier name left more l tokens made) → Ended seen earlier name left before line (Sign sign ∷ xs) made
+        (tokens : List Terminal) (l : ℕ → ℕ) → length tokens < length (Sign sign ∷ xs) →
+        Complete (in_row seen earlier name left more) l tokens made →
+        Ended seen earlier name left more l tokens made) → Ended seen earlier name left before line (Sign sign ∷ xs) made
     by (found_term signs number column rest n same k) later = joined signs number column rest same
         (later (before ++ (column, coefficient signs number) ∷ []) rest (onwards (term_tokens (term signs number column)) line)
         (term-shorter signs number column rest (Sign sign ∷ xs) same) (taken signs number column rest n
@@ -560,35 +613,41 @@ record RowOf (place : ℕ) (label : Option (List ℕ))
     (left : Option (Side × Relation)) (first : Term) (terms : List Term) (relation : Relation) (part : Side) : Type 0 where
   it : Row
   good : is_row it ≡ true
-  tokens : row_tokens it ≡ label_tokens label ++ (left_tokens left ++ (term_tokens first ++ (terms_tokens terms ++ Compares relation ∷ side_tokens part)))
+  tokens : row_tokens it ≡ label_tokens
+      label ++ (left_tokens left ++ (term_tokens first ++ (terms_tokens terms ++ Compares relation ∷ side_tokens part)))
   declared : row_declared (row_at (row_name place label) (left_of left) (map pair (first ∷ terms)))
       (row_limits (left_of left) relation (limit part)) ≡ row_declares (place, it)
 
-between-tokens : (label : Option (List ℕ)) (left : Side) (relation : Relation) (first : Term) (terms : List Term) (end : List Terminal)
-    → label_tokens label ++ (side_tokens left ++ Compares relation ∷ ((term_tokens first ++ terms_tokens terms) ++ end))
+between-tokens : (label : Option (List ℕ)) (left : Side) (relation : Relation) (first : Term) (terms : List Term)
+    (end : List Terminal) → label_tokens
+    label ++ (side_tokens left ++ Compares relation ∷ ((term_tokens first ++ terms_tokens terms) ++ end))
     ≡ label_tokens label ++ ((side_tokens left ++ Compares relation ∷ []) ++ (term_tokens first ++ (terms_tokens terms ++ end)))
 between-tokens = grind (arith, append_assoc)
 
 row-of : (place : ℕ)
-    (label : Option (List ℕ)) (left : Option (Side × Relation)) (first : Term) (terms : List Term) (relation : Relation) (part : Side)
-    → list_all is_signed_term terms ≡ true → fits_left (left_of left) relation ≡ true → RowOf place label left first terms relation part
+    (label : Option (List ℕ)) (left : Option (Side × Relation)) (first : Term) (terms : List Term) (relation : Relation)
+    (part : Side) → list_all is_signed_term terms ≡ true → fits_left (left_of left) relation ≡ true →
+    RowOf place label left first terms relation part
 row-of _ label None first terms relation part good _ = record {
   it = row _ (first ∷ terms) relation part;
   good = good;
-  tokens = ap (λ tokens. label_tokens label ++ tokens) (append_assoc (term_tokens _) (terms_tokens terms) (Compares relation ∷ side_tokens part));
+  tokens = ap (λ tokens. label_tokens label ++ tokens)
+      (append_assoc (term_tokens _) (terms_tokens terms) (Compares relation ∷ side_tokens part));
   declared = declared-is _ relation (limit part) (first ∷ terms);
 }
 row-of place label (Some (lower, AtMost)) first terms AtMost part good _ = record {
   it = row_between _ _ (first ∷ terms) part;
   good = good;
   tokens = between-tokens _ _ _ _ terms (Compares AtMost ∷ side_tokens part);
-  declared = ap (λ more. declare_row (row_name place label) (by_limits (limit lower) (limit part)) ∷ more) (terms-declare (row_name place label) (first ∷ terms));
+  declared = ap (λ more. declare_row (row_name place label) (by_limits (limit lower) (limit part)) ∷ more)
+      (terms-declare (row_name place label) (first ∷ terms));
 }
 row-of place label (Some (upper, AtLeast)) first terms AtLeast part good _ = record {
   it = row_from_above _ _ (first ∷ terms) part;
   good = good;
   tokens = between-tokens _ _ _ _ terms (Compares AtLeast ∷ side_tokens part);
-  declared = ap (λ more. declare_row (row_name place label) (by_limits (limit part) (limit upper)) ∷ more) (terms-declare (row_name place label) (first ∷ terms));
+  declared = ap (λ more. declare_row (row_name place label) (by_limits (limit part) (limit upper)) ∷ more)
+      (terms-declare (row_name place label) (first ∷ terms));
 }
 row-of place label _ first terms _ part good fits = absurd cc
 
@@ -598,7 +657,8 @@ end-shorter : (terms : List Term) (relation : Relation) (part : Side) (rest xs :
 end-shorter terms relation part rest xs same =
     by (rest-shorter (terms_tokens terms) (Compares relation ∷ (side_tokens part ++ rest)) _ same) (rest-shorter _ _ _ refl)
   where
-    by : length (Compares relation ∷ (side_tokens part ++ rest)) ≤ length xs → length rest ≤ length (side_tokens part ++ rest) → length rest < length xs
+    by : length (Compares relation ∷ (side_tokens part ++ rest)) ≤ length xs →
+        length rest ≤ length (side_tokens part ++ rest) → length rest < length xs
     by a b = omega (arith, a, b)
 
 abbrev pub between_rows : Unit {0} → Place
@@ -606,25 +666,32 @@ between_rows from = BetweenRows
 
 pub one-row : (seen : SectionsSeen) → Reading row_tokens row_declared_at is_row between_rows Anything seen
 one-row seen from earlier line x xs made no_opening after h = let label = labelled-heard _ _ _ x _ _ no_opening h in
-    let begun = label.begun in let name = row_name (length _ + 1) label.label in
-    let first = begun.first in let head : Term = term first.signs first.number first.column in
+    let begun = label.begun in
+    let name = row_name (length _ + 1) label.label in
+    let first = begun.first in
+    let head : Term = term first.signs first.number first.column in
     let on : ℕ → ℕ = onwards (term_tokens head) (onwards (left_tokens begun.left) (onwards (label_tokens label.label) line)) in
     let ended = terms-heard (length first.rest) _ _ _ _ _ _ _ _ (omega arith) first.heard in
     let end : List Terminal = Compares ended.relation ∷ side_tokens ended.part in
-    let whole = row-of (length earlier.rows + 1) label.label begun.left head ended.terms ended.relation ended.part ended.good ended.fits in
+    let whole = row-of (length earlier.rows + 1) label.label begun.left head ended.terms ended.relation ended.part
+    ended.good ended.fits in
     let front : List Terminal =
     label_tokens label.label ++ (left_tokens begun.left ++ (term_tokens head ++ (terms_tokens ended.terms ++ end))) in
-    let all : x ∷ xs ≡ front ++ ended.rest = label.same ∙ ap (λ (ys : List Terminal). label_tokens label.label ++ ys) (begun.same ∙ ap
-    (λ (ys : List Terminal). left_tokens begun.left ++ ys) (first.same ∙ ap (λ (ys : List Terminal). term_tokens head ++ ys) ended.same))
-    ∙ (grind (arith, append_assoc)) in
+    let all : x ∷ xs ≡ front ++ ended.rest =
+    label.same ∙ ap (λ (ys : List Terminal). label_tokens label.label ++ ys)
+    (begun.same ∙ ap (λ (ys : List Terminal). left_tokens begun.left ++ ys)
+    (first.same ∙ ap (λ (ys : List Terminal). term_tokens head ++ ys) ended.same)) ∙ (grind (arith, append_assoc)) in
     let lines : onwards (row_tokens whole.it) line ≡ onwards (terms_tokens ended.terms ++ end) on =
     ap (λ (tokens : List Terminal). onwards tokens line) whole.tokens
     ∙ (grind (arith, onwards-append, onwards)) in
     let short : length ended.rest < length first.rest =
     end-shorter ended.terms ended.relation ended.part ended.rest first.rest ended.same in
-    let shorter_first : length first.rest ≤ length begun.tail = rest-shorter (term_tokens head) first.rest begun.tail first.same in
-    let shorter_left : length begun.tail ≤ length label.tail = rest-shorter (left_tokens begun.left) begun.tail label.tail begun.same in
-    let shorter_label : length label.tail ≤ length (x ∷ xs) = rest-shorter (label_tokens label.label) label.tail (x ∷ xs) label.same in
+    let shorter_first : length first.rest ≤ length begun.tail =
+    rest-shorter (term_tokens head) first.rest begun.tail first.same in
+    let shorter_left : length begun.tail ≤ length label.tail =
+    rest-shorter (left_tokens begun.left) begun.tail label.tail begun.same in
+    let shorter_label : length label.tail ≤ length (x ∷ xs) =
+    rest-shorter (label_tokens label.label) label.tail (x ∷ xs) label.same in
     record {
       it = whole.it;
       good_it = whole.good;
@@ -636,17 +703,22 @@ one-row seen from earlier line x xs made no_opening after h = let label = labell
       after = tt;
       heard = subst (λ (ds : Declarations). Complete (point_at BetweenRows seen (with_declarations earlier ds))
           (onwards (row_tokens whole.it) line) ended.rest ended.more) whole.declared (subst (λ (l : ℕ → ℕ). Complete (point_at
-          BetweenRows seen (with_declarations earlier (row_declared (row_at name (left_of begun.left) (map pair (head ∷ ended.terms)))
-          (row_limits (left_of begun.left) ended.relation (limit ended.part))))) l ended.rest ended.more) (sym lines) ended.heard);
+          BetweenRows seen (with_declarations earlier
+          (row_declared (row_at name (left_of begun.left) (map pair (head ∷ ended.terms)))
+          (row_limits (left_of begun.left) ended.relation (limit ended.part))))) l ended.rest ended.more)
+          (sym lines) ended.heard);
       shorter = omega (arith, short, shorter_first, shorter_left, shorter_label);
     }
 
 -- ---- all rows
 
 -- rows that are not rejected are numbered by their place
-pub rows-numbered : (its : List Row) (earlier : Draft) → IsSortedDraft earlier → refusals_in_turn earlier (all_declare row_declared_at
-    earlier its) ≡ [] → all_declare row_declared_at earlier its ≡ flat_map row_declares (enumerate_from (length earlier.rows + 1) its)
+pub rows-numbered : (its : List Row) (earlier : Draft) → IsSortedDraft earlier →
+    refusals_in_turn earlier (all_declare row_declared_at earlier its) ≡ [] →
+    all_declare row_declared_at earlier its ≡ flat_map row_declares (enumerate_from (length earlier.rows + 1) its)
 rows-numbered [] _ _ h = refl
-rows-numbered (it ∷ its) earlier sorted h = let first = row_declared_at earlier it in let taken = parts-taken earlier first (all_declare
-    row_declared_at (with_declarations earlier first) its) h in ap (λ more. first ++ more) (rows-numbered its _ (sorted-with_declarations
-    first _ sorted) taken.1 ∙ ap (λ n. flat_map row_declares (enumerate_from (n + 1) its)) (row-counted (length _ + 1) it _ sorted taken.0))
+rows-numbered (it ∷ its) earlier sorted h = let first = row_declared_at earlier it in
+    let taken = parts-taken earlier first (all_declare
+    row_declared_at (with_declarations earlier first) its) h in
+    ap (λ more. first ++ more) (rows-numbered its _ (sorted-with_declarations first _ sorted) taken.1
+    ∙ ap (λ n. flat_map row_declares (enumerate_from (n + 1) its)) (row-counted (length _ + 1) it _ sorted taken.0))

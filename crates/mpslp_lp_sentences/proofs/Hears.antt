@@ -55,7 +55,8 @@ module _ (last : ℕ) (later : Tokens) where
 
   -- From each place where a section may begin.
   abbrev pub IsWholeAnywhere : SectionsSeen → Draft → List Terminal → Declarations → Type 0
-  IsWholeAnywhere seen earlier xs made = (place : Place) → may_begin_section place ≡ true → IsWhole (point_at place seen earlier) xs made
+  IsWholeAnywhere seen earlier xs made = (place : Place) → may_begin_section place ≡ true →
+      IsWhole (point_at place seen earlier) xs made
 
   pub whole-begins : (point : Point) (x : Terminal) (xs : List Terminal) (made : Declarations)
       → ((n : ℕ) → Hears (phrase_at point (at n x)) xs made) → IsWhole point (x ∷ xs) made
@@ -70,8 +71,9 @@ module _ (last : ℕ) (later : Tokens) where
   hears-ahead following [] _ h line = listened-ahead following (at last _) later ∙ h last line
   hears-ahead following (x ∷ xs) made h line = grind (arith, listened-ahead, at)
 
-  pub hears-goes : (context : Context) (place : Place) (made : Declarations) (xs : List Terminal) (more : Declarations) → IsWhole (point_at
-      place context.sections_seen (with_declarations context.builder made)) xs more → Hears (goes_to context place made) xs (made ++ more)
+  pub hears-goes : (context : Context) (place : Place) (made : Declarations) (xs : List Terminal) (more : Declarations)
+      → IsWhole (point_at place context.sections_seen (with_declarations context.builder made)) xs more →
+      Hears (goes_to context place made) xs (made ++ more)
   hears-goes _ _ made _ _ h _ = ap (preceded made) (h _)
 
   pub hears-declares : (context : Context) (token : TerminalAt) (place : Place) (made : Declarations) (xs : List Terminal)
@@ -85,14 +87,16 @@ module _ (last : ℕ) (later : Tokens) where
   whole-joined point xs ys zs made more all h line = grind (arith, whole, append_assoc)
 
   -- a section word, where a section may begin
-  opened : (place : Place) (seen : SectionsSeen) (earlier : Draft) (word : SectionWord) (n : ℕ) (tokens : Tokens) → may_begin_section place
-      ≡ true → section_fault seen (section_of word) ≡ None → listened (phrase_at (point_at place seen earlier) (at n (Opens word))) tokens
-      ≡ listened (section_start (here (with_section seen (section_of word)) earlier) (at n (Opens word)) word) tokens
+  opened : (place : Place) (seen : SectionsSeen) (earlier : Draft) (word : SectionWord) (n : ℕ) (tokens : Tokens) →
+      may_begin_section place ≡ true → section_fault seen (section_of word) ≡ None →
+      listened (phrase_at (point_at place seen earlier) (at n (Opens word))) tokens ≡ listened
+      (section_start (here (with_section seen (section_of word)) earlier) (at n (Opens word)) word) tokens
   opened = grind arith
 
-  pub whole-opens : (place : Place) (seen : SectionsSeen) (earlier : Draft) (word : SectionWord) (xs : List Terminal) (made : Declarations)
-      → may_begin_section place ≡ true → section_fault seen (section_of word) ≡ None → ((n : ℕ) → Hears (section_start (here (with_section
-      seen (section_of word)) earlier) (at n (Opens word)) word) xs made) → IsWhole (point_at place seen earlier) (Opens word ∷ xs) made
+  pub whole-opens : (place : Place) (seen : SectionsSeen) (earlier : Draft) (word : SectionWord) (xs : List Terminal)
+      (made : Declarations) → may_begin_section place ≡ true → section_fault seen (section_of word) ≡ None →
+      ((n : ℕ) → Hears (section_start (here (with_section seen (section_of word)) earlier) (at n (Opens word)) word)
+      xs made) → IsWhole (point_at place seen earlier) (Opens word ∷ xs) made
   whole-opens place seen earlier word xs made may fault h = search (rules, whole-begins, opened)
 
 -- ---- how the grammar reads items and sides
@@ -111,7 +115,8 @@ multiplied-is : (signs : List SignOf) (sign : SignOf) → multiplied sign signs 
 multiplied-is [] _ = sym (grind arith)
 multiplied-is (next_one ∷ more) sign = multiplied-is more _ ∙ (grind arith)
 
-pub multiplied-value : (sign : SignOf) (signs : List SignOf) (value : Decimal) → apply_sign (multiplied sign signs) value ≡ signed (product_of (sign ∷ signs)) value
+pub multiplied-value : (sign : SignOf) (signs : List SignOf) (value : Decimal) →
+    apply_sign (multiplied sign signs) value ≡ signed (product_of (sign ∷ signs)) value
 multiplied-value sign signs value = signed-is (multiplied sign signs) value ∙ ap (λ s. signed s value) (multiplied-is signs sign)
 
 -- the tokens of a term, before others
@@ -146,25 +151,29 @@ side-split = grind arith
 module _ (last : ℕ) (later : Tokens) where
   -- ---- items
 
-  pub hears-named : (sign : SignOf) (value : Decimal) (column : List ℕ) (following : Item → PhraseRule Follows) (xs : List Terminal)
-      (made : Declarations) → ((n : ℕ) → Hears last later (following (items.Term (apply_sign sign value) column (at n (Name column))))
+  pub hears-named : (sign : SignOf) (value : Decimal) (column : List ℕ) (following : Item →
+      PhraseRule Follows) (xs : List Terminal) (made : Declarations) →
+      ((n : ℕ) → Hears last later (following (items.Term (apply_sign sign value) column (at n (Name column))))
       xs made) → Hears last later (number_item sign value >>= following) (Name column ∷ xs) made
   hears-named sign value column following xs made h line = grind arith
 
-  pub hears-lone : (sign : SignOf) (value : Decimal) (following : Item → PhraseRule Follows) (xs : List Terminal) (made : Declarations)
-      → is_no_name (first_of_all xs) ≡ true → ((n : ℕ) → Hears last later (following (items.Lone
-      (apply_sign sign value) (at n (first_of_all xs)))) xs made) → Hears last later (number_item sign value >>= following) xs made
+  pub hears-lone : (sign : SignOf) (value : Decimal) (following : Item →
+      PhraseRule Follows) (xs : List Terminal) (made : Declarations) → is_no_name (first_of_all xs) ≡ true →
+      ((n : ℕ) → Hears last later (following (items.Lone (apply_sign sign value) (at n (first_of_all xs)))) xs made)
+      → Hears last later (number_item sign value >>= following) xs made
   hears-lone sign value following xs made no_name h line = grind (arith, listened-none, at, ending, stamped)
 
   pub hears-signs : (signs : List SignOf) (context : Context) (sign : SignOf) (following : Item → PhraseRule Follows)
-      (xs : List Terminal) (made : Declarations) → Hears last later (signed_item context (multiplied sign signs) >>= following) xs made
-      → Hears last later (signed_item context sign >>= following) (sign_tokens signs ++ xs) made
+      (xs : List Terminal) (made : Declarations) →
+      Hears last later (signed_item context (multiplied sign signs) >>= following) xs made →
+      Hears last later (signed_item context sign >>= following) (sign_tokens signs ++ xs) made
   hears-signs [] _ _ _ _ _ h _ = h _
   hears-signs (next_one ∷ signs) context sign following xs made h line = grind
       (arith, stamped, onward, ending, at, hears-signs signs context (product sign next_one) following xs made h (onward line))
 
-  hears-signed_name : (context : Context) (sign : SignOf) (column : List ℕ) (following : Item → PhraseRule Follows) (xs : List Terminal)
-      (made : Declarations) → ((n : ℕ) → Hears last later (following (items.Term (apply_sign sign one) column (at n (Name column))))
+  hears-signed_name : (context : Context) (sign : SignOf) (column : List ℕ) (following : Item →
+      PhraseRule Follows) (xs : List Terminal) (made : Declarations) →
+      ((n : ℕ) → Hears last later (following (items.Term (apply_sign sign one) column (at n (Name column))))
       xs made) → Hears last later (signed_item context sign >>= following) (Name column ∷ xs) made
   hears-signed_name context sign column following xs made h line = grind arith
 
@@ -175,25 +184,32 @@ module _ (last : ℕ) (later : Tokens) where
 
   -- what follows a term reads its value
   abbrev pub HearsTerm : (Item → PhraseRule Follows) → Decimal → List ℕ → List Terminal → Declarations → Type 0
-  HearsTerm following value column xs made = (n : ℕ) → Hears last later (following (items.Term value column (at n (Name column)))) xs made
+  HearsTerm following value column xs made = (n : ℕ) →
+      Hears last later (following (items.Term value column (at n (Name column)))) xs made
 
   -- the rest of a term after its first sign
-  pub hears-term : (context : Context) (sign : SignOf) (signs : List SignOf) (number : Option Decimal) (column : List ℕ) (following : Item
+  pub hears-term : (context : Context) (sign : SignOf) (signs : List SignOf) (number : Option Decimal) (column : List ℕ)
+      (following : Item
       → PhraseRule Follows) (xs : List Terminal) (made : Declarations) → HearsTerm following (coefficient (sign ∷ signs) number)
       column xs made → Hears last later (signed_item context sign >>= following) (term_before signs number column xs) made
   hears-term context sign signs None column following xs made h =
-      hears-signs signs context sign following (Name column ∷ xs) _ (hears-signed_name context (multiplied sign signs) column following xs _
+      hears-signs signs context sign following (Name column ∷ xs) _
+      (hears-signed_name context (multiplied sign signs) column following xs _
       (subst (λ value. HearsTerm following value column xs made) (sym (multiplied-value sign signs one)) h))
-  hears-term context sign signs (Some size) column following xs made h = hears-signs signs context sign following (Number size ∷ Name column
-      ∷ xs) _ (hears-signed_number context (multiplied sign signs) size following (Name column ∷ xs) _ (hears-named (multiplied sign signs)
-      size column following xs _ (subst (λ value. HearsTerm following value column xs made) (sym (multiplied-value sign signs size)) h)))
+  hears-term context sign signs (Some size) column following xs made h =
+      hears-signs signs context sign following (Number size ∷ Name column ∷ xs) _
+      (hears-signed_number context (multiplied sign signs) size following (Name column ∷ xs) _
+      (hears-named (multiplied sign signs) size column following xs _
+      (subst (λ value. HearsTerm following value column xs made) (sym (multiplied-value sign signs size)) h)))
 
   -- a whole term
   pub hears-first : (context : Context) (signs : List SignOf) (number : Option Decimal) (column : List ℕ)
-      (following : Item → PhraseRule Follows) (xs : List Terminal) (made : Declarations) → HearsTerm following (coefficient signs number)
-      column xs made → Hears last later (next >>= λ token. item_from context token >>= following) (term_before signs number column xs) made
-  hears-first context (sign ∷ signs) number column following xs _ h = hears-next last later (λ token. item_from context token >>= following)
-      (Sign sign) (term_before signs number column xs) _ (λ n. hears-term context sign signs number column following xs _ h)
+      (following : Item → PhraseRule Follows) (xs : List Terminal) (made : Declarations) →
+      HearsTerm following (coefficient signs number) column xs made →
+      Hears last later (next >>= λ token. item_from context token >>= following) (term_before signs number column xs) made
+  hears-first context (sign ∷ signs) number column following xs _ h =
+      hears-next last later (λ token. item_from context token >>= following) (Sign sign)
+      (term_before signs number column xs) _ (λ n. hears-term context sign signs number column following xs _ h)
   hears-first context [] None column following xs made h = grind arith
   hears-first context [] (Some size) column following xs made h = grind arith
 
@@ -201,12 +217,14 @@ module _ (last : ℕ) (later : Tokens) where
 
   -- what follows a side reads its limit
   abbrev pub HearsSide : (SideOf → PhraseRule Follows) → Limit → List Terminal → Declarations → Type 0
-  HearsSide following value xs made = (token : TerminalAt) → Hears last later (following (record { limit = value; last = token })) xs made
+  HearsSide following value xs made = (token : TerminalAt) →
+      Hears last later (following (record { limit = value; last = token })) xs made
 
   -- a relation
   pub hears-relation : (context : Context)
       (relation : Relation) (following : Relation → PhraseRule Follows) (xs : List Terminal) (made : Declarations)
-      → Hears last later (following relation) xs made → Hears last later (next_relation context >>= following) (Compares relation ∷ xs) made
+      → Hears last later (following relation) xs made →
+      Hears last later (next_relation context >>= following) (Compares relation ∷ xs) made
   hears-relation context relation following xs made h line = grind arith
 
 -- ---- how the grammar reads bounds and lists of names
@@ -215,7 +233,8 @@ module _ (last : ℕ) (later : Tokens) where
 abbrev pub limits_declared : List ℕ → Limits → Declarations
 limits_declared column limits = bounds_declared column limits.lower limits.upper
 
-pub by-relation : (column : List ℕ) (relation : Relation) (value : Limit) → limits_declared column (limits_by relation value) ≡ bounds_by column relation value
+pub by-relation : (column : List ℕ) (relation : Relation) (value : Limit) →
+    limits_declared column (limits_by relation value) ≡ bounds_by column relation value
 by-relation = grind arith
 
 pub flipped : (relation : Relation) → flip relation ≡ turned relation
@@ -223,7 +242,8 @@ flipped = grind arith
 
 -- the limits of a column that is declared with them
 abbrev Taken : Draft → List ℕ → Limits → Type 0
-Taken earlier column limits = bounds_refusals (with_declarations earlier (declare_column column ∷ [])) column limits.lower limits.upper ≡ []
+Taken earlier column limits = bounds_refusals (with_declarations earlier (declare_column column ∷ [])) column
+    limits.lower limits.upper ≡ []
 
 module _ (last : ℕ) (later : Tokens) where
   -- ---- bounds
@@ -232,39 +252,52 @@ module _ (last : ℕ) (later : Tokens) where
   whole-left : (left : Option (List ℕ × Relation)) (seen : SectionsSeen) (earlier : Draft) (part : Side) (relation : Relation)
       (column : List ℕ) (xs : List Terminal) (made : Declarations) → Taken earlier column (limits_by (flip relation) (limit part))
       → IsWhole last later (point_at (InBounds (Some (column, relation))) seen
-      (with_declarations earlier (declare_column column ∷ limits_declared column (limits_by (flip relation) (limit part))))) xs made
-      → IsWhole last later (point_at (InBounds left) seen earlier) (side_tokens part ++ Compares relation ∷ Name column ∷ xs)
+      (with_declarations earlier (declare_column column ∷ limits_declared column
+      (limits_by (flip relation) (limit part))))) xs made →
+      IsWhole last later (point_at (InBounds left) seen earlier)
+      (side_tokens part ++ Compares relation ∷ Name column ∷ xs)
       ((declare_column column ∷ limits_declared column (limits_by (flip relation) (limit part))) ++ made)
   whole-left = grind arith
 
   -- the second side of a column between two sides
-  whole-second_most : (seen : SectionsSeen) (earlier : Draft) (column : List ℕ) (part : Side) (xs : List Terminal) (made : Declarations)
-      → bounds_refusals earlier column None (Some (limit part)) ≡ [] → IsWhole last later (point_at (InBounds None) seen (with_declarations
-      earlier (bounds_declared column None (Some (limit part))))) xs made → IsWhole last later (point_at (InBounds (Some (column, AtMost)))
-      seen earlier) (Compares AtMost ∷ (side_tokens part ++ xs)) (bounds_declared column None (Some (limit part)) ++ made)
+  whole-second_most : (seen : SectionsSeen) (earlier : Draft) (column : List ℕ) (part : Side) (xs : List Terminal)
+      (made : Declarations) → bounds_refusals earlier column None (Some (limit part)) ≡ [] →
+      IsWhole last later (point_at (InBounds None) seen
+      (with_declarations earlier (bounds_declared column None (Some (limit part))))) xs made →
+      IsWhole last later (point_at (InBounds (Some (column, AtMost))) seen earlier)
+      (Compares AtMost ∷ (side_tokens part ++ xs)) (bounds_declared column None (Some (limit part)) ++ made)
   whole-second_most = grind arith
 
   -- after a bound
   abbrev After : SectionsSeen → Draft → List Terminal → Declarations → Type 0
-  After seen earlier xs made = (left : Option (List ℕ × Relation)) → IsWhole last later (point_at (InBounds left) seen earlier) xs made
+  After seen earlier xs made = (left : Option (List ℕ × Relation)) →
+      IsWhole last later (point_at (InBounds left) seen earlier) xs made
 
   whole-bound : (part : Bound) (left : Option (List ℕ × Relation)) (seen : SectionsSeen) (earlier : Draft) (xs : List Terminal)
-      (made : Declarations) → refusals_in_turn earlier (bound_declares part) ≡ [] → After seen (with_declarations earlier (bound_declares
-      part)) xs made → IsWhole last later (point_at (InBounds left) seen earlier) (bound_tokens part ++ xs) (bound_declares part ++ made)
-  whole-bound (bounds_between lower column upper) left seen earlier xs made = λ h rest. let front = declare_column column ∷ bounds_declared
-      column (Some (limit lower)) None in let taken = parts-taken earlier front (bounds_declared column None (Some (limit upper))) h in
-      subst (λ tokens. IsWhole last later (point_at (InBounds left) seen earlier) tokens (bound_declares (bounds_between lower column upper)
-      ++ made)) (sym (append_assoc (side_tokens lower) (Compares AtMost ∷ Name column ∷ Compares AtMost ∷ side_tokens upper) xs))
-      (whole-left left seen earlier lower AtMost _ (Compares AtMost ∷ (side_tokens upper ++ xs)) _ (sides-taken (with_declarations earlier
-      (declare_column _ ∷ [])) column (Some (limit lower)) None taken.0 refl) (whole-second_most _ (with_declarations earlier front)
-      column upper xs _ (sides-taken (with_declarations earlier front) column None (Some (limit upper)) taken.1 refl) (rest _)))
+      (made : Declarations) → refusals_in_turn earlier (bound_declares part) ≡ [] →
+      After seen (with_declarations earlier (bound_declares part)) xs made →
+      IsWhole last later (point_at (InBounds left) seen earlier) (bound_tokens part ++ xs) (bound_declares part ++ made)
+  whole-bound (bounds_between lower column upper) left seen earlier xs made = λ h rest. let front =
+      declare_column column ∷ bounds_declared
+      column (Some (limit lower)) None in
+      let taken = parts-taken earlier front (bounds_declared column None (Some (limit upper))) h in
+      subst (λ tokens. IsWhole last later (point_at (InBounds left) seen earlier) tokens
+      (bound_declares (bounds_between lower column upper) ++ made))
+      (sym (append_assoc (side_tokens lower) (Compares AtMost ∷ Name column ∷ Compares AtMost ∷ side_tokens upper) xs))
+      (whole-left left seen earlier lower AtMost _ (Compares AtMost ∷ (side_tokens upper ++ xs)) _
+      (sides-taken (with_declarations earlier (declare_column _ ∷ [])) column (Some (limit lower)) None taken.0
+      refl) (whole-second_most _ (with_declarations earlier front) column upper xs _
+      (sides-taken (with_declarations earlier front) column None (Some (limit upper)) taken.1 refl) (rest _)))
   whole-bound (bounds_from_above upper column lower) left seen earlier xs made =
       λ h rest. let front = declare_column column ∷ bounds_declared column None (Some (limit upper)) in
-      let taken = parts-taken earlier front (bounds_declared column (Some (limit lower)) None) h in subst (λ tokens. IsWhole last later
-      (point_at (InBounds left) seen earlier) tokens (bound_declares (bounds_from_above upper column lower) ++ made))
-      (sym (append_assoc (side_tokens upper) (Compares AtLeast ∷ Name column ∷ Compares AtLeast ∷ side_tokens lower) xs))
-      (whole-left left seen earlier upper AtLeast _ (Compares AtLeast ∷ (side_tokens lower ++ xs)) _ (sides-taken (with_declarations earlier
-      (declare_column _ ∷ [])) column None (Some (limit upper)) taken.0 refl) (grind arith))
+      let taken = parts-taken earlier front (bounds_declared column (Some (limit lower)) None) h in
+      subst (λ tokens. IsWhole last later (point_at (InBounds left) seen earlier) tokens
+      (bound_declares (bounds_from_above upper column lower) ++ made))
+      (sym (append_assoc (side_tokens upper)
+      (Compares AtLeast ∷ Name column ∷ Compares AtLeast ∷ side_tokens lower) xs))
+      (whole-left left seen earlier upper AtLeast _ (Compares AtLeast ∷ (side_tokens lower ++ xs)) _
+      (sides-taken (with_declarations earlier (declare_column _ ∷ [])) column None
+      (Some (limit upper)) taken.0 refl) (grind arith))
   whole-bound _ left seen earlier xs made = λ h rest line. grind arith
 
   -- all bounds of the section
@@ -274,10 +307,13 @@ module _ (last : ℕ) (later : Tokens) where
       (point_at (InBounds left) seen earlier) (flat_map bound_tokens parts ++ xs) (flat_map bound_declares parts ++ made)
   whole-bounds [] _ _ _ _ _ h rest = rest _ refl
   whole-bounds (part ∷ parts) left seen earlier xs made h rest = let more = flat_map bound_declares parts in
-      let taken = parts-taken earlier (bound_declares part) more h in whole-joined last later (point_at (InBounds left) seen earlier)
-      (bound_tokens part) (flat_map bound_tokens parts) xs (bound_declares part) more made (whole-bound part left seen earlier (flat_map
-      bound_tokens parts ++ xs) _ taken.0 (λ after. whole-bounds parts after _ (with_declarations earlier (bound_declares part)) _ _ taken.1
-      (subst (λ draft. IsWholeAnywhere last later seen draft xs made) (with_declarations-append (bound_declares part) more earlier) rest)))
+      let taken = parts-taken earlier (bound_declares part) more h in
+      whole-joined last later (point_at (InBounds left) seen earlier) (bound_tokens part)
+      (flat_map bound_tokens parts) xs (bound_declares part) more made (whole-bound part left seen earlier (flat_map
+      bound_tokens parts ++ xs) _ taken.0
+      (λ after. whole-bounds parts after _ (with_declarations earlier (bound_declares part)) _ _ taken.1
+      (subst (λ draft. IsWholeAnywhere last later seen draft xs made)
+      (with_declarations-append (bound_declares part) more earlier) rest)))
 
   -- ---- names
 
@@ -287,14 +323,19 @@ module _ (last : ℕ) (later : Tokens) where
       → listened (phrase_at (point_at place seen earlier) (at n (Name column))) tokens
       ≡ listened (declares (here seen earlier) (at n (Name column)) place (declare_column column ∷ kind column ∷ [])) tokens
 
-  pub whole-names : (place : Place) (kind : List ℕ → Declaration) (seen : SectionsSeen) → Names place kind seen → may_begin_section place
-      ≡ true → (names : List (List ℕ)) (earlier : Draft) (xs : List Terminal) (made : Declarations) → refusals_in_turn earlier
-      (names_declare kind names) ≡ [] → IsWholeAnywhere last later seen (with_declarations earlier (names_declare kind names)) xs made
+  pub whole-names : (place : Place) (kind : List ℕ → Declaration) (seen : SectionsSeen) → Names place kind seen →
+      may_begin_section place ≡ true →
+      (names : List (List ℕ)) (earlier : Draft) (xs : List Terminal) (made : Declarations) → refusals_in_turn earlier
+      (names_declare kind names) ≡ [] →
+      IsWholeAnywhere last later seen (with_declarations earlier (names_declare kind names)) xs made
       → IsWhole last later (point_at place seen earlier) (name_tokens names ++ xs) (names_declare kind names ++ made)
   whole-names _ _ _ _ may [] _ _ _ h rest = rest _ may
-  whole-names place kind seen same may (column ∷ names) earlier xs made h rest = let first = declare_column column ∷ kind column ∷ [] in
-      let more = names_declare kind names in let taken = parts-taken earlier first more h in
-      whole-begins last later (point_at place seen earlier) (Name column) (name_tokens names ++ xs) _ (λ n line. same earlier column n
-      (stamped line (name_tokens names ++ xs) (ending _ _)) ∙ hears-declares last later (here _ _) (at n (Name column)) place first
-      (name_tokens names ++ xs) _ taken.0 (whole-names _ _ _ same may names (with_declarations earlier first) _ _ taken.1
+  whole-names place kind seen same may (column ∷ names) earlier xs made h rest = let first =
+      declare_column column ∷ kind column ∷ [] in
+      let more = names_declare kind names in
+      let taken = parts-taken earlier first more h in
+      whole-begins last later (point_at place seen earlier) (Name column) (name_tokens names ++ xs) _
+      (λ n line. same earlier column n (stamped line (name_tokens names ++ xs) (ending _ _))
+      ∙ hears-declares last later (here _ _) (at n (Name column)) place first (name_tokens names ++ xs) _
+      taken.0 (whole-names _ _ _ same may names (with_declarations earlier first) _ _ taken.1
       (subst (λ draft. IsWholeAnywhere last later seen draft xs made) (with_declarations-append first more earlier) rest)) line)

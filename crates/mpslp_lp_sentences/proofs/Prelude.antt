@@ -49,7 +49,8 @@ pub use Rattle.mpslp_lp_grammar.specs.{Rules.{Parsed, after_taking, and_then, Ou
 pub use Rattle.mpslp_lp_grammar.specs.Terminal.{lexical_fault, TerminalAt, name_fault, word_fault, token_fault, terminal_of, line_terminals}
 pub use Rattle.mpslp_lp_grammar.specs.Terminal.{Terminal as seen, Terminal.{Name, Compares, Opens, Number, Sign, Colon, Infinity, Free}}
 pub use Rattle.mpslp_lp_grammar.specs.{TerminalToken.{terminals, as_terminal}, TokenByToken.new_column}
-pub use Rattle.mpslp_lp_grammar.specs.{TokenStep.{begin_phrase_after, take_after_lone_number, take, is_at_end}, declared.context.Context.Context}
+pub use Rattle.mpslp_lp_grammar.specs.TokenStep.{begin_phrase_after, take_after_lone_number, take, is_at_end}
+pub use Rattle.mpslp_lp_grammar.specs.declared.context.Context.{Context}
 pub use Rattle.mpslp_lp_grammar.specs.declared.relations.Relation.{Relation, TheVariants.{AtMost, AtLeast, EqualTo}}
 pub use Rattle.mpslp_lp_grammar.specs.declared.{sections_seen.SectionsSeen.SectionsSeen, signs.Sign.Sign as SignOf}
 pub use Rattle.mpslp_lp_grammar.specs.declared.{signs.Sign.TheVariants.{Plus, Minus}, states.ItemOwner.{ItemOwner, TheVariants.OfObjective}}

@@ -11,7 +11,8 @@ use Prelude.{RowLabel, RowSign, RowNumber, RowLeft, RowLeftRelation, BoundName, 
 use Prelude.{Refuses, refuse, with_made, declare_unless_refused, take_after_declarations, take_term, take_after_signs, begin_item}
 use Prelude.{take_side, may_begin_section, open_section, begin_row, begin_bound, take_second_relation, name_taken, begin_phrase, begin, one}
 use Prelude.{apply_sign, fits_second, limits_by, flip, objective_declared, default_objective, first_item_declared, fits_left, PartialRow}
-use Prelude.{start, Terminal, Opens, Name, Number, Sign, Compares, Colon, new_column, begin_phrase_after, take_after_lone_number, take, IsInWords}
+use Prelude.{start, Terminal, Opens, Name, Number, Sign, Compares, Colon, new_column, begin_phrase_after}
+use Prelude.{take_after_lone_number, take, IsInWords}
 use Prelude.{ends_in_number, ends_in_sign, last_name, ends_in_name, ends_in_value, ends_in_first_word, begins_row, follows_terms}
 use Prelude.{may_be_left_side, is_right_side, ends_in_constant, follows_constant, left_relation, last_relation, bound_relation, agree}
 use Prelude.{mixes_under, mixes_senses, term_columns, is_named}
@@ -33,7 +34,8 @@ HasLeft (Some left) earlier = left_relation earlier ≡ Some left.1
 
 abbrev pub HasTerms : List (List ℕ × Decimal) → List Terminal → Type 0
 HasTerms terms earlier = (column : List ℕ)
-    → list_any (λ (term : List ℕ × Decimal). same_bytes column term.0) terms ≡ true → is_named column (term_columns earlier) ≡ true
+    → list_any (λ (term : List ℕ × Decimal). same_bytes column term.0) terms ≡ true →
+    is_named column (term_columns earlier) ≡ true
 
 pub record IsRow (row : PartialRow) (earlier : List Terminal) : Type 0 where
   pub left : HasLeft row.left earlier
@@ -121,31 +123,38 @@ refused : (context : Context) (here : Option Section) (earlier : List Terminal) 
     → Says here earlier token kind → KeepsShape here earlier token (refuse context token kind)
 refused context here earlier (Opens word) kind h = by _ _
   where
-    by : (a b : Bool) → Says here earlier (Opens word) (unwrap_or (if a then Some kinds.SectionRepeated else (if b then Some kinds.SectionOrder else None)) kind)
+    by : (a b : Bool) → Says here earlier (Opens word)
+        (unwrap_or (if a then Some kinds.SectionRepeated else (if b then Some kinds.SectionOrder else None)) kind)
     by = grind arith
 refused _ _ _ _ _ h = h
 
-bad : (context : Context) (here : Option Section) (earlier : List Terminal) (token : Terminal) → KeepsShape here earlier token (refuse context token kinds.BadToken)
+bad : (context : Context) (here : Option Section) (earlier : List Terminal) (token : Terminal) →
+    KeepsShape here earlier token (refuse context token kinds.BadToken)
 bad = grind arith
 
-build-fault : (here : Option Section) (earlier : List Terminal) (token : Terminal) (fault : BuildFault) → Says here earlier token (kind_of_build_fault fault)
+build-fault : (here : Option Section) (earlier : List Terminal) (token : Terminal) (fault : BuildFault) →
+    Says here earlier token (kind_of_build_fault fault)
 build-fault = grind arith
 
 either : (here : Option Section) (earlier : List Terminal) (token : Terminal) (b : Bool) (x y : AfterToken)
-    → KeepsShape here earlier token x → (b ≡ false → KeepsShape here earlier token y) → KeepsShape here earlier token (if b then x else y)
+    → KeepsShape here earlier token x → (b ≡ false → KeepsShape here earlier token y) →
+    KeepsShape here earlier token (if b then x else y)
 either = grind arith
 
 -- ---- declarations
 
 declared : (context : Context)
-    (here : Option Section) (earlier : List Terminal) (token : Terminal) (refusals : List BuildFault) (place : Place) (made : Declarations)
-    → PlaceShape place (token ∷ earlier) → KeepsShape here earlier token (declare_unless_refused context token refusals place made)
+    (here : Option Section) (earlier : List Terminal) (token : Terminal) (refusals : List BuildFault) (place : Place)
+    (made : Declarations) → PlaceShape place (token ∷ earlier) →
+    KeepsShape here earlier token (declare_unless_refused context token refusals place made)
 declared _ _ _ _ [] _ _ h = h
-declared context here earlier token (refusal ∷ _) _ _ h = refused context here earlier token (kind_of_build_fault refusal) (build-fault here earlier token refusal)
+declared context here earlier token (refusal ∷ _) _ _ h =
+    refused context here earlier token (kind_of_build_fault refusal) (build-fault here earlier token refusal)
 
 declared-before : (context : Context) (here : Option Section)
     (earlier : List Terminal) (token : Terminal) (refusals : List BuildFault) (made : Declarations) (next : AfterToken)
-    → KeepsShape here earlier token next → KeepsShape here earlier token (take_after_declarations context token refusals made next)
+    → KeepsShape here earlier token next →
+    KeepsShape here earlier token (take_after_declarations context token refusals made next)
 declared-before _ _ _ _ [] _ _ h = h
 declared-before context here earlier token (refusal ∷ _) _ _ h =
     refused context here earlier token (kind_of_build_fault refusal) (build-fault here earlier token refusal)
@@ -167,11 +176,13 @@ abbrev OwnerShape : ItemOwner → List Terminal → Type 0
 OwnerShape (OfObjective objective) earlier = Unit {0}
 OwnerShape (OfRow row) earlier = IsRow row earlier × (ends_in_first_word earlier ≡ false)
 
-term : (context : Context) (owner : ItemOwner) (column : List ℕ) (value : Decimal) (earlier : List Terminal) → OwnerShape owner earlier
-    → KeepsShape (section_of_item owner) earlier (Name column) (take_term context owner column value (Name column))
+term : (context : Context) (owner : ItemOwner) (column : List ℕ) (value : Decimal) (earlier : List Terminal) →
+    OwnerShape owner earlier → KeepsShape (section_of_item owner) earlier (Name column)
+    (take_term context owner column value (Name column))
 term context (OfObjective objective) column value earlier h = grind (arith, declared)
 term context (OfRow row) column value earlier h =
-    either (Some Rows) earlier (Name column) (list_any (λ t. same_bytes column t.0) _) (refuse context (Name column) kinds.DuplicateEntry)
+    either (Some Rows) earlier (Name column) (list_any (λ t. same_bytes column t.0) _)
+    (refuse context (Name column) kinds.DuplicateEntry)
     (Goes (with_made context []) (Between (InRow (record row { terms = row.terms ++ (column, value) ∷ [] }))))
     (refused context (Some Rows) earlier (Name column) kinds.DuplicateEntry tt) (λ e. row-longer _ column value _ h.1 h.0)
 
@@ -196,8 +207,10 @@ ItemShape (OfObjective objective) earlier = Unit {0}
 ItemShape (OfRow row) earlier = Shape (RowLeftRelation row) earlier
 
 item : (context : Context) (owner : ItemOwner) (earlier : List Terminal)
-    → ItemShape owner earlier → (token : Terminal) → KeepsShape (section_of_item owner) earlier token (begin_item context owner token)
-item context owner earlier h token = item-by (KeepsShape (section_of_item owner) earlier) context owner (bad context (section_of_item owner)
+    → ItemShape owner earlier → (token : Terminal) →
+    KeepsShape (section_of_item owner) earlier token (begin_item context owner token)
+item context owner earlier h token =
+    item-by (KeepsShape (section_of_item owner) earlier) context owner (bad context (section_of_item owner)
     earlier) (λ more. next _ more h) (λ name. term context _ name one _ (named _ h)) (λ value. number _ value h) token
   where
     next : (o : ItemOwner) (more : SignOf) → ItemShape o earlier → SignsShape o (Sign more ∷ earlier)
@@ -213,17 +226,19 @@ side : (context : Context) (sided : SideOwner) (l : Limit) (earlier : List Termi
     → begins_row (token ∷ earlier) ≡ true → KeepsShape (section_of_side sided) earlier token (take_side context sided l token)
 side context (SideOfRow row relation) l earlier token h = grind (arith, row, declared)
 side context (SideOfBound _ column relation) l earlier token h = let limits = limits_by relation l in declared context
-    (Some Bounds) earlier token (bounds_refusals (with_declarations context.builder (new_column _ _)) column limits.lower limits.upper)
-    (InBounds None) (new_column _ _ ++ bounds_declared column limits.lower limits.upper) tt
+    (Some Bounds) earlier token (bounds_refusals (with_declarations context.builder (new_column _ _)) column
+    limits.lower limits.upper) (InBounds None) (new_column _ _ ++ bounds_declared column limits.lower limits.upper) tt
 
-opened : (context : Context) (here : Option Section) (earlier : List Terminal) (word : SectionWord) → KeepsShape here earlier (Opens word) (open_section context word)
+opened : (context : Context) (here : Option Section) (earlier : List Terminal) (word : SectionWord) →
+    KeepsShape here earlier (Opens word) (open_section context word)
 opened = grind arith
 
 row : (context : Context) (label : List ℕ) (earlier : List Terminal)
     → begins_row earlier ≡ true → (token : Terminal) → KeepsShape (Some Rows) earlier token (begin_row context label token)
 row = grind arith
 
-bound : (context : Context) (earlier : List Terminal) (token : Terminal) → KeepsShape (Some Bounds) earlier token (begin_bound context token)
+bound : (context : Context) (earlier : List Terminal) (token : Terminal) →
+    KeepsShape (Some Bounds) earlier token (begin_bound context token)
 bound = grind arith
 
 differ : (first second : Relation) → fits_second first second ≡ false → not (agree first second) ≡ true
@@ -242,20 +257,25 @@ ended = grind arith
 listed : (place : Place) (kind_declared : List ℕ → Declaration) (context : Context) (earlier : List Terminal)
     → ((name : List ℕ) → PlaceShape place (Name name ∷ earlier))
     → (token : Terminal) → KeepsShape (section_at_place place) earlier token (name_taken place kind_declared context token)
-listed place kind_declared context earlier h token = listed-by (KeepsShape (section_at_place place) earlier) context place kind_declared
-    (bad context (section_at_place place) earlier) (λ name. declared context (section_at_place place) _ _ (refusals_in_turn context.builder
+listed place kind_declared context earlier h token =
+    listed-by (KeepsShape (section_at_place place) earlier) context place kind_declared
+    (bad context (section_at_place place) earlier)
+    (λ name. declared context (section_at_place place) _ _ (refusals_in_turn context.builder
     (declare_column _ ∷ kind_declared name ∷ [])) _ (declare_column _ ∷ kind_declared name ∷ []) (h name)) token
 
 phrase : (place : Place) (context : Context) (earlier : List Terminal)
-    → PlaceShape place earlier → (token : Terminal) → KeepsShape (section_at_place place) earlier token (begin_phrase place context token)
+    → PlaceShape place earlier → (token : Terminal) →
+    KeepsShape (section_at_place place) earlier token (begin_phrase place context token)
 phrase AtStart context earlier h token = bad context None earlier token
 phrase _ context earlier h token = grind arith
 
 first : (place : Place) (context : Context) (earlier : List Terminal)
-    → PlaceShape place earlier → (token : Terminal) → KeepsShape (section_at_place place) earlier token (begin place context token)
+    → PlaceShape place earlier → (token : Terminal) →
+    KeepsShape (section_at_place place) earlier token (begin place context token)
 first place context earlier h token = begin-by (KeepsShape (section_at_place place) earlier) context place
     (λ word. either (section_at_place place) earlier (Opens word) (may_begin_section place)
-    (open_section context word) (refuse context (Opens word) kinds.BadToken) (opened context (section_at_place place) earlier word)
+    (open_section context word) (refuse context (Opens word) kinds.BadToken)
+    (opened context (section_at_place place) earlier word)
     (λ e. bad context (section_at_place place) earlier (Opens word))) (phrase _ context _ h) token
 
 later : (context : Context) (made : Declarations) (place : Place) (earlier : List Terminal) → PlaceShape place earlier
@@ -265,8 +285,9 @@ later = grind (arith, declared-before, section_at_place, first)
 lone : (context : Context) (owner : ItemOwner) (value : Decimal) (earlier : List Terminal) → NumberShape owner earlier
     → (token : Terminal) → KeepsShape (section_of_item owner) earlier token (take_after_lone_number context owner value token)
 lone context (OfObjective objective) value earlier h token = lone-by (KeepsShape (Some Objective) earlier) context objective value
-    (bad context (Some Objective) earlier) (λ sign. later context (declare_constant _ ∷ []) (InObjective objective) earlier tt (Sign sign))
-    (λ word. later context (declare_constant _ ∷ []) (InObjective objective) earlier tt (Opens word)) token
+    (bad context (Some Objective) earlier) (λ sign. later context (declare_constant _ ∷ []) (InObjective objective)
+    earlier tt (Sign sign)) (λ word. later context (declare_constant _ ∷ []) (InObjective objective) earlier tt
+    (Opens word)) token
 lone context (OfRow partial) value earlier h token = grind arith
 
 last_word : (context : Context) (wanted : LastWord) (earlier : List Terminal) → Shape (AtLastWord wanted) earlier
@@ -282,7 +303,8 @@ number-value : (earlier : List Terminal) → LeftNumberShape earlier → ends_in
 number-value = grind arith
 
 row_numbered : (context : Context) (label : List ℕ) (sign : SignOf) (value : Decimal) (earlier : List Terminal)
-    → LeftNumberShape earlier → (token : Terminal) → KeepsShape (Some Rows) earlier token (take context (RowNumber label sign value) token)
+    → LeftNumberShape earlier → (token : Terminal) →
+    KeepsShape (Some Rows) earlier token (take context (RowNumber label sign value) token)
 row_numbered = grind arith
 
 row_named : (context : Context) (label : List ℕ) (earlier : List Terminal)
@@ -290,7 +312,8 @@ row_named : (context : Context) (label : List ℕ) (earlier : List Terminal)
 row_named = grind arith
 
 item_numbered : (context : Context) (owner : ItemOwner) (sign : SignOf) (value : Decimal) (earlier : List Terminal) → NumberShape
-    owner earlier → (token : Terminal) → KeepsShape (section_of_item owner) earlier token (take context (ItemNumber owner sign value) token)
+    owner earlier → (token : Terminal) →
+    KeepsShape (section_of_item owner) earlier token (take context (ItemNumber owner sign value) token)
 item_numbered context owner sign value earlier h token = grind (arith, item_number-by, section_of_item, term, lone, row)
 
 -- ---- each state
@@ -300,17 +323,23 @@ step : (context : Context) (state : State) (earlier : List Terminal)
 step _ (Between _) _ h _ = first _ _ _ h _
 step context (AtObjective sense) earlier h token = objective-by (KeepsShape (Some Objective) earlier) context sense
     (λ name. tt) (later context (objective_declared sense default_objective) (BeforeItems default_objective) earlier tt) token
-step context (ObjectiveName sense label) earlier h token = objective_name-by (KeepsShape (Some Objective) earlier) context sense label
-    (declared context (Some Objective) earlier Colon (refusals_in_turn context.builder (objective_declared sense label)) (BeforeItems label)
-    (objective_declared sense label) tt) (later context (first_item_declared sense label) (InObjective default_objective) earlier tt) token
-step context AtSemi earlier h token = semi-by (KeepsShape (Some SemiContinuous) earlier) context tt (first InSemis (with_made context []) earlier h) token
+step context (ObjectiveName sense label) earlier h token =
+    objective_name-by (KeepsShape (Some Objective) earlier) context sense label
+    (declared context (Some Objective) earlier Colon
+    (refusals_in_turn context.builder (objective_declared sense label)) (BeforeItems label)
+    (objective_declared sense label) tt)
+    (later context (first_item_declared sense label) (InObjective default_objective) earlier tt) token
+step context AtSemi earlier h token =
+    semi-by (KeepsShape (Some SemiContinuous) earlier) context tt (first InSemis (with_made context []) earlier h) token
 step _ (Signs _ sign) _ h token = signs _ _ sign _ h token
 step context (ItemNumber _ sign value) _ h _ = item_numbered context _ sign value _ h _
 step context (RowLabel label) _ h token = row context label _ h token
 step _ (RowLeftRelation partial) earlier h token = item _ (OfRow partial) earlier h token
-step context (BoundLeftRelation l relation) earlier h token = let limits = limits_by (flip relation) l in bound_column-by (KeepsShape (Some
-    Bounds) earlier) context l relation (bad context _ _) (λ name. declared _ _ earlier (Name name) (bounds_refusals (with_declarations
-    context.builder (declare_column name ∷ [])) name limits.lower limits.upper) (InBounds (Some (name, relation))) _ (h, refl)) token
+step context (BoundLeftRelation l relation) earlier h token = let limits = limits_by (flip relation) l in
+    bound_column-by (KeepsShape (Some Bounds) earlier) context l relation (bad context _ _)
+    (λ name. declared _ _ earlier (Name name)
+    (bounds_refusals (with_declarations context.builder (declare_column name ∷ [])) name limits.lower
+    limits.upper) (InBounds (Some (name, relation))) _ (h, refl)) token
 step context (AtSide sided) earlier h token = grind (arith, side-by, section_of_side, bad, side)
 step context (SideSign sided sign) earlier h token = grind (arith, limit-by, section_of_side, bad, side)
 step context _ earlier h token = grind arith
@@ -324,8 +353,9 @@ pub record Shaped (earlier : List Terminal) (context : Context) (state : State) 
 pub none-shaped : Shaped [] start.context (Between AtStart)
 none-shaped = grind arith
 
-pub shaped-later : (earlier : List Terminal) (context : Context) (state : State) (token : Terminal) (after : Context) (next : State)
-    → Shaped earlier context state → take context state token ≡ Goes after next → Shaped (token ∷ earlier) after next
+pub shaped-later : (earlier : List Terminal) (context : Context) (state : State) (token : Terminal) (after : Context)
+    (next : State) → Shaped earlier context state → take context state token ≡ Goes after next →
+    Shaped (token ∷ earlier) after next
 shaped-later earlier _ state token _ _ known h = record {
   opened = opened-later _ _ _ _ _ _ known.opened h;
   shape = subst (λ taken. KeepsShape (section_at state) earlier token taken) h (step _ _ _ known.shape _);
@@ -336,7 +366,8 @@ mixed : (earlier : List Terminal) (context : Context) (state : State) (token : T
 mixed = grind (arith, opened, section_at, step)
 
 constant : (earlier : List Terminal) (context : Context) (state : State) (token : Terminal)
-    → Shaped earlier context state → take context state token ≡ Refuses kinds.ConstantInRow → follows_constant earlier token ≡ true
+    → Shaped earlier context state → take context state token ≡ Refuses kinds.ConstantInRow →
+    follows_constant earlier token ≡ true
 constant = grind (arith, section_at, step, both_so, opened)
 
 pub mixed-senses : IsInWords kinds.MixedSenses mixes_senses

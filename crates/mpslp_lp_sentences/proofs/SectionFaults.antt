@@ -83,21 +83,24 @@ section_after here (Opens word) = Some (section_of word)
 section_after here _ = here
 
 abbrev KeepsSections : Context → Option Section → Terminal → AfterToken → Type 0
-KeepsSections context here token (Goes after next) = (after.sections_seen ≡ grown context.sections_seen token) × (section_at next ≡ section_after here token)
+KeepsSections context here token (Goes after next) =
+    (after.sections_seen ≡ grown context.sections_seen token) × (section_at next ≡ section_after here token)
 KeepsSections context here token (Refuses kind) = States (terminal_fault context token) kind
 
 refused : (context : Context) (here : Option Section) (token : Terminal) (kind : FaultKind)
     → is_of_sections kind ≡ false → KeepsSections context here token (refuse context token kind)
 refused = grind arith
 
-bad : (context : Context) (here : Option Section) (token : Terminal) → KeepsSections context here token (refuse context token kinds.BadToken)
+bad : (context : Context) (here : Option Section) (token : Terminal) →
+    KeepsSections context here token (refuse context token kinds.BadToken)
 bad = grind arith
 
 build-fault : (fault : BuildFault) → is_of_sections (kind_of_build_fault fault) ≡ false
 build-fault = grind arith
 
 either : (context : Context) (here : Option Section) (token : Terminal) (b : Bool) (x y : AfterToken)
-    → KeepsSections context here token x → KeepsSections context here token y → KeepsSections context here token (if b then x else y)
+    → KeepsSections context here token x → KeepsSections context here token y →
+    KeepsSections context here token (if b then x else y)
 either = grind arith
 
 -- ---- declarations
@@ -107,20 +110,22 @@ abbrev opens_none : Terminal → Bool
 opens_none (Opens word) = false
 opens_none _ = true
 
-declared : (context : Context) (here : Option Section) (token : Terminal) (refusals : List BuildFault) (place : Place) (made : Declarations)
-    → opens_none token ≡ true
+declared : (context : Context) (here : Option Section) (token : Terminal) (refusals : List BuildFault) (place : Place)
+    (made : Declarations) → opens_none token ≡ true
     → section_at_place place ≡ here → KeepsSections context here token (declare_unless_refused context token refusals place made)
 declared = grind arith
 
 declared-before : (context : Context)
     (here : Option Section) (token : Terminal) (refusals : List BuildFault) (made : Declarations) (next : AfterToken)
-    → KeepsSections context here token next → KeepsSections context here token (take_after_declarations context token refusals made next)
+    → KeepsSections context here token next →
+    KeepsSections context here token (take_after_declarations context token refusals made next)
 declared-before = grind arith
 
 -- ---- what each function does
 
 stays : (context : Context) (here : Option Section) (token : Terminal) (place : Place) (made : Declarations)
-    → opens_none token ≡ true → section_at_place place ≡ here → KeepsSections context here token (declare_at context token place made)
+    → opens_none token ≡ true → section_at_place place ≡ here →
+    KeepsSections context here token (declare_at context token place made)
 stays = grind arith
 
 term : (context : Context) (owner : ItemOwner) (column name : List ℕ) (value : Decimal)
@@ -129,22 +134,27 @@ term = grind arith
 
 signs : (context : Context) (owner : ItemOwner) (sign : SignOf) (token : Terminal)
     → KeepsSections context (section_of_item owner) token (take_after_signs context owner sign token)
-signs context owner sign token = signs-by (KeepsSections context (section_of_item owner)) _ _ _ (bad context (section_of_item owner))
+signs context owner sign token =
+    signs-by (KeepsSections context (section_of_item owner)) _ _ _ (bad context (section_of_item owner))
     (λ more. (refl, refl)) (λ name. term context owner name name (apply_sign sign one)) (λ value. (refl, refl)) token
 
-item : (context : Context) (owner : ItemOwner) (token : Terminal) → KeepsSections context (section_of_item owner) token (begin_item context owner token)
+item : (context : Context) (owner : ItemOwner) (token : Terminal) →
+    KeepsSections context (section_of_item owner) token (begin_item context owner token)
 item context owner token = item-by (KeepsSections context (section_of_item owner)) _ _
-    (bad context (section_of_item owner)) (λ more. (refl, refl)) (λ name. term context owner name name one) (λ value. (refl, refl)) token
+    (bad context (section_of_item owner)) (λ more. (refl, refl)) (λ name. term context owner name name one)
+    (λ value. (refl, refl)) token
 
 side : (context : Context) (sided : SideOwner) (l : Limit) (token : Terminal)
     → opens_none token ≡ true → KeepsSections context (section_of_side sided) token (take_side context sided l token)
 side context (SideOfRow row relation) l token none = grind arith
 side context (SideOfBound is_new column relation) l token none = grind arith
 
-opened : (context : Context) (here : Option Section) (word : SectionWord) → KeepsSections context here (Opens word) (open_section context word)
+opened : (context : Context) (here : Option Section) (word : SectionWord) →
+    KeepsSections context here (Opens word) (open_section context word)
 opened = grind arith
 
-row : (context : Context) (label : List ℕ) (token : Terminal) → KeepsSections context (Some Rows) token (begin_row context label token)
+row : (context : Context) (label : List ℕ) (token : Terminal) →
+    KeepsSections context (Some Rows) token (begin_row context label token)
 row = grind arith
 
 bound : (context : Context) (token : Terminal) → KeepsSections context (Some Bounds) token (begin_bound context token)
@@ -160,7 +170,8 @@ listed place kind_declared context token =
     listed-by (KeepsSections context (section_at_place place)) context place kind_declared (bad context (section_at_place place))
     (λ name. stays context _ (Name name) place (declare_column _ ∷ kind_declared name ∷ []) refl refl) token
 
-phrase : (place : Place) (context : Context) (token : Terminal) → KeepsSections context (section_at_place place) token (begin_phrase place context token)
+phrase : (place : Place) (context : Context) (token : Terminal) →
+    KeepsSections context (section_at_place place) token (begin_phrase place context token)
 phrase AtStart context token = bad context None token
 phrase (BeforeItems objective) context token = item context (OfObjective objective) token
 phrase (InObjective objective) context token = grind arith
@@ -171,10 +182,12 @@ phrase InGenerals context token = listed InGenerals declare_integer context toke
 phrase InBinaries context token = listed InBinaries declare_binary context token
 phrase InSemis context token = listed InSemis declare_semi context token
 
-first : (place : Place) (context : Context) (token : Terminal) → KeepsSections context (section_at_place place) token (begin place context token)
+first : (place : Place) (context : Context) (token : Terminal) →
+    KeepsSections context (section_at_place place) token (begin place context token)
 first place context token = begin-by (KeepsSections context (section_at_place place)) context place (λ word. either context
-    (section_at_place place) (Opens word) (may_begin_section place) (open_section context word) (refuse context (Opens word) kinds.BadToken)
-    (opened context (section_at_place place) word) (bad context (section_at_place place) (Opens word))) (phrase place context) token
+    (section_at_place place) (Opens word) (may_begin_section place) (open_section context word)
+    (refuse context (Opens word) kinds.BadToken) (opened context (section_at_place place) word)
+    (bad context (section_at_place place) (Opens word))) (phrase place context) token
 
 -- a token that completes what is before it, and is taken at the place that follows
 first-later : (context : Context) (made : Declarations) (place : Place) (token : Terminal)
@@ -202,7 +215,8 @@ last_word context wanted token = last_word-by (KeepsSections context here) conte
 
 -- ---- each state
 
-step : (context : Context) (state : State) (token : Terminal) → KeepsSections context (section_at state) token (take context state token)
+step : (context : Context) (state : State) (token : Terminal) →
+    KeepsSections context (section_at state) token (take context state token)
 step context (Between place) token = first place context token
 step context (AtObjective sense) token = objective-by (KeepsSections context (Some Objective)) context sense
     (λ name. (refl, refl)) (later context (objective_declared sense default_objective) (BeforeItems default_objective)) token
@@ -210,16 +224,20 @@ step context (ObjectiveName sense label) token = objective_name-by (KeepsSection
     (stays context _ Colon (BeforeItems label) (objective_declared sense label) refl refl)
     (later context (first_item_declared sense label) (InObjective default_objective)) token
 step context (AtLastWord wanted) token = last_word context wanted token
-step context AtSemi token = semi-by (KeepsSections context (Some SemiContinuous)) context (refl, refl) (first-later context [] InSemis) token
+step context AtSemi token = semi-by (KeepsSections context (Some SemiContinuous)) context (refl, refl)
+    (first-later context [] InSemis) token
 step context (Signs owner sign) token = signs context owner sign token
-step context (ItemNumber owner sign value) token = item_number-by (KeepsSections context (section_of_item owner)) context owner sign value
+step context (ItemNumber owner sign value) token =
+    item_number-by (KeepsSections context (section_of_item owner)) context owner sign value
     (λ name. term context owner name name (apply_sign sign value)) (lone context _ (apply_sign sign value)) token
 step _ (RowLabel _) _ = row _ _ _
 step context (RowLeftRelation partial) token = item context (OfRow partial) token
 step context (BoundName column) token =
-    bound_name-by (KeepsSections context (Some Bounds)) _ _ (bad context (Some Bounds)) (grind arith) (λ relation. (refl, refl)) token
+    bound_name-by (KeepsSections context (Some Bounds)) _ _ (bad context (Some Bounds)) (grind arith)
+    (λ relation. (refl, refl)) token
 step context (BoundLeftRelation l relation) token =
-    bound_column-by (KeepsSections context (Some Bounds)) context l relation (bad context (Some Bounds)) (λ name. grind arith) token
+    bound_column-by (KeepsSections context (Some Bounds)) context l relation (bad context (Some Bounds))
+    (λ name. grind arith) token
 step context (AtSide sided) token = grind (arith, side-by, side)
 step context (SideSign sided sign) token = grind (arith, limit-by, side)
 step context AfterEnd token = bad context (Some End) token
@@ -235,11 +253,13 @@ pub record Opened (earlier : List Terminal) (context : Context) (state : State) 
 abbrev AreSeen : List Terminal → Context → Type 0
 AreSeen earlier context = (section : Section) → has_seen context.sections_seen section ≡ has_opened earlier section
 
-seen-grown : (seen : SectionsSeen) (token : Terminal) (section : Section) → has_seen (grown seen token) section ≡ (opens section token || has_seen seen section)
+seen-grown : (seen : SectionsSeen) (token : Terminal) (section : Section) →
+    has_seen (grown seen token) section ≡ (opens section token || has_seen seen section)
 seen-grown = grind arith
 
-pub opened-later : (earlier : List Terminal) (context : Context) (state : State) (token : Terminal) (after : Context) (next : State)
-    → Opened earlier context state → take context state token ≡ Goes after next → Opened (token ∷ earlier) after next
+pub opened-later : (earlier : List Terminal) (context : Context) (state : State) (token : Terminal) (after : Context)
+    (next : State) → Opened earlier context state → take context state token ≡ Goes after next →
+    Opened (token ∷ earlier) after next
 opened-later = grind (arith, step, seen-grown)
 
 -- ---- the errors
@@ -255,19 +275,22 @@ chosen-order : (a b : Bool) → choice a b ≡ Some kinds.SectionOrder → (a �
 chosen-order = grind arith
 
 repeated : (earlier : List Terminal) (context : Context) (state : State) (token : Terminal)
-    → Opened earlier context state → take context state token ≡ Refuses kinds.SectionRepeated → repeats_section earlier token ≡ true
+    → Opened earlier context state → take context state token ≡ Refuses kinds.SectionRepeated →
+    repeats_section earlier token ≡ true
 repeated earlier context state token known h = by _ (own-fault context state token _ refl h)
   where
     by : (t : Terminal) → terminal_fault context t ≡ Some kinds.SectionRepeated → repeats_section earlier t ≡ true
     by = grind arith
 
-any-more : {X : Type 0} (p q : X → Bool) (xs : List X) → ((x : X) → p x ≡ true → q x ≡ true) → list_any p xs ≡ true → list_any q xs ≡ true
+any-more : {X : Type 0} (p q : X → Bool) (xs : List X) → ((x : X) → p x ≡ true → q x ≡ true) → list_any p xs ≡ true →
+    list_any q xs ≡ true
 any-more p q [] more h = cc
 any-more {X} p q (x ∷ xs) more h = grind (arith, or_left, or_right, any-more p q xs more)
 
 -- a section that comes later was opened
 late : (earlier : List Terminal) (section other : Section)
-    → nat_lt (section_rank section) (section_rank other) ≡ true → has_opened earlier other ≡ true → comes_late earlier section ≡ true
+    → nat_lt (section_rank section) (section_rank other) ≡ true → has_opened earlier other ≡ true →
+    comes_late earlier section ≡ true
 late earlier section other above h = any-more _ _ earlier of h
   where
     of : (t : Terminal) → opens other t ≡ true → opens_later section t ≡ true
@@ -282,25 +305,30 @@ out_of_order earlier context section known h = of section h
 
     -- the objective was not opened, or one of these was
     without : (s : Section) → comes_early earlier s ≡ not (has_opened earlier Objective) → (rest : Bool) → (rest ≡ true
-        → comes_late earlier s ≡ true) → (not seen.objective || rest) ≡ true → (comes_early earlier s || comes_late earlier s) ≡ true
+        → comes_late earlier s ≡ true) → (not seen.objective || rest) ≡ true →
+        (comes_early earlier s || comes_late earlier s) ≡ true
     without s is rest more k = by seen.objective (known Objective) k
       where
-        by : (b : Bool) → b ≡ has_opened earlier Objective → (not b || rest) ≡ true → (comes_early earlier s || comes_late earlier s) ≡ true
+        by : (b : Bool) → b ≡ has_opened earlier Objective → (not b || rest) ≡ true →
+            (comes_early earlier s || comes_late earlier s) ≡ true
         by true e m = or_right _ _ (more m)
         by false e m = or_left _ _ (is ∙ ap not (sym e))
 
     one_of : (a b : Bool) (X : Type 0) → (a ≡ true → X) → (b ≡ true → X) → (a || b) ≡ true → X
     one_of = grind arith
 
-    opened_later : (s other : Section) → nat_lt (section_rank s) (section_rank other) ≡ true → has_seen seen other ≡ true → comes_late earlier s ≡ true
+    opened_later : (s other : Section) → nat_lt (section_rank s) (section_rank other) ≡ true →
+        has_seen seen other ≡ true → comes_late earlier s ≡ true
     opened_later s other above k = late earlier s other above (sym (known other) ∙ k)
 
     of : (s : Section) → is_out_of_order seen s ≡ true → (comes_early earlier s || comes_late earlier s) ≡ true
     of Objective k = absurd cc
     of Rows k = let late_rows : Type 0 = comes_late earlier Rows ≡ true in without Rows refl (seen.bounds || (seen.generals
-        || (seen.binaries || (seen.semis || seen.end)))) (one_of seen.bounds (seen.generals || (seen.binaries || (seen.semis || seen.end)))
-        late_rows (opened_later Rows Bounds refl) (one_of seen.generals (seen.binaries || (seen.semis || seen.end)) late_rows
-        (opened_later Rows Generals refl) (one_of seen.binaries (seen.semis || seen.end) late_rows (opened_later Rows Binaries refl)
+        || (seen.binaries || (seen.semis || seen.end))))
+        (one_of seen.bounds (seen.generals || (seen.binaries || (seen.semis || seen.end))) late_rows
+        (opened_later Rows Bounds refl) (one_of seen.generals (seen.binaries || (seen.semis || seen.end)) late_rows
+        (opened_later Rows Generals refl)
+        (one_of seen.binaries (seen.semis || seen.end) late_rows (opened_later Rows Binaries refl)
         (one_of seen.semis seen.end late_rows (opened_later Rows SemiContinuous refl) (opened_later Rows End refl))))) k
     of End k = or_left _ _ (sym (ap not (known Objective)) ∙ k)
     of Bounds k = without Bounds refl seen.end (opened_later Bounds End refl) k
@@ -313,7 +341,8 @@ misplaced : (earlier : List Terminal) (context : Context) (state : State) (token
 misplaced earlier context state token known h = by token (own-fault context state token _ refl h)
   where
     by : (t : Terminal) → terminal_fault context t ≡ Some kinds.SectionOrder → breaks_order earlier t ≡ true
-    by (Opens _) e = let parts = chosen-order _ _ e in both_so _ _ (so_not _ (sym (known.seen _) ∙ parts.0)) (out_of_order earlier context _ known.seen parts.1)
+    by (Opens _) e = let parts = chosen-order _ _ e in
+        both_so _ _ (so_not _ (sym (known.seen _) ∙ parts.0)) (out_of_order earlier context _ known.seen parts.1)
     by _ e = absurd cc
 
 pub none-opened : Opened [] start.context (Between AtStart)

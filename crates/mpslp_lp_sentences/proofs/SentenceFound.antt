@@ -43,7 +43,8 @@ before-append : (m : ℕ) (xs ys : Tokens) → AreBefore m xs → AreBefore m ys
 before-append m [] _ h k = k
 before-append m (x ∷ xs) _ h k = (h.0, before-append m xs _ h.1 k)
 
-line-before : (n m : ℕ) (found : List Token) → n < m → AreBefore m (map (λ (token : Token). record { line = n; terminal = terminal_of token.kind token.text }) found)
+line-before : (n m : ℕ) (found : List Token) → n < m →
+    AreBefore m (map (λ (token : Token). record { line = n; terminal = terminal_of token.kind token.text }) found)
 line-before n m [] h = tt
 line-before n m (token ∷ found) h = (h, line-before n m found h)
 
@@ -52,22 +53,28 @@ lines-before [] n m h = tt
 lines-before (l ∷ ls) n m h = before-append m _ _ (line-before n m _ (omega (arith, h))) (lines-before ls _ m (omega (arith, h)))
 
 pub line-seen : (n : ℕ) (found : List Token)
-    → map seen (map (λ (token : Token). record { line = n; terminal = terminal_of token.kind token.text }) found) ≡ map as_terminal found
+    → map seen (map (λ (token : Token). record { line = n; terminal = terminal_of token.kind token.text }) found) ≡ map
+    as_terminal found
 line-seen n [] = refl
 line-seen n (token ∷ found) = grind (arith, line-seen n found)
 
 lines-seen : (ls : List (List ℕ)) (n : ℕ) → map seen (tokens_from n ls) ≡ flat_map terminals ls
 lines-seen [] n = refl
-lines-seen (l ∷ ls) n = mapped-append seen (line_terminals (n, l)) (tokens_from (n + 1) ls) ∙ (λ i. line-seen n (tokens l) i ++ lines-seen ls (n + 1) i)
+lines-seen (l ∷ ls) n = mapped-append seen (line_terminals (n, l)) (tokens_from (n + 1) ls)
+    ∙ (λ i. line-seen n (tokens l) i ++ lines-seen ls (n + 1) i)
 
 -- lines without an error by themselves, and those after them
-lines-split : (k n : ℕ) (ls : List (List ℕ)) → list_all (λ line. is_none (lexical_fault line)) (take k ls) ≡ true → sound_terminals
-    (enumerate_from n ls) ≡ tokens_from n (take k ls) ++ sound_terminals (enumerate_from (n + length (take k ls)) (drop k ls))
+lines-split : (k n : ℕ) (ls : List (List ℕ)) → list_all (λ line. is_none (lexical_fault line)) (take k ls) ≡ true →
+    sound_terminals (enumerate_from n ls) ≡ tokens_from n (take k ls) ++ sound_terminals
+    (enumerate_from (n + length (take k ls)) (drop k ls))
 lines-split zero n ls h = grind arith
 lines-split (suc k) n [] h = refl
-lines-split (suc k) n (l ∷ ls) h = let good = first_so _ _ h in let others = second_so _ _ h in by _ good
-    ∙ ap (λ more. line_terminals (n, l) ++ more) (lines-split k _ ls others ∙ ap (λ m. tokens_from (n + 1) (take k ls) ++ sound_terminals
-    (enumerate_from m (drop k ls))) (numbers _)) ∙ sym (append_assoc (line_terminals (n, l)) (tokens_from (n + 1) (take k _)) _)
+lines-split (suc k) n (l ∷ ls) h = let good = first_so _ _ h in
+    let others = second_so _ _ h in by _ good
+    ∙ ap (λ more. line_terminals (n, l) ++ more)
+    (lines-split k _ ls others ∙ ap
+    (λ m. tokens_from (n + 1) (take k ls) ++ sound_terminals (enumerate_from m (drop k ls))) (numbers _))
+    ∙ sym (append_assoc (line_terminals (n, l)) (tokens_from (n + 1) (take k _)) _)
   where
     numbers : (j : ℕ) → n + 1 + j ≡ n + suc j
     numbers j = omega arith
@@ -91,7 +98,11 @@ lines-elsewhere (l ∷ ls) last m h = by (lexical_fault l) (lines-elsewhere ls _
     of_line (token ∷ _) _ k = other _ refl
 
     by : (o : Option FaultKind) → is_elsewhere last (sound_terminals (enumerate_from (m + 1) ls)) ≡ true → is_elsewhere last
-        (elim o as (λ _. Tokens) [ Some kind ↦ [] | None ↦ line_terminals (m, l) ++ sound_terminals (enumerate_from (m + 1) ls) ]) ≡ true
+        (elim o as (λ _. Tokens) [
+          | Some kind ↦ []
+          | None ↦ line_terminals (m, l) ++ sound_terminals
+              (enumerate_from (m + 1) ls)
+        ]) ≡ true
     by (Some _) k = refl
     by None k = of_line (tokens l) _ k
 
@@ -103,7 +114,8 @@ pub record IsStamped (m : ℕ) (found later : Tokens) (xs : List Terminal) : Typ
   pub before : last < m
   pub same : found ++ later ≡ stamped line xs (ending last later)
 
-stamped-from : (m : ℕ) (xs : List Terminal) (found later : Tokens) → AreBefore m found → map seen found ≡ xs ++ Opens words.End ∷ [] → IsStamped m found later xs
+stamped-from : (m : ℕ) (xs : List Terminal) (found later : Tokens) → AreBefore m found →
+    map seen found ≡ xs ++ Opens words.End ∷ [] → IsStamped m found later xs
 stamped-from m [] [] later h e = grind arith
 stamped-from m [] (token ∷ []) later h e = record {
   line = λ k. 0;
@@ -127,7 +139,8 @@ finished-first = grind arith
 
 pub sentences-read : SentencesAreRead
 sentences-read bytes declared h = (
-  finished-first (phrases phrase_at start 0 (sound_terminals (numbered_lines bytes))) (first_own_fault (numbered_lines bytes)) read.0,
+  finished-first (phrases phrase_at start 0 (sound_terminals (numbered_lines bytes)))
+      (first_own_fault (numbered_lines bytes)) read.0,
   read.1,
 )
   where
@@ -142,8 +155,10 @@ sentences-read bytes declared h = (
         (lines-before front 1 (1 + length front) (omega arith)) (lines-seen front 1 ∙ h.tokens ∙ (grind (arith, append_assoc)))
 
     heard : heard_whole start 0 (sound_terminals (numbered_lines bytes)) ≡ Some declared
-    heard = ap (heard_whole start 0) (lines-split h.count 1 (lines bytes) h.sound ∙ on_lines.same) ∙ whole-file on_lines.last later h.whole
-        h.right (lines-elsewhere (drop h.count (lines bytes)) on_lines.last (1 + length front) on_lines.before) (ap (λ (ds : Declarations).
+    heard = ap (heard_whole start 0) (lines-split h.count 1 (lines bytes) h.sound ∙ on_lines.same)
+        ∙ whole-file on_lines.last later h.whole h.right
+        (lines-elsewhere (drop h.count (lines bytes)) on_lines.last (1 + length front) on_lines.before)
+        (ap (λ (ds : Declarations).
         refusals_in_turn empty_draft ds) h.declares ∙ h.unrefused) on_lines.line ∙ ap (λ (ds : Declarations). Some ds) h.declares
 
     read : (is_finished (phrases phrase_at start 0 (sound_terminals (numbered_lines bytes))) ≡ true)
@@ -207,7 +222,8 @@ abbrev line_tokens : ℕ → List Token → Tokens
 line_tokens n found = map (λ (token : Token). record { line = n; terminal = terminal_of token.kind token.text }) found
 
 -- the tokens of a line are on it
-all-on_line : (n : ℕ) (found : List Token) (f : Tokens) (e : TerminalAt) (more : Tokens) → line_tokens n found ≡ f ++ e ∷ more → e.line ≡ n
+all-on_line : (n : ℕ) (found : List Token) (f : Tokens) (e : TerminalAt) (more : Tokens) →
+    line_tokens n found ≡ f ++ e ∷ more → e.line ≡ n
 all-on_line n [] [] e more h = grind arith
 all-on_line n [] (y ∷ f) e more h = grind arith
 all-on_line n (token ∷ found) [] e more h = grind arith
@@ -217,7 +233,8 @@ all-on_line n (token ∷ found) (y ∷ f) e more h = all-on_line n found f e mor
 none-after : (n : ℕ) (found : List Token) (f : Tokens) (e second : TerminalAt) (more rest : Tokens)
     → line_tokens n found ≡ f ++ e ∷ second ∷ more → is_elsewhere e.line (second ∷ rest) ≡ true → ⊥
 none-after n found f e second more _ h elsewhere =
-    false≢true (sym (ap not (eq-eqb second.line e.line (second_line ∙ sym (all-on_line n found f e (second ∷ more) h)))) ∙ elsewhere)
+    false≢true (sym (ap not (eq-eqb second.line e.line (second_line ∙ sym (all-on_line n found f e (second ∷ more) h))))
+    ∙ elsewhere)
   where
     second_line : second.line ≡ n
     second_line = all-on_line n found (f ++ e ∷ []) second more (h ∙ sym (append_assoc f (e ∷ []) (second ∷ more)))
@@ -233,8 +250,8 @@ lines-cut (l ∷ ls) n f e a h elsewhere = by (lexical_fault l) refl h (λ more 
     none (y ∷ g) k = (cc)
 
     from : lexical_fault l ≡ None → Cut (line_tokens n (tokens l)) (sound_terminals (enumerate_from (n + 1) ls)) f e a
-        → ((more : Tokens) → sound_terminals (enumerate_from (n + 1) ls) ≡ more ++ e ∷ a → FirstLines ls (map seen (more ++ e ∷ [])))
-        → FirstLines (l ∷ ls) (map seen (f ++ e ∷ []))
+        → ((more : Tokens) → sound_terminals (enumerate_from (n + 1) ls) ≡ more ++ e ∷ a →
+        FirstLines ls (map seen (more ++ e ∷ []))) → FirstLines (l ∷ ls) (map seen (f ++ e ∷ []))
     from fine (before more same rest) rec = let later = rec more rest in record {
       count = suc later.count;
       sound = both_so _ _ (ap is_none fine) later.sound;
@@ -248,12 +265,13 @@ lines-cut (l ∷ ls) n f e a h elsewhere = by (lexical_fault l) refl h (λ more 
       found = append-nil (terminals l) ∙ sym (line-seen n (tokens l)) ∙ ap (λ (ts : Tokens). map seen ts) same;
     }
     from _ (within (second ∷ more) same rest) _ = absurd (none-after n (tokens l) f e second more
-        (more ++ sound_terminals (enumerate_from (n + 1) ls)) same (ap (λ (ts : Tokens). is_elsewhere e.line ts) (sym rest) ∙ elsewhere))
+        (more ++ sound_terminals (enumerate_from (n + 1) ls)) same
+        (ap (λ (ts : Tokens). is_elsewhere e.line ts) (sym rest) ∙ elsewhere))
 
     by : (o : Option FaultKind) → lexical_fault l ≡ o → elim o as (λ _. Tokens)
         [ Some kind ↦ [] | None ↦ line_terminals (n, l) ++ sound_terminals (enumerate_from (n + 1) ls) ] ≡ f ++ e ∷ a
-        → ((more : Tokens) → sound_terminals (enumerate_from (n + 1) ls) ≡ more ++ e ∷ a → FirstLines ls (map seen (more ++ e ∷ [])))
-        → FirstLines (l ∷ ls) (map seen (f ++ e ∷ []))
+        → ((more : Tokens) → sound_terminals (enumerate_from (n + 1) ls) ≡ more ++ e ∷ a →
+        FirstLines ls (map seen (more ++ e ∷ []))) → FirstLines (l ∷ ls) (map seen (f ++ e ∷ []))
     by (Some _) _ k _ = absurd (none f k)
     by None same k rec = from same (cut (line_terminals (n, l)) (sound_terminals (enumerate_from (n + 1) ls)) f e a k) rec
 
@@ -271,7 +289,8 @@ texts-found bytes text = record {
   count = first.count;
   sound = first.sound;
   tokens = first.found
-      ∙ mapped-append seen (all_at on (front_tokens file.whole)) (at (onwards (front_tokens file.whole) on 0) (Opens words.End) ∷ [])
+      ∙ mapped-append seen (all_at on (front_tokens file.whole))
+      (at (onwards (front_tokens file.whole) on 0) (Opens words.End) ∷ [])
       ∙ ap (λ (xs : List Terminal). xs ++ Opens words.End ∷ []) (stamped-seen (front_tokens file.whole) on) ∙ sym (grind (
         arith,
         append_assoc,
@@ -283,19 +302,25 @@ texts-found bytes text = record {
     on : ℕ → ℕ
     on = line_of (sound_terminals (numbered_lines bytes))
 
-    complete : Complete start (line_of (sound_terminals (numbered_lines bytes))) (map seen (sound_terminals (numbered_lines bytes))) (declarations_of bytes)
+    complete : Complete start (line_of (sound_terminals (numbered_lines bytes)))
+        (map seen (sound_terminals (numbered_lines bytes))) (declarations_of bytes)
     complete = subst (λ (ts : Tokens). whole start 0 ts ≡ Some (declarations_of bytes))
-        (sym (tokens-stamped (sound_terminals (numbered_lines bytes)))) (whole-from_finished (sound_terminals (numbered_lines bytes)) start
-        (grind (arith, never_finished)))
+        (sym (tokens-stamped (sound_terminals (numbered_lines bytes))))
+        (whole-from_finished (sound_terminals (numbered_lines bytes)) start (grind (arith, never_finished)))
 
-    file : FileFound (line_of (sound_terminals (numbered_lines bytes))) (map seen (sound_terminals (numbered_lines bytes))) (declarations_of bytes)
-    file = file-found on (map seen (sound_terminals (numbered_lines bytes))) (declarations_of bytes) (whole-fine bytes).unrefused complete
+    file : FileFound (line_of (sound_terminals (numbered_lines bytes)))
+        (map seen (sound_terminals (numbered_lines bytes))) (declarations_of bytes)
+    file = file-found on (map seen (sound_terminals (numbered_lines bytes))) (declarations_of bytes)
+        (whole-fine bytes).unrefused complete
 
-    split : sound_terminals (numbered_lines bytes) ≡ all_at on (front_tokens file.whole) ++ at (onwards (front_tokens file.whole) on 0)
-        (Opens words.End) ∷ all_at (onward (onwards (front_tokens file.whole) on)) file.after
+    split : sound_terminals (numbered_lines bytes) ≡ all_at on (front_tokens file.whole) ++ at
+        (onwards (front_tokens file.whole) on 0) (Opens words.End) ∷ all_at
+        (onward (onwards (front_tokens file.whole) on)) file.after
     split = sym (tokens-stamped (sound_terminals (numbered_lines bytes)))
         ∙ ap (all_at on) file.same ∙ stamped-split (front_tokens file.whole) (Opens words.End ∷ file.after) on
 
-    first : FirstLines (lines bytes) (map seen (all_at on (front_tokens file.whole) ++ at (onwards (front_tokens file.whole) on 0) (Opens words.End) ∷ []))
-    first = lines-cut (lines bytes) 1 (all_at on (front_tokens file.whole)) (at (onwards (front_tokens file.whole) on 0) (Opens words.End))
+    first : FirstLines (lines bytes)
+        (map seen (all_at on (front_tokens file.whole) ++ at (onwards (front_tokens file.whole) on 0) (Opens words.End) ∷ []))
+    first = lines-cut (lines bytes) 1 (all_at on (front_tokens file.whole))
+        (at (onwards (front_tokens file.whole) on 0) (Opens words.End))
         (all_at (onward (onwards (front_tokens file.whole) on)) file.after) split file.elsewhere

@@ -47,8 +47,9 @@ whole-joined [] _ _ = refl
 whole-joined (token ∷ tokens) (suc taken) _ = whole-joined tokens taken _
 whole-joined (token ∷ tokens) zero point = by _ (λ after more. whole-joined tokens more _)
   where
-    by : (reading : Parsed Fault Follows) → ((after : Point) (more : ℕ) → whole after more tokens ≡ joined (phrases phrase_at after more tokens) (made_by phrase_at after more tokens))
-        → (elim reading as (λ _. Option Declarations) [
+    by : (reading : Parsed Fault Follows) →
+        ((after : Point) (more : ℕ) → whole after more tokens ≡ joined (phrases phrase_at after more tokens)
+        (made_by phrase_at after more tokens)) → (elim reading as (λ _. Option Declarations) [
           | Reads (Goes after made) more ↦ preceded made (whole after more tokens)
           | Reads (Ends all) more ↦ Some []
           | Refuses fault ↦ None
@@ -78,10 +79,12 @@ whole-from_finished = grind (arith, whole-joined)
 
 -- ---- how rules listen
 
-heard-one_more : (reading : Parsed Fault Follows) (token : TerminalAt) (tokens : Tokens) → heard (after_taking 1 reading) (token ∷ tokens) ≡ heard reading tokens
+heard-one_more : (reading : Parsed Fault Follows) (token : TerminalAt) (tokens : Tokens) →
+    heard (after_taking 1 reading) (token ∷ tokens) ≡ heard reading tokens
 heard-one_more = grind arith
 
-heard-none_more : (reading : Parsed Fault Follows) (tokens : Tokens) → heard (after_taking 0 reading) tokens ≡ heard reading tokens
+heard-none_more : (reading : Parsed Fault Follows) (tokens : Tokens) →
+    heard (after_taking 0 reading) tokens ≡ heard reading tokens
 heard-none_more = grind arith
 
 pub listened-ahead : (following : TerminalAt → PhraseRule Follows) (token : TerminalAt) (tokens : Tokens)
@@ -89,13 +92,17 @@ pub listened-ahead : (following : TerminalAt → PhraseRule Follows) (token : Te
 listened-ahead = grind arith
 
 -- a reading that took one token
-pub listened-one : (reading : Parsed Fault Follows) (token : TerminalAt) (tokens : Tokens) → heard (after_taking 1 reading) (token ∷ tokens) ≡ heard reading tokens
+pub listened-one : (reading : Parsed Fault Follows) (token : TerminalAt) (tokens : Tokens) →
+    heard (after_taking 1 reading) (token ∷ tokens) ≡ heard reading tokens
 listened-one = heard-one_more
 
-pub listened-none : (reading : Parsed Fault Follows) (tokens : Tokens) → heard (after_taking 0 reading) tokens ≡ heard reading tokens
+pub listened-none : (reading : Parsed Fault Follows) (tokens : Tokens) →
+    heard (after_taking 0 reading) tokens ≡ heard reading tokens
 listened-none = heard-none_more
 
 -- a reading that took one token more
-pub heard-later : {A : Type 0} (reading : Parsed Fault A) (following : A → PhraseRule Follows) (token : TerminalAt) (tokens : Tokens) →
-    heard (and_then (after_taking 1 reading) following (token ∷ tokens)) (token ∷ tokens) ≡ heard (and_then reading following tokens) tokens
+pub heard-later : {A : Type 0} (reading : Parsed Fault A) (following : A →
+    PhraseRule Follows) (token : TerminalAt) (tokens : Tokens) →
+    heard (and_then (after_taking 1 reading) following (token ∷ tokens)) (token ∷ tokens) ≡ heard
+    (and_then reading following tokens) tokens
 heard-later reading following token tokens = grind arith

@@ -89,7 +89,8 @@ declared sense name more = declare_sense sense ∷ declare_objective (codes name
 
 -- `term` of a row or the objective
 abbrev put : String → String → Number → Declarations
-put owner name coefficient = declare_column (codes name) ∷ declare_coefficient (record { row = codes owner; column = codes name }) coefficient ∷ []
+put owner name coefficient = declare_column (codes name) ∷ declare_coefficient
+    (record { row = codes owner; column = codes name }) coefficient ∷ []
 
 abbrev limited : String → Limit → Limit → Declaration
 limited name lower upper = declare_row (codes name) (by_limits lower upper)
@@ -211,7 +212,8 @@ rejected_files =
     ∷ (file (min None []) no_rows (generals (codes "x" ∷ []) ∷ semis (seen.Opens words.Semi ∷ []) (codes "x" ∷ []) ∷ []), SemiContinuous)
     ∷ []
 
-pub rejected : map (λ row. refusals_in_turn empty_draft (file_declares row.0)) rejected_files ≡ map (λ row. row.1 ∷ []) rejected_files
+pub rejected : map (λ row. refusals_in_turn empty_draft (file_declares row.0)) rejected_files ≡ map (λ row. row.1 ∷ [])
+    rejected_files
 unfolding digits trailing_zeros
 rejected = refl
 

@@ -115,6 +115,7 @@ right_files =
     (repeats_entry, codes "max x: x + y\nbounds x <= 4 x >= 1\ngen x bin x\nend\n") ∷
     []
 
-pub right_files-right : map {B = Bool × List ℕ} (λ row. (is_lp_text row.1, lines_with row.0 row.1)) right_files ≡ map {B = Bool × List ℕ} (λ row. (true, [])) right_files
+pub right_files-right : map {B = Bool × List ℕ} (λ row. (is_lp_text row.1, lines_with row.0 row.1)) right_files ≡ map
+    {B = Bool × List ℕ} (λ row. (true, [])) right_files
 unfolding digits trailing_zeros
 right_files-right = refl

@@ -33,8 +33,8 @@ within-none (suc most) bytes m beyond =
     one_less (λ o. o ≡ None) most bytes (λ kind k. grind (arith, beyond (suc most) (omega arith) m))
     (λ _. within-none most bytes (omega (arith, m)) beyond)
 
-pub found-at : (bytes : List ℕ) (kind : TokenKind) (size : ℕ) → 0 < size → size ≤ length bytes → kind_of (take size bytes) ≡ Some kind
-    → None-beyond bytes size → token_at bytes ≡ record { kind = kind; size = size }
+pub found-at : (bytes : List ℕ) (kind : TokenKind) (size : ℕ) → 0 < size → size ≤ length bytes →
+    kind_of (take size bytes) ≡ Some kind → None-beyond bytes size → token_at bytes ≡ record { kind = kind; size = size }
 found-at bytes kind size some w k beyond =
     ap (λ o. elim o as (λ _. Front) [ Some front ↦ front | None ↦ record { kind = Unknown; size = 1 } ])
     (within-found _ bytes kind size (omega arith) some w k beyond)
@@ -45,8 +45,8 @@ none-at = grind (arith, within-none)
 -- ---- operators
 
 -- no operator of two bytes or more begins with a byte that passes such a test
-no-operator : (p : ℕ → Bool) (b : ℕ) (bs : List ℕ) → p b ≡ true → p 60 ≡ false → p 61 ≡ false → p 62 ≡ false → p 58 ≡ false → p 45 ≡ false
-    → (n : ℕ) → 1 < n → n ≤ length (b ∷ bs) → operator_kind (take n (b ∷ bs)) ≡ None
+no-operator : (p : ℕ → Bool) (b : ℕ) (bs : List ℕ) → p b ≡ true → p 60 ≡ false → p 61 ≡ false → p 62 ≡ false →
+    p 58 ≡ false → p 45 ≡ false → (n : ℕ) → 1 < n → n ≤ length (b ∷ bs) → operator_kind (take n (b ∷ bs)) ≡ None
 no-operator p b bs y l e g c m (suc zero) h w = absurd (omega (arith, h))
 no-operator p b _ y l e g c m _ h w = grind arith
 
@@ -81,8 +81,11 @@ word-at b bs h =
     beyond : None-beyond (b ∷ bs) (suc (prefix_len continues_word bs))
     beyond zero k w = grind arith
     beyond (suc n) k w =
-        grind (arith, (first-word b (take n bs) h ∙ not-beyond _ bs n (omega (arith, k)) (omega (arith, w))), begins-no_number b h)
-        ∙ no-operator begins_word b bs h refl refl refl refl refl (suc n) (omega (arith, k)) w
+        grind (
+          arith,
+          (first-word b (take n bs) h ∙ not-beyond _ bs n (omega (arith, k)) (omega (arith, w))),
+          begins-no_number b h,
+        ) ∙ no-operator begins_word b bs h refl refl refl refl refl (suc n) (omega (arith, k)) w
 
 -- ---- numbers
 
@@ -107,8 +110,8 @@ number-at b bs (suc size) unworded some r =
 
 -- ---- operators, if neither a word nor a number begins
 
-kind-operator : (b : ℕ) (bs : List ℕ) → begins_word b ≡ false → IsLongestFront is_number (b ∷ bs) 0 → (n : ℕ) → 0 < n → n ≤ length (b ∷ bs)
-    → kind_of (take n (b ∷ bs)) ≡ operator_kind (take n (b ∷ bs))
+kind-operator : (b : ℕ) (bs : List ℕ) → begins_word b ≡ false → IsLongestFront is_number (b ∷ bs) 0 → (n : ℕ) → 0 < n →
+    n ≤ length (b ∷ bs) → kind_of (take n (b ∷ bs)) ≡ operator_kind (take n (b ∷ bs))
 kind-operator b bs unworded r zero k w = grind arith
 kind-operator b bs unworded r (suc n) k w = grind (arith, r.longest (suc n) k w)
 
@@ -143,7 +146,8 @@ pub byte-at : (b : ℕ) (bs : List ℕ) (kind : TokenKind) → begins_word b ≡
     → operator_kind (b ∷ []) ≡ Some kind → token_at (b ∷ bs) ≡ record { kind = kind; size = 1 }
 byte-at b bs kind unworded r p k =
     found-at (b ∷ bs) kind 1 (omega arith) (omega arith) (kind-operator b bs unworded r 1 (omega arith) (omega arith)
-    ∙ ap operator_kind (take_one b bs) ∙ k) (λ n h w. kind-operator b bs unworded r n (omega (arith, h)) w ∙ beyond-one b bs p n h w)
+    ∙ ap operator_kind (take_one b bs) ∙ k) (λ n h w. kind-operator b bs unworded r n (omega (arith, h)) w
+    ∙ beyond-one b bs p n h w)
 
 pub unknown-at : (b : ℕ) (bs : List ℕ) → begins_word b ≡ false → IsLongestFront is_number (b ∷ bs) 0 → NoPair b bs
     → operator_kind (b ∷ []) ≡ None → token_at (b ∷ bs) ≡ record { kind = Unknown; size = 1 }
@@ -197,8 +201,9 @@ pub byte-front : (t : List ℕ) (n : ℕ) (kind : TokenKind) → 0 < length t �
 byte-front [] n kind some w h r p k = grind arith
 byte-front (b ∷ bs) n kind some w h r p k = byte-at b bs kind w (none_is (b ∷ bs) n h r) (grind (arith, p)) k
 
-pub unknown-front : (t : List ℕ) (n : ℕ) → 0 < length t → begins_word (get_or t 0 0) ≡ false → n ≤ 0 → IsLongestFront is_number t n
-    → pair_operator t ≡ None → operator_kind (get_or t 0 0 ∷ []) ≡ None → token_at t ≡ record { kind = Unknown; size = 1 }
+pub unknown-front : (t : List ℕ) (n : ℕ) → 0 < length t → begins_word (get_or t 0 0) ≡ false → n ≤ 0 →
+    IsLongestFront is_number t n → pair_operator t ≡ None → operator_kind (get_or t 0 0 ∷ []) ≡ None →
+    token_at t ≡ record { kind = Unknown; size = 1 }
 unknown-front = grind (arith, unknown-at, none_is)
 
 -- no number and no operator of two bytes begins with a plus

@@ -53,7 +53,12 @@ none-digit : (symbols : List ℕ) (byte : ℕ) → list_all (λ symbol. not (is_
     → list_any (λ symbol. symbol == byte) symbols ≡ true → not (is_digit byte) ≡ true
 none-digit [] byte all any = cc
 none-digit (symbol ∷ symbols) byte all any =
-    grind (arith, eqb-true, none-digit symbols byte (second_so (not (is_digit symbol)) (list_all (λ s. not (is_digit s)) symbols) all))
+    grind (
+      arith,
+      eqb-true,
+      none-digit symbols byte
+          (second_so (not (is_digit symbol)) (list_all (λ s. not (is_digit s)) symbols) all),
+    )
 
 pub begins-no_number : (byte : ℕ) → begins_word byte ≡ true → not (is_digit byte || byte == 46) ≡ true
 begins-no_number byte h = by _ refl h
@@ -92,8 +97,8 @@ is_name_meaning _ = false
 
 abbrev meaning_in : List (List ℕ × WordClass) → List ℕ → WordClass
 meaning_in table lower =
-    option_map_or (λ (entry : List ℕ × WordClass). entry.1) (find (λ (entry : List ℕ × WordClass). same_bytes lower entry.0) table)
-    meanings.Name
+    option_map_or (λ (entry : List ℕ × WordClass). entry.1)
+    (find (λ (entry : List ℕ × WordClass). same_bytes lower entry.0) table) meanings.Name
 
 reserved-word_class : (table : List (List ℕ × WordClass)) (lower : List ℕ)
     → list_all (λ (e : List ℕ × WordClass). not (is_name_meaning e.1)) table ≡ true
@@ -126,18 +131,21 @@ taken_token place bytes = record { kind = (token_at bytes).kind; start = place; 
 
 -- the token that begins the bytes, and the others
 abbrev pub taken_tokens : ℕ → ℕ → List ℕ → List Token
-taken_tokens place byte bytes = taken_token place (byte ∷ bytes) ∷ tokens_from (place + 1) ((token_at (byte ∷ bytes)).size - 1) bytes
+taken_tokens place byte bytes =
+    taken_token place (byte ∷ bytes) ∷ tokens_from (place + 1) ((token_at (byte ∷ bytes)).size - 1) bytes
 
 -- the tokens from a byte on: none at a comment, those after a space or tab, or the one that begins there and the others
 pub from_byte : (P : List Token → Type 0) (place byte : ℕ) (bytes : List ℕ) → (begins_comment byte ≡ true → P [])
     → (is_blank byte ≡ true → P (tokens_from (place + 1) 0 bytes))
-    → (begins_comment byte ≡ false → is_blank byte ≡ false → P (taken_tokens place byte bytes)) → P (tokens_from place 0 (byte ∷ bytes))
+    → (begins_comment byte ≡ false → is_blank byte ≡ false → P (taken_tokens place byte bytes)) →
+    P (tokens_from place 0 (byte ∷ bytes))
 from_byte P place byte bytes = by _ _
   where
     by : (comment empty : Bool) → (comment ≡ true → P []) → (empty ≡ true → P (tokens_from (place + 1) 0 bytes))
         → (comment ≡ false → empty ≡ false → P (taken_tokens place byte bytes)) → P (elim comment as (λ _. List Token) [
           | true ↦ []
-          | false ↦ elim empty as (λ _. List Token) [ true ↦ tokens_from (place + 1) 0 bytes | false ↦ taken_tokens place byte bytes ]
+          | false ↦ elim empty as (λ _. List Token)
+              [ true ↦ tokens_from (place + 1) 0 bytes | false ↦ taken_tokens place byte bytes ]
         ])
     by true empty none blank token = none refl
     by false true none blank token = blank refl

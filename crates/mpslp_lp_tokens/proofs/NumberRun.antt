@@ -28,7 +28,8 @@ pub data Class : Type 0 where
   IsOther : Class
 
 abbrev pub class_of : ℕ → Class
-class_of b = cond (is_digit b) IsDigit (cond (is_point b) IsPoint (cond (is_exponent_mark b) IsMark (cond (is_sign b) IsSign IsOther)))
+class_of b = cond (is_digit b) IsDigit
+    (cond (is_point b) IsPoint (cond (is_exponent_mark b) IsMark (cond (is_sign b) IsSign IsOther)))
 
 abbrev pub next : Stage → Class → Stage
 next Begin IsDigit = Whole
@@ -100,10 +101,12 @@ abbrev exponent : List ℕ → Bool
 exponent t = not (list_any is_exponent_mark t) || are_digits (without_sign (after_first is_exponent_mark t))
 
 exponent-past : (b : ℕ) (bs : List ℕ) → is_exponent_mark b ≡ false → exponent (b ∷ bs) ≡ exponent bs
-exponent-past b bs h = λ i. not (any-past is_exponent_mark b bs h i) || are_digits (without_sign (after-past is_exponent_mark b bs h i))
+exponent-past b bs h = λ i. not (any-past is_exponent_mark b bs h i) || are_digits
+    (without_sign (after-past is_exponent_mark b bs h i))
 
 exponent-here : (b : ℕ) (bs : List ℕ) → is_exponent_mark b ≡ true → exponent (b ∷ bs) ≡ are_digits (without_sign bs)
-exponent-here b bs h = λ i. not (any-here is_exponent_mark b bs h i) || are_digits (without_sign (after-here is_exponent_mark b bs h i))
+exponent-here b bs h = λ i. not (any-here is_exponent_mark b bs h i) || are_digits
+    (without_sign (after-here is_exponent_mark b bs h i))
 
 ahead-past : (b : ℕ) (bs : List ℕ) → is_exponent_mark b ≡ false → ahead (b ∷ bs) ≡ b ∷ ahead bs
 ahead-past b bs h = before-past _ b bs h
@@ -124,7 +127,8 @@ fraction-takes : (t : List ℕ) → accepts Fraction t ≡ in_fraction t
 fraction-takes [] = refl
 fraction-takes (b ∷ bs) = by _ (facts b) (fraction-takes bs)
   where
-    by : (class : Class) → Facts b class → accepts Fraction bs ≡ in_fraction bs → accepts (next Fraction class) bs ≡ in_fraction (b ∷ bs)
+    by : (class : Class) → Facts b class → accepts Fraction bs ≡ in_fraction bs →
+        accepts (next Fraction class) bs ≡ in_fraction (b ∷ bs)
     by = grind (arith, mark-takes, exponent-here, dead, ahead-past, exponent-past)
 
 abbrev in_whole : List ℕ → Bool
@@ -135,7 +139,17 @@ whole-takes [] = refl
 whole-takes (b ∷ bs) = by _ (facts b) (whole-takes bs)
   where
     by : (class : Class) → Facts b class → accepts Whole bs ≡ in_whole bs → accepts (next Whole class) bs ≡ in_whole (b ∷ bs)
-    by = grind (arith, mark-takes, mantissa-here, exponent-here, fraction-takes, mantissa-point, exponent-past, dead, mantissa-past)
+    by = grind (
+      arith,
+      mark-takes,
+      mantissa-here,
+      exponent-here,
+      fraction-takes,
+      mantissa-point,
+      exponent-past,
+      dead,
+      mantissa-past,
+    )
 
 abbrev in_point : List ℕ → Bool
 in_point t = are_digits (ahead t) && exponent t
@@ -152,7 +166,8 @@ point-takes (b ∷ bs) = by _ (facts b)
 abbrev unsigned_literal : List ℕ → Bool
 unsigned_literal t = are_digits (mantissa t) && exponent t
 
-literal-is : (b : ℕ) (bs : List ℕ) → is_exponent_mark b ≡ false → is_sign b ≡ false → is_literal (b ∷ bs) ≡ unsigned_literal (b ∷ bs)
+literal-is : (b : ℕ) (bs : List ℕ) → is_exponent_mark b ≡ false → is_sign b ≡ false →
+    is_literal (b ∷ bs) ≡ unsigned_literal (b ∷ bs)
 literal-is = grind arith
 
 pub number-takes : (t : List ℕ) → is_number t ≡ accepts Begin t

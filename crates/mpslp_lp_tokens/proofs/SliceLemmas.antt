@@ -25,8 +25,10 @@ token-within = grind (arith, found-within)
 
 -- ---- all tokens
 
-drop-more : (place : ℕ) (line : List ℕ) (byte : ℕ) (bytes : List ℕ) → drop place line ≡ byte ∷ bytes → drop (place + 1) line ≡ bytes
-drop-more place line byte bytes h = let one_more : place + 1 ≡ suc place = omega arith in ap (λ n. drop n line) one_more ∙ by place line h
+drop-more : (place : ℕ) (line : List ℕ) (byte : ℕ) (bytes : List ℕ) → drop place line ≡ byte ∷ bytes →
+    drop (place + 1) line ≡ bytes
+drop-more place line byte bytes h = let one_more : place + 1 ≡ suc place = omega arith in
+    ap (λ n. drop n line) one_more ∙ by place line h
   where
     by : (n : ℕ) (l : List ℕ) → drop n l ≡ byte ∷ bytes → drop (suc n) l ≡ bytes
     by (suc n) (x ∷ l) e = by n l e
@@ -91,16 +93,19 @@ made-comment byte bytes h = record {
 blank-before : (byte : ℕ) → is_blank byte ≡ true → (blanks : List ℕ) → are_blank blanks ≡ true → are_blank (byte ∷ blanks) ≡ true
 blank-before byte is blanks h = both_so _ _ is h
 
-first-blank : (spaced : SpacedToken) (more : List SpacedToken) → list_all (λ (s : SpacedToken). are_blank s.blanks) (spaced ∷ more) ≡ true
-    → (are_blank spaced.blanks ≡ true) × (list_all (λ (s : SpacedToken). are_blank s.blanks) more ≡ true)
+first-blank : (spaced : SpacedToken) (more : List SpacedToken) →
+    list_all (λ (s : SpacedToken). are_blank s.blanks) (spaced ∷ more) ≡ true →
+    (are_blank spaced.blanks ≡ true) × (list_all (λ (s : SpacedToken). are_blank s.blanks) more ≡ true)
 first-blank = grind arith
 
 -- it comes before the first token, or before the rest if there is no token
-made-blank : (found : List Token) (byte : ℕ) (bytes : List ℕ) → is_blank byte ≡ true → IsMadeOf found bytes → IsMadeOf found (byte ∷ bytes)
+made-blank : (found : List Token) (byte : ℕ) (bytes : List ℕ) → is_blank byte ≡ true → IsMadeOf found bytes →
+    IsMadeOf found (byte ∷ bytes)
 made-blank found byte bytes is h = by h.parts h.tokens_are h.blank h.bytes_are
   where
-    by : (parts : List SpacedToken) → map (λ spaced. spaced.token) parts ≡ found → list_all (λ spaced. are_blank spaced.blanks) parts ≡ true
-        → joined parts (h.last_blanks ++ h.comment) ≡ bytes → IsMadeOf found (byte ∷ bytes)
+    by : (parts : List SpacedToken) → map (λ spaced. spaced.token) parts ≡ found →
+        list_all (λ spaced. are_blank spaced.blanks) parts ≡ true → joined parts (h.last_blanks ++ h.comment) ≡ bytes →
+        IsMadeOf found (byte ∷ bytes)
     by [] t b e = record {
       parts = [];
       last_blanks = byte ∷ h.last_blanks;
@@ -141,7 +146,8 @@ made-token token found bytes rest e h =
     }
 
 -- the first bytes, at least one, and the rest
-first-and-rest : (size : ℕ) (byte : ℕ) (bytes : List ℕ) → 0 < size → take size (byte ∷ bytes) ++ drop (size - 1) bytes ≡ byte ∷ bytes
+first-and-rest : (size : ℕ) (byte : ℕ) (bytes : List ℕ) → 0 < size →
+    take size (byte ∷ bytes) ++ drop (size - 1) bytes ≡ byte ∷ bytes
 first-and-rest zero byte bytes some = grind arith
 first-and-rest (suc size) byte bytes some =
     let one_less : suc size - 1 ≡ size = omega arith in
@@ -163,8 +169,9 @@ made-from place (suc taken) (byte ∷ bytes) = made-from (place + 1) taken bytes
 made-from place zero (byte ∷ bytes) =
     let size = (token_at (byte ∷ bytes)).size in
     from_byte (λ found. IsMadeOf found (byte ∷ bytes)) place byte bytes (made-comment byte bytes)
-    (λ b. made-blank _ byte bytes b (subst (IsMadeOf (tokens_from (place + 1) 0 bytes)) (nothing-dropped bytes) (made-from _ zero bytes)))
-    (λ _ _. made-token _ _ _ _ (first-and-rest size byte bytes (token-within byte bytes).0) (made-from (place + 1) (size - 1) bytes))
+    (λ b. made-blank _ byte bytes b (subst (IsMadeOf (tokens_from (place + 1) 0 bytes)) (nothing-dropped bytes)
+    (made-from _ zero bytes))) (λ _ _. made-token _ _ _ _
+    (first-and-rest size byte bytes (token-within byte bytes).0) (made-from (place + 1) (size - 1) bytes))
 
 pub lines-joined : LinesAreTokens
 lines-joined line = subst (λ rest. IsMadeOf (tokens_from 0 0 line) rest) (nothing-dropped line) (made-from 0 0 line)
@@ -236,7 +243,8 @@ none-left : (rest : List ℕ) (place : ℕ) → length rest ≤ 0 → tokens_fro
 none-left [] place h = refl
 none-left (b ∷ bs) place h = grind arith
 
-comment-left : (rest : List ℕ) (place : ℕ) → 0 < length rest → begins_comment (get_or rest 0 0) ≡ true → tokens_from place 0 rest ≡ []
+comment-left : (rest : List ℕ) (place : ℕ) → 0 < length rest → begins_comment (get_or rest 0 0) ≡ true →
+    tokens_from place 0 rest ≡ []
 comment-left [] place some h = refl
 comment-left (b ∷ bs) place some h = grind arith
 
@@ -291,7 +299,8 @@ no-comment = grind arith
 count-from : (bytes : List ℕ) (place taken : ℕ) → length (tokens_from place taken bytes) ≤ length bytes
 count-from [] place taken = omega arith
 count-from (b ∷ bs) place (suc taken) = omega (arith, count-from bs (place + 1) taken)
-count-from (b ∷ bs) place zero = grind (arith, count-from bs (place + 1) 0, count-from bs (place + 1) ((token_at (b ∷ bs)).size - 1))
+count-from (b ∷ bs) place zero =
+    grind (arith, count-from bs (place + 1) 0, count-from bs (place + 1) ((token_at (b ∷ bs)).size - 1))
 
 -- a token has at least one byte
 pub count-within : (line : List ℕ) → length (tokens_from 0 0 line) ≤ length line
@@ -359,7 +368,8 @@ begins-token place byte bytes = by _ refl (token-within byte bytes).1
 
 -- ---- all tokens
 
-blanks-after : (byte : ℕ) (bytes : List ℕ) → is_blank byte ≡ true → prefix_len is_blank (byte ∷ bytes) ≡ suc (prefix_len is_blank bytes)
+blanks-after : (byte : ℕ) (bytes : List ℕ) → is_blank byte ≡ true →
+    prefix_len is_blank (byte ∷ bytes) ≡ suc (prefix_len is_blank bytes)
 blanks-after = grind arith
 
 -- the tokens of some bytes after so many spaces and tabs
@@ -373,12 +383,12 @@ after-are : (place : ℕ) (found : List Token) (bytes : List ℕ) → AreAfter (
     → AreLongest place found bytes
 after-are = grind arith
 
-one-blank-less : (blanks place : ℕ) (found : List Token) (byte : ℕ) (bytes : List ℕ) → AreAfter (suc blanks) place found (byte ∷ bytes)
-    → AreAfter blanks (place + 1) found bytes
+one-blank-less : (blanks place : ℕ) (found : List Token) (byte : ℕ) (bytes : List ℕ) →
+    AreAfter (suc blanks) place found (byte ∷ bytes) → AreAfter blanks (place + 1) found bytes
 one-blank-less = grind arith
 
-blank-longest : (place : ℕ) (found : List Token) (byte : ℕ) (bytes : List ℕ) → is_blank byte ≡ true → AreLongest place found (byte ∷ bytes)
-    → AreLongest (place + 1) found bytes
+blank-longest : (place : ℕ) (found : List Token) (byte : ℕ) (bytes : List ℕ) → is_blank byte ≡ true →
+    AreLongest place found (byte ∷ bytes) → AreLongest (place + 1) found bytes
 blank-longest = grind (arith, after-are, one-blank-less, blanks-after)
 
 unblank-longest : (place : ℕ) (found : List Token) (byte : ℕ) (bytes : List ℕ) → is_blank byte ≡ false
@@ -407,7 +417,8 @@ longest-from place zero (byte ∷ bytes) =
       blanks-after,
       b,
       (subst (AreLongest (place + 1) (tokens_from (place + 1) zero bytes)) (nothing-dropped bytes)
-          (subst (λ n. AreLongest n (tokens_from (place + 1) zero bytes) (drop 0 bytes)) (omega arith) (longest-from _ zero bytes))),
+          (subst (λ n. AreLongest n (tokens_from (place + 1) zero bytes) (drop 0 bytes)) (omega arith)
+          (longest-from _ zero bytes))),
     )))
     (λ c b. unblank-longest place (taken_tokens place byte bytes) byte bytes b (
       c,
@@ -432,7 +443,8 @@ front-is : (token : Token) (bytes : List ℕ) → BeginWith token bytes
     → token_at bytes ≡ record { kind = token.kind; size = length token.text }
 front-is token bytes h = by h.2
   where
-    none_at_all : kind_of token.text ≡ None → length token.text ≡ 1 → (n : ℕ) → 0 < n → n ≤ length bytes → kind_of (take n bytes) ≡ None
+    none_at_all : kind_of token.text ≡ None → length token.text ≡ 1 → (n : ℕ) → 0 < n → n ≤ length bytes →
+        kind_of (take n bytes) ≡ None
     none_at_all none one n some within = of (n == 1) refl
       where
         of : (b : Bool) → (n == 1) ≡ b → kind_of (take n bytes) ≡ None
@@ -448,8 +460,9 @@ front-is token bytes h = by h.2
 abbrev token_of : ℕ → List ℕ → Front → Token
 token_of place bytes front = record { kind = front.kind; start = place; text = take front.size bytes }
 
-unique-token : (place byte : ℕ) (bytes : List ℕ) (token : Token) (found : List Token) → AreAfter 0 place (token ∷ found) (byte ∷ bytes)
-    → (AreLongest (place + 1 + ((token_at (byte ∷ bytes)).size - 1)) found (drop ((token_at (byte ∷ bytes)).size - 1) bytes)
+unique-token : (place byte : ℕ) (bytes : List ℕ) (token : Token) (found : List Token) →
+    AreAfter 0 place (token ∷ found) (byte ∷ bytes) →
+    (AreLongest (place + 1 + ((token_at (byte ∷ bytes)).size - 1)) found (drop ((token_at (byte ∷ bytes)).size - 1) bytes)
     → found ≡ tokens_from (place + 1) ((token_at (byte ∷ bytes)).size - 1) bytes) → token ∷ found ≡ taken_tokens place byte bytes
 unique-token = grind (arith, token-within, front-is, drop-less)
 
@@ -458,7 +471,11 @@ longest-unique : (place taken : ℕ) (bytes : List ℕ) (found : List Token) →
 longest-unique place zero [] (token ∷ found) h = cc
 longest-unique place (suc taken) [] (token ∷ found) h = cc
 longest-unique place (suc taken) (byte ∷ bytes) found h =
-    grind (arith, longest-unique (place + 1) taken bytes found (subst (λ n. AreLongest n found (drop taken bytes)) (omega arith) h))
+    grind (
+      arith,
+      longest-unique (place + 1) taken bytes found
+          (subst (λ n. AreLongest n found (drop taken bytes)) (omega arith) h),
+    )
 longest-unique place zero (byte ∷ bytes) found h =
     let here : place + zero ≡ place = omega arith in
     let now = subst (λ n. AreLongest n found (byte ∷ bytes)) here h in
@@ -473,11 +490,12 @@ longest-unique place zero (byte ∷ bytes) found h =
 
     at_token : (found : List Token) → AreLongest place found (byte ∷ bytes) → ((more : List Token)
         → AreLongest (place + 1 + ((token_at (byte ∷ bytes)).size - 1)) more (drop ((token_at (byte ∷ bytes)).size - 1) bytes)
-        → more ≡ tokens_from (place + 1) ((token_at (byte ∷ bytes)).size - 1) bytes) → begins_comment byte ≡ false → is_blank byte ≡ false
-        → found ≡ taken_tokens place byte bytes
+        → more ≡ tokens_from (place + 1) ((token_at (byte ∷ bytes)).size - 1) bytes) → begins_comment byte ≡ false →
+        is_blank byte ≡ false → found ≡ taken_tokens place byte bytes
     at_token [] k later c b = grind arith
     at_token (token ∷ more) k later c b = unique-token place byte bytes token more (grind (arith, b, k)) (later more)
 longest-unique place _ [] [] h = refl
 
 pub tokens-unique : LongestAreTokens
-tokens-unique line found h = longest-unique 0 0 line found (subst (λ rest. AreLongest 0 found rest) (sym (nothing-dropped line)) h)
+tokens-unique line found h = longest-unique 0 0 line found
+    (subst (λ rest. AreLongest 0 found rest) (sym (nothing-dropped line)) h)

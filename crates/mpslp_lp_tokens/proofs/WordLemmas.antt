@@ -23,9 +23,10 @@ word_class-other word h = word_class-name word (reserved-other word h)
 
 -- a table of words by reference, and the words themselves
 pub found-word_class : (p : List ℕ → Bool) (entries : List (Bor (List ℕ) × WordClass))
-    → option_map_or (λ (entry : Bor (List ℕ) × WordClass). entry.1) (find (λ (entry : Bor (List ℕ) × WordClass). p entry.0.now) entries)
-    Name
+    → option_map_or (λ (entry : Bor (List ℕ) × WordClass). entry.1)
+    (find (λ (entry : Bor (List ℕ) × WordClass). p entry.0.now) entries) Name
     ≡ option_map_or (λ (entry : List ℕ × WordClass). entry.1)
-    (find (λ (entry : List ℕ × WordClass). p entry.0) (map (λ (entry : Bor (List ℕ) × WordClass). (entry.0.now, entry.1)) entries)) Name
+    (find (λ (entry : List ℕ × WordClass). p entry.0)
+    (map (λ (entry : Bor (List ℕ) × WordClass). (entry.0.now, entry.1)) entries)) Name
 found-word_class p [] = refl
 found-word_class p (entry ∷ entries) = grind (arith, found-word_class p entries)

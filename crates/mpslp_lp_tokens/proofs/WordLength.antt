@@ -1,11 +1,13 @@
 -- The length of a word, four bytes at a time.
-use Rattle.std.proofs.Common.{Bool, List, [], arith, drop, get_or, length, refl, subst, suc, sym, take, true, ap, ℕ, ◌+◌, ◌-◌, ◌∙◌, ◌∷◌, ◌≡◌, ◌≤◌}
+use Rattle.std.proofs.Common.{Bool, List, [], arith, drop, get_or, length, refl, subst, suc, sym, take, true, ap, ℕ}
+use Rattle.std.proofs.Common.{◌+◌, ◌-◌, ◌∙◌, ◌∷◌, ◌≡◌, ◌≤◌}
 use Rattle.std.{specs.{List.{prefix_len}, Prelude.{◌&&◌}}}
 use Rattle.mpslp_lp_tokens.specs.Token.{continues_word}
 
 -- what is left of a text continues its word
 abbrev pub IsLeft : List ℕ → List ℕ → Type 0
-IsLeft text left = (length left ≤ length text) × ((length text - length left) + prefix_len continues_word left ≡ prefix_len continues_word text)
+IsLeft text left = (length left ≤ length text)
+    × ((length text - length left) + prefix_len continues_word left ≡ prefix_len continues_word text)
 
 four : (p : ℕ → Bool) (a b c d : ℕ) (ts : List ℕ) → (p a && (p b && (p c && p d))) ≡ true
     → prefix_len p (a ∷ b ∷ c ∷ d ∷ ts) ≡ 4 + prefix_len p ts
@@ -25,7 +27,8 @@ after-four a b c d ts = (λ i. take (less (length ts) i) (drop_none ts i)) ∙ t
     less n = omega arith
 
 pub four-left : (text rest : List ℕ) → 4 ≤ length rest
-    → (continues_word (get_or rest 0 0) && (continues_word (get_or rest 1 0) && (continues_word (get_or rest 2 0) && continues_word (get_or rest 3 0)))) ≡ true
+    → (continues_word (get_or rest 0 0) &&
+    (continues_word (get_or rest 1 0) && (continues_word (get_or rest 2 0) && continues_word (get_or rest 3 0)))) ≡ true
     → IsLeft text rest → IsLeft text (take (length rest - 4) (drop 4 rest))
 four-left text [] some all so = absurd (omega (arith, some))
 four-left text (a ∷ []) some all so = absurd (omega (arith, some))

@@ -27,7 +27,8 @@ module _ {K X : Type 0} (R : K → K → Ordering) where
   value_if k (Some e) = cond (is_eq (R k e.0)) (Some e.1) None
 
   -- each entry after the first of these is greater than it
-  below_each : (x : K) (es : List (K × X)) (i : ℕ) (d : K × X) → below_all R x es ≡ true → i < length es → R x (get_or es i d).0 ≡ Less
+  below_each : (x : K) (es : List (K × X)) (i : ℕ) (d : K × X) → below_all R x es ≡ true → i < length es →
+      R x (get_or es i d).0 ≡ Less
   below_each x (e ∷ es) (suc i) d h in' = grind (arith, below_each x es i d)
   below_each x _ _ d h in' = grind arith
 
@@ -40,7 +41,8 @@ module _ {K X : Type 0} (R : K → K → Ordering) where
     -- a key that is less than the first entry is not found
     none_below : (k x : K) (es : List (K × X)) → R k x ≡ Less → below_all R x es ≡ true → find R k es ≡ None
     none_below k x [] h below = refl
-    none_below k x (e ∷ es) h below = grind (arith, less_from, none_below k x es h (second_so (is_lt (R x e.0)) (below_all R x es) below))
+    none_below k x (e ∷ es) h below =
+        grind (arith, less_from, none_below k x es h (second_so (is_lt (R x e.0)) (below_all R x es) below))
 
     -- what is found is at the place of the key, or nowhere
     find_at_key : (k : K) (es : List (K × X)) → is_sorted R es ≡ true
@@ -50,13 +52,14 @@ module _ {K X : Type 0} (R : K → K → Ordering) where
         grind (arith, none_below, suc_of, find_at_key k es (second_so (below_all R e.0 es) (is_sorted R es) sorted))
 
     -- the entry at the place of the key decides
-    pub found_here : (k : K) (es : List (K × X)) (i : ℕ) (e : K × X) → is_sorted R es ≡ true → i ≡ position_or_len (λ x. is_le (R k x.0)) es
-        → i < length es → e ≡ get_or es i e → find R k es ≡ cond (is_eq (R k e.0)) (Some e.1) None
+    pub found_here : (k : K) (es : List (K × X)) (i : ℕ) (e : K × X) → is_sorted R es ≡ true →
+        i ≡ position_or_len (λ x. is_le (R k x.0)) es → i < length es → e ≡ get_or es i e →
+        find R k es ≡ cond (is_eq (R k e.0)) (Some e.1) None
     found_here = grind (arith, find_at_key, slice_get_read)
 
     -- if the place of the key is the end, it is not found
-    pub found_nowhere : (k : K) (es : List (K × X)) (i : ℕ) → is_sorted R es ≡ true → i ≡ position_or_len (λ x. is_le (R k x.0)) es
-        → length es ≤ i → find R k es ≡ None
+    pub found_nowhere : (k : K) (es : List (K × X)) (i : ℕ) → is_sorted R es ≡ true →
+        i ≡ position_or_len (λ x. is_le (R k x.0)) es → length es ≤ i → find R k es ≡ None
     found_nowhere = grind (arith, find_at_key, slice_get_past)
 
     -- the place of a key greater than the last of these is after all
@@ -65,7 +68,13 @@ module _ {K X : Type 0} (R : K → K → Ordering) where
         → suc (length es) ≡ position_or_len (λ x. is_le (R k x.0)) (e ∷ es)
     after_last k e [] sorted above = grind arith
     after_last k e (f ∷ es) sorted above =
-        grind (arith, less_from, suc_of, after_last k f es (second_so (below_all R e.0 (f ∷ es)) (is_sorted R (f ∷ es)) sorted) above)
+        grind (
+          arith,
+          less_from,
+          suc_of,
+          after_last k f es
+              (second_so (below_all R e.0 (f ∷ es)) (is_sorted R (f ∷ es)) sorted) above,
+        )
 
     -- the place of a key greater than the last entry is after all
     pub place_after : (k : K) (es : List (K × X)) → is_sorted R es ≡ true
@@ -75,8 +84,8 @@ module _ {K X : Type 0} (R : K → K → Ordering) where
     place_after k (e ∷ es) sorted above = grind (arith, after_last)
 
   -- the number of the entry that has the key
-  pub number_here : (k : K) (es : List (K × X)) (i : ℕ) (e : K × X) → i ≡ position_or_len (λ x. is_le (R k x.0)) es → i < length es
-      → e ≡ get_or es i e → is_eq (R k e.0) ≡ true → position (λ x. is_eq (R k x.0)) es ≡ Some i
+  pub number_here : (k : K) (es : List (K × X)) (i : ℕ) (e : K × X) → i ≡ position_or_len (λ x. is_le (R k x.0)) es →
+      i < length es → e ≡ get_or es i e → is_eq (R k e.0) ≡ true → position (λ x. is_eq (R k x.0)) es ≡ Some i
   number_here = grind (arith, position_or_len_is, fails_before_first, lt-ltb)
 
   -- what is not found has no number
@@ -89,7 +98,8 @@ module _ {K X : Type 0} (R : K → K → Ordering) where
 
   -- the place of the key is where the entries less than it end
   pub place_from_point : (k : K) (es : List (K × X)) (i : ℕ) → i ≤ length es
-      → IsPartitionPoint (λ e. is_gt (R k e.0) ≡ true) (λ e. is_gt (R k e.0) ≡ false) es i → i ≡ position_or_len (λ e. is_le (R k e.0)) es
+      → IsPartitionPoint (λ e. is_gt (R k e.0) ≡ true) (λ e. is_gt (R k e.0) ≡ false) es i →
+      i ≡ position_or_len (λ e. is_le (R k e.0)) es
   place_from_point k [] i le point = omega arith
   place_from_point k (e ∷ es) i le point =
       sym (position_or_len_is (λ x. is_le (R k x.0)) (e ∷ es) i e le (λ j below. (grind (arith, point.0 j e (omega arith) below)))
@@ -98,6 +108,6 @@ module _ {K X : Type 0} (R : K → K → Ordering) where
 -- a test as a type and as an equation
 
 -- `put` keeps the order
-pub sorted-put : {K X : Type 0} (R : K → K → Ordering) (o : IsTotalOrder R) (k : K) (v : X) (es : List (K × X)) → is_sorted R es ≡ true
-    → is_sorted R (put R k v es) ≡ true
+pub sorted-put : {K X : Type 0} (R : K → K → Ordering) (o : IsTotalOrder R) (k : K) (v : X) (es : List (K × X)) →
+    is_sorted R es ≡ true → is_sorted R (put R k v es) ≡ true
 sorted-put R o k v es h = grind (arith, is_sorted-put R o k v es (grind (arith, h)))

@@ -49,7 +49,8 @@ onto-going = grind arith
 
 parts-more : (xs ys : List ℕ) → slice_split is_feed (xs ++ ys) ≡ going_on (slice_split is_feed xs) ys
 parts-more [] ys = refl
-parts-more (x ∷ xs) ys = grind (arith, begins, slice_split-cons_yes, going-after, slice_split-cons_no, onto-going, parts-more xs ys)
+parts-more (x ∷ xs) ys = grind
+    (arith, begins, slice_split-cons_yes, going-after, slice_split-cons_no, onto-going, parts-more xs ys)
 
 ended-going : (parts : List (List ℕ)) (bytes : List ℕ)
     → ended_parts (going_on parts bytes) ≡ ended_parts parts ++ complete_lines (last_part parts ++ bytes)
@@ -101,8 +102,8 @@ open_tail-no_feed [] = All-nil (λ b. is_feed b ≡ false)
 open_tail-no_feed (x ∷ xs) =
     let b = begins xs in
     elim (is_feed x) as (λ b. is_feed x ≡ b → HasNoFeed (open_tail (x ∷ xs))) [
-      | true ↦ λ h. subst HasNoFeed (sym (ap last_part (slice_split-cons_yes is_feed x xs h) ∙ last-after [] (slice_split is_feed xs) b))
-          (open_tail-no_feed xs)
+      | true ↦ λ h. subst HasNoFeed (sym (ap last_part (slice_split-cons_yes is_feed x xs h)
+          ∙ last-after [] (slice_split is_feed xs) b)) (open_tail-no_feed xs)
       | false ↦ λ h.
           subst HasNoFeed (sym (ap last_part (slice_split-cons_no is_feed x xs h ∙ ap (onto_first x) b.is)))
           (last-onto x b.part b.more h (subst HasNoFeed (ap last_part b.is) (open_tail-no_feed xs)))

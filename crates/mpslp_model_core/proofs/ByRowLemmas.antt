@@ -25,8 +25,8 @@ use Rattle.mpslp_model_core.proofs.ViewLemmas.{cells_seen, found_seen, value_see
 -- ---- column by column
 
 pub range_more : (count : ℕ) → range_with_len 0 (count + 1) ≡ range_with_len 0 count ++ count ∷ []
-range_more count = sym (map-id (range_with_len 0 (count + 1))) ∙ map-range_with_len_more (λ (j : ℕ). j) 0 count count (omega arith)
-    ∙ ap (λ (l : List ℕ). l ++ count ∷ []) (map-id (range_with_len 0 count))
+range_more count = sym (map-id (range_with_len 0 (count + 1))) ∙ map-range_with_len_more (λ (j : ℕ). j) 0 count count
+    (omega arith) ∙ ap (λ (l : List ℕ). l ++ count ∷ []) (map-id (range_with_len 0 count))
 
 one_filtered : (p : ℕ → Bool) (j : ℕ) → filter p (j ∷ []) ≡ column_if (p j) j
 one_filtered = grind arith
@@ -68,7 +68,8 @@ listed_below p n k j at = by (range_with_len 0 n) k (all_below (λ (j : ℕ). j 
         ] at
 
 -- a row of the model is one of the parts
-pub row_below : {m : ModelParts} {v : LinearModel} → linear_model m ≡ v → AreModelParts m → (i : ℕ) → i < num_rows v → i < length m.rows.items
+pub row_below : {m : ModelParts} {v : LinearModel} → linear_model m ≡ v → AreModelParts m → (i : ℕ) → i < num_rows v →
+    i < length m.rows.items
 row_below = grind (arith, count_seen, rows_seen)
 
 -- lists that were made are those of the parts
@@ -79,17 +80,22 @@ listed_in = grind arith
 -- the columns with a coefficient in a row, and those of the row in the model
 pub columns_seen : {m : ModelParts} {v : LinearModel} → linear_model m ≡ v → AreModelParts m → (i : ℕ) → i < num_rows v
     → columns_with m.columns (suc i) (length m.columns) ≡ row_columns v (row_name v i)
-columns_seen {m} {v} seen parts i below = let own = m.columns in let row = row_name v i in let n = num_columns v in
-    let as_many : length own ≡ n = count_columns seen parts in let alike : (j : ℕ) → j < n
+columns_seen {m} {v} seen parts i below =
+    let own = m.columns in
+    let row = row_name v i in
+    let n = num_columns v in
+    let as_many : length own ≡ n = count_columns seen parts in
+    let alike : (j : ℕ) → j < n
     → has_number (suc i) (cells_of own j) ≡ has_coefficient v row (column_name v j) = (λ j under. let cells = cells_of own j in
     let there = cells_seen m parts v seen j cells (cells_there own j (subst (λ (len : ℕ). j < len) (sym as_many) under)) in
     ap is_some (sym (found_seen m parts v seen j cells there (suc i) row (row_numbered seen parts i below)))) in
     ap (columns_with own (suc i)) as_many ∙ filter_alike
-    (λ j. has_number (suc i) (cells_of own j)) (λ j. has_coefficient v row (column_name v j)) (range_with_len 0 n) (all_below _ n alike)
+    (λ j. has_number (suc i) (cells_of own j)) (λ j. has_coefficient v row (column_name v j)) (range_with_len 0 n)
+    (all_below _ n alike)
 
 -- the list of a row, and its columns in the model
-pub row_seen : {m : ModelParts} {v : LinearModel} (lists : RowLists) → linear_model m ≡ v → AreListed m lists → (i : ℕ) → i < num_rows v
-    → map (λ (element : RowElement). element.column) (list_at lists i) ≡ row_columns v (row_name v i)
+pub row_seen : {m : ModelParts} {v : LinearModel} (lists : RowLists) → linear_model m ≡ v → AreListed m lists →
+    (i : ℕ) → i < num_rows v → map (λ (element : RowElement). element.column) (list_at lists i) ≡ row_columns v (row_name v i)
 row_seen {m} {v} lists seen are i below = are.by_row.own i (row_below seen are.parts i below)
     ∙ columns_seen seen are.parts i below
 
@@ -104,7 +110,8 @@ cells_found : (o : Option (List ℕ × ModelColumn)) (cells : List (ℕ × Numbe
     column.1.cells) o ≡ Some cells → option_map_or (λ (column : List ℕ × ModelColumn). column.1.cells) o [] ≡ cells
 cells_found = grind arith
 
-placed_within : (cells : List (ℕ × Number)) (p n : ℕ) → option_map (λ (cell : ℕ × Number). cell.0) (slice_get cells p) ≡ Some n → p < length cells
+placed_within : (cells : List (ℕ × Number)) (p n : ℕ) →
+    option_map (λ (cell : ℕ × Number). cell.0) (slice_get cells p) ≡ Some n → p < length cells
 placed_within [] p n at = absurd cc
 placed_within (cell ∷ cells) zero n at = omega arith
 placed_within (cell ∷ cells) (suc p) n at = grind (arith, placed_within cells p n at)
@@ -121,7 +128,8 @@ columns_next = grind (arith, columns_more, cells_found)
 pub columns_without : (columns : List (List ℕ × ModelColumn)) (n count : ℕ) (cells : List (ℕ × Number))
     → option_map (λ (column : List ℕ × ModelColumn). column.1.cells) (slice_get columns count) ≡ Some cells
     → has_number n cells ≡ false → columns_with columns n (count + 1) ≡ columns_with columns n count
-columns_without columns n count cells at none = grind (arith, columns_next columns n count cells at, append-nil (columns_with columns n count))
+columns_without columns n count cells at none =
+    grind (arith, columns_next columns n count cells at, append-nil (columns_with columns n count))
 
 -- and one with a coefficient adds itself
 pub columns_and : (columns : List (List ℕ × ModelColumn)) (n count : ℕ) (cells : List (ℕ × Number))
@@ -159,8 +167,9 @@ kept_after columns n count k j (suc more) at =
 
 -- a column with a coefficient is listed where as many come before it
 pub column_listed : (columns : List (List ℕ × ModelColumn)) (n j k : ℕ) (cells : List (ℕ × Number))
-    → option_map (λ (column : List ℕ × ModelColumn). column.1.cells) (slice_get columns j) ≡ Some cells → has_number n cells ≡ true
-    → k ≡ length (columns_with columns n j) → j < length columns → slice_get (columns_with columns n (length columns)) k ≡ Some j
+    → option_map (λ (column : List ℕ × ModelColumn). column.1.cells) (slice_get columns j) ≡ Some cells →
+    has_number n cells ≡ true → k ≡ length (columns_with columns n j) → j < length columns →
+    slice_get (columns_with columns n (length columns)) k ≡ Some j
 column_listed columns n j k cells at one place below =
     grind (
       arith,
@@ -176,7 +185,8 @@ column_below = grind (arith, listed_below)
 -- ---- an element
 
 -- the element of number k in the list of the row at index i
-module _ {m : ModelParts} {v : LinearModel} (lists : RowLists) (seen : linear_model m ≡ v) (are : AreListed m lists) (i k : ℕ) (below : i < num_rows v) (element : RowElement) (is : slice_get (list_at lists i) k ≡ Some element) where
+module _ {m : ModelParts} {v : LinearModel} (lists : RowLists) (seen : linear_model m ≡ v) (are : AreListed m lists)
+    (i k : ℕ) (below : i < num_rows v) (element : RowElement) (is : slice_get (list_at lists i) k ≡ Some element) where
   pub element_column : slice_get (row_columns v (row_name v i)) k ≡ Some element.column
   element_column = grind (arith, row_seen lists seen are i below, slice_get-map)
 
@@ -184,7 +194,8 @@ module _ {m : ModelParts} {v : LinearModel} (lists : RowLists) (seen : linear_mo
   element_below = column_below v i k element.column element_column
 
   -- its coefficient is at its place in its column
-  module _ (cells : List (ℕ × Number)) (at : option_map (λ (column : List ℕ × ModelColumn). column.1.cells) (slice_get m.columns element.column) ≡ Some cells) where
+  module _ (cells : List (ℕ × Number)) (at : option_map (λ (column : List ℕ × ModelColumn). column.1.cells)
+      (slice_get m.columns element.column) ≡ Some cells) where
     number_placed : option_map (λ (cell : ℕ × Number). cell.0) (slice_get cells element.place) ≡ Some (suc i)
     number_placed =
         grind (
@@ -201,16 +212,19 @@ module _ {m : ModelParts} {v : LinearModel} (lists : RowLists) (seen : linear_mo
     pub element_value : (cell : ℕ × Number) → slice_get cells element.place ≡ Some cell
         → cell.1 ≡ coefficient_at v (row_name v i) (column_name v element.column)
     element_value cell there =
-        let number : cell.0 ≡ suc i = same_Some cell.0 (suc i) (ap (option_map (λ (c : ℕ × Number). c.0)) (sym there) ∙ number_placed) in
+        let number : cell.0 ≡ suc i = same_Some cell.0 (suc i) (ap (option_map (λ (c : ℕ × Number). c.0)) (sym there)
+        ∙ number_placed) in
         let own_cells = cells_seen m are.parts v seen element.column cells at in
-        ap (λ (o : Option Number). unwrap_or o zero_number) (sym (found_by nat_cmp nat_cmp_total number_same cells element.place cell
+        ap (λ (o : Option Number). unwrap_or o zero_number)
+        (sym (found_by nat_cmp nat_cmp_total number_same cells element.place cell
         (once-sorted nat_cmp nat_cmp_total cells own_cells.sorted) there) ∙ ap (λ (n : ℕ). find nat_cmp n cells) number)
-        ∙ value_seen m are.parts v seen element.column cells own_cells (suc i) (row_name v i) (row_numbered seen are.parts i below)
+        ∙ value_seen m are.parts v seen element.column cells own_cells (suc i) (row_name v i)
+        (row_numbered seen are.parts i below)
 
 -- ---- what accessors find in the parts
 
-named_within : {X : Type 0} (objective : List ℕ) (rows : List (List ℕ × X)) (n : ℕ) → is_some (name_of (Some objective) rows n) ≡ true
-    → n ≤ length rows
+named_within : {X : Type 0} (objective : List ℕ) (rows : List (List ℕ × X)) (n : ℕ) →
+    is_some (name_of (Some objective) rows n) ≡ true → n ≤ length rows
 named_within objective rows zero named = omega arith
 named_within objective [] (suc i) named = absurd cc
 named_within objective (row ∷ rows) (suc zero) named = omega arith
@@ -248,7 +262,8 @@ noted_none = grind (arith, append-nil)
 
 pub noted_more : (columns : List (List ℕ × ModelColumn)) (k m : ℕ) (d : ℕ × Number) → m < length (cells_of columns k)
     → IsOnceBy nat_cmp (cells_of columns k) → (i : ℕ)
-    → noted columns k (m + 1) i ≡ noted columns k m i ++ column_if (eq_by_cmp nat_cmp (suc i) (get_or (cells_of columns k) m d).0) k
+    → noted columns k (m + 1) i ≡ noted columns k m i ++ column_if
+    (eq_by_cmp nat_cmp (suc i) (get_or (cells_of columns k) m d).0) k
 noted_more columns k m d below once i = grind (arith, add-one m, taken_more, append_assoc)
 
 pub noted_all : (columns : List (List ℕ × ModelColumn)) (k i : ℕ)
@@ -263,11 +278,12 @@ within_here : (rows : ℕ) (columns : List (List ℕ × ModelColumn)) (k : ℕ) 
 within_here rows [] k cells all at = absurd cc
 within_here rows (column ∷ columns) zero cells all at =
     subst (λ (es : List (ℕ × Number)). AreWithin rows es) (same_Some column.1.cells cells at) (all 0 column (omega arith))
-within_here rows (column ∷ columns) (suc k) cells all at = within_here rows columns k cells (λ j d below. all (suc j) d (omega arith)) at
+within_here rows (column ∷ columns) (suc k) cells all at =
+    within_here rows columns k cells (λ j d below. all (suc j) d (omega arith)) at
 
 module _ (columns : List (List ℕ × ModelColumn)) (k : ℕ) (cells : List (ℕ × Number)) (m : ℕ) (cell : ℕ × Number)
-    (read : option_map (λ (column : List ℕ × ModelColumn). column.1.cells) (slice_get columns k) ≡ Some cells) (under : m < length cells)
-    (is : cell ≡ get_or cells m cell) where
+    (read : option_map (λ (column : List ℕ × ModelColumn). column.1.cells) (slice_get columns k) ≡ Some cells)
+    (under : m < length cells) (is : cell ≡ get_or cells m cell) where
   there : cells ≡ cells_of columns k
   there = sym (cells_found (slice_get columns k) cells read)
 
@@ -290,8 +306,8 @@ module _ (columns : List (List ℕ × ModelColumn)) (k : ℕ) (cells : List (ℕ
 
 -- a column whose coefficients are all noted
 pub column_noted : (columns : List (List ℕ × ModelColumn)) (k : ℕ) (cells : List (ℕ × Number)) (m : ℕ)
-    → option_map (λ (column : List ℕ × ModelColumn). column.1.cells) (slice_get columns k) ≡ Some cells → length cells ≡ m → (i : ℕ)
-    → noted columns k m i ≡ columns_with columns (suc i) (k + 1)
+    → option_map (λ (column : List ℕ × ModelColumn). column.1.cells) (slice_get columns k) ≡ Some cells →
+    length cells ≡ m → (i : ℕ) → noted columns k m i ≡ columns_with columns (suc i) (k + 1)
 column_noted columns k cells m read = grind (arith, cells_found (slice_get columns k) cells read, noted_all)
 
 -- ---- how long the lists are
@@ -304,30 +320,37 @@ column_one : (has : Bool) (column : ℕ) → length (column_if has column) ≤ 1
 column_one = grind arith
 
 with_more : (columns : List (List ℕ × ModelColumn)) (n k : ℕ)
-    → length (columns_with columns n (suc k)) ≡ length (columns_with columns n k) + length (column_if (has_number n (cells_of columns k)) k)
+    → length (columns_with columns n (suc k)) ≡ length (columns_with columns n k) + length
+    (column_if (has_number n (cells_of columns k)) k)
 with_more columns n k = grind (arith, add-one k, columns_more columns n k, length-append)
 
 with_few : (columns : List (List ℕ × ModelColumn)) (n k : ℕ) → length (columns_with columns n k) ≤ k
 with_few columns n zero = omega arith
 with_few columns n (suc k) = grind (arith, with_few columns n k, with_more, column_one)
 
-with_rise : (columns : List (List ℕ × ModelColumn)) (n j k : ℕ) → j ≤ k → length (columns_with columns n j) ≤ length (columns_with columns n k)
+with_rise : (columns : List (List ℕ × ModelColumn)) (n j k : ℕ) → j ≤ k →
+    length (columns_with columns n j) ≤ length (columns_with columns n k)
 with_rise columns n j k below = let whole : j + (k - j) ≡ k = omega arith in
     subst (λ (top : ℕ). length (columns_with columns n j) ≤ length (columns_with columns n top)) whole
     (rising (λ (l : ℕ). length (columns_with columns n l)) (λ l. let more = with_more columns n l in omega arith) j (k - j))
 
-one_of_both : (a b : Option Number) (column : ℕ) → length (column_if (is_some a) column) ≤ length (column_if (is_some (or_else a b)) column)
+one_of_both : (a b : Option Number) (column : ℕ) →
+    length (column_if (is_some a) column) ≤ length (column_if (is_some (or_else a b)) column)
 one_of_both = grind arith
 
-noted_within : (columns : List (List ℕ × ModelColumn)) (k m i : ℕ) → length (noted columns k m i) ≤ length (columns_with columns (suc i) (suc k))
-noted_within columns k m i = grind (arith, find-two, take-append-drop m (cells_of columns k), one_of_both, length-append, with_more columns (suc i) k)
+noted_within : (columns : List (List ℕ × ModelColumn)) (k m i : ℕ) →
+    length (noted columns k m i) ≤ length (columns_with columns (suc i) (suc k))
+noted_within columns k m i = grind
+    (arith, find-two, take-append-drop m (cells_of columns k), one_of_both, length-append, with_more columns (suc i) k)
 
-pub noted_few : (columns : List (List ℕ × ModelColumn)) (k m i : ℕ) → k < length columns → length (noted columns k m i) ≤ length columns
+pub noted_few : (columns : List (List ℕ × ModelColumn)) (k m i : ℕ) → k < length columns →
+    length (noted columns k m i) ≤ length columns
 noted_few columns k m i below = search (rules, noted_within, with_few)
 
 pub noted_fits : (columns : List (List ℕ × ModelColumn)) (k m i : ℕ) → k < length columns
     → length (noted columns k m i) ≤ length (columns_with columns (suc i) (length columns))
-noted_fits columns k m i below = grind (arith, noted_within columns k m i, with_rise columns (suc i) (suc k) (length columns) below)
+noted_fits columns k m i below =
+    grind (arith, noted_within columns k m i, with_rise columns (suc i) (suc k) (length columns) below)
 
 -- ---- where the lists start
 
@@ -338,10 +361,11 @@ starts_rise columns i j below = let whole : i + (j - i) ≡ j = omega arith in
 -- places in the lists of two rows differ
 places_apart : (columns : List (List ℕ × ModelColumn)) (i r p q : ℕ) → p < length (columns_with columns (suc i) (length columns))
     → q < length (columns_with columns (suc r) (length columns)) → start_of columns i + p ≡ start_of columns r + q → i ≡ r
-places_apart columns i r p q under over same = grind (arith, cases_order i r, starts_rise columns (suc i) r, starts_rise columns (suc r) i)
+places_apart columns i r p q under over same =
+    grind (arith, cases_order i r, starts_rise columns (suc i) r, starts_rise columns (suc r) i)
 
-pub sums_are_starts : (columns : List (List ℕ × ModelColumn)) (rows : ℕ) (counts : List ℕ) → AreCounts columns rows counts → (i : ℕ)
-    → i ≤ rows → sum (take (suc i) counts) ≡ start_of columns i
+pub sums_are_starts : (columns : List (List ℕ × ModelColumn)) (rows : ℕ) (counts : List ℕ) →
+    AreCounts columns rows counts → (i : ℕ) → i ≤ rows → sum (take (suc i) counts) ≡ start_of columns i
 sums_are_starts columns rows counts are zero below = grind arith
 sums_are_starts columns rows counts are (suc i) below =
     grind (arith, sums_are_starts columns rows counts are i, add-one (suc i), take_more counts (suc i) 0, fold_push)
@@ -366,8 +390,9 @@ counted_few {rows} {own} {counts} most are few (suc i) within = grind arith
 column_length : (has : Bool) (column : ℕ) → length (column_if has column) ≡ cond has 1 0
 column_length = grind arith
 
-one_longer : (own next : ℕ → List ℕ) (number column : ℕ) → ((i : ℕ) → next i ≡ own i ++ column_if (eq_by_cmp nat_cmp (suc i) number) column)
-    → (i : ℕ) → length (next i) ≡ length (own i) + cond (eq_by_cmp nat_cmp (suc i) number) 1 0
+one_longer : (own next : ℕ → List ℕ) (number column : ℕ) →
+    ((i : ℕ) → next i ≡ own i ++ column_if (eq_by_cmp nat_cmp (suc i) number) column) → (i : ℕ) →
+    length (next i) ≡ length (own i) + cond (eq_by_cmp nat_cmp (suc i) number) 1 0
 one_longer = grind (arith, length-append, column_length)
 
 pub counted_more : {rows : ℕ} {own next : ℕ → List ℕ} {old new : List ℕ} (number column : ℕ) → AreCounted rows own old
@@ -384,12 +409,13 @@ counted_more {rows} {own} {next} {old} {new} number column are more len objectiv
 abbrev pub IsListed : List (List ℕ × ModelColumn) → ℕ → ℕ → RowElement → Type 0
 IsListed columns n column element = (element.column ≡ column) × IsPlaced columns n element
 
-pub listed_same : (columns : List (List ℕ × ModelColumn)) (n : ℕ) {j k : ℕ} {e f : RowElement} → j ≡ k → e ≡ f → IsListed columns n j e
-    → IsListed columns n k f
+pub listed_same : (columns : List (List ℕ × ModelColumn)) (n : ℕ) {j k : ℕ} {e f : RowElement} → j ≡ k → e ≡ f →
+    IsListed columns n j e → IsListed columns n k f
 listed_same = grind arith
 
 -- the lists so far, each from its start to its end
-pub record ArePut (columns : List (List ℕ × ModelColumn)) (rows : ℕ) (own : ℕ → List ℕ) (row_ends : List ℕ) (list : List RowElement) : Type 0 where
+pub record ArePut (columns : List (List ℕ × ModelColumn)) (rows : ℕ) (own : ℕ →
+    List ℕ) (row_ends : List ℕ) (list : List RowElement) : Type 0 where
   pub len : length row_ends ≡ suc rows
   pub room : length list ≡ start_of columns rows
   pub objective : get_or row_ends 0 0 ≡ 0
@@ -402,20 +428,25 @@ pub put_same : {columns : List (List ℕ × ModelColumn)} {rows : ℕ} {own next
 put_same = grind arith
 
 -- there is room for a coefficient that is not noted yet
-pub put_fits : {columns : List (List ℕ × ModelColumn)} {rows : ℕ} {own next : ℕ → List ℕ} {row_ends : List ℕ} {list : List RowElement}
-    (number column : ℕ) → ArePut columns rows own row_ends list → number ≤ rows
+pub put_fits : {columns : List (List ℕ × ModelColumn)} {rows : ℕ} {own next : ℕ → List ℕ} {row_ends : List ℕ}
+    {list : List RowElement} (number column : ℕ) → ArePut columns rows own row_ends list → number ≤ rows
     → ((i : ℕ) → next i ≡ own i ++ column_if (eq_by_cmp nat_cmp (suc i) number) column) → ((i : ℕ)
-    → length (next i) ≤ length (columns_with columns (suc i) (length columns))) → 0 < number → get_or row_ends number 0 < length list
+    → length (next i) ≤ length (columns_with columns (suc i) (length columns))) → 0 < number →
+    get_or row_ends number 0 < length list
 put_fits zero column are below more fits some = grind arith
 put_fits {columns} {rows} {own} {next} {row_ends} {list} (suc i) column are below more fits some =
     let longer : length (next i) ≡ length (own i) + 1 = one_longer own next (suc i) column more i ∙ ap
-    (λ (b : Bool). length (own i) + cond b 1 0) (number_tied (suc i) (suc i) refl) in let end = are.ends i below in let room = are.room in
-    let fit = fits i in let far : start_of columns (suc i) ≤ start_of columns rows = starts_rise columns (suc i) rows below in omega arith
+    (λ (b : Bool). length (own i) + cond b 1 0) (number_tied (suc i) (suc i) refl) in
+    let end = are.ends i below in
+    let room = are.room in
+    let fit = fits i in
+    let far : start_of columns (suc i) ≤ start_of columns rows = starts_rise columns (suc i) rows below in omega arith
 
 -- before the first column
-pub put_none : (columns : List (List ℕ × ModelColumn)) (rows : ℕ) (counts starts : List ℕ) (list : List RowElement) → AreCounts columns rows
-    counts → length starts ≡ length counts → ((i : ℕ) → i < length counts → get_or starts i 0 ≡ sum (take i counts))
-    → length list ≡ sum counts → ArePut columns rows (λ i. columns_with columns (suc i) 0) starts list
+pub put_none : (columns : List (List ℕ × ModelColumn)) (rows : ℕ) (counts starts : List ℕ) (list : List RowElement) →
+    AreCounts columns rows counts → length starts ≡ length counts →
+    ((i : ℕ) → i < length counts → get_or starts i 0 ≡ sum (take i counts)) → length list ≡ sum counts →
+    ArePut columns rows (λ i. columns_with columns (suc i) 0) starts list
 put_none columns rows counts starts list are len sums room =
     grind (
       arith,
@@ -425,13 +456,15 @@ put_none columns rows counts starts list are len sums room =
       add-zero,
     )
 
-module _ (columns : List (List ℕ × ModelColumn)) (rows : ℕ) (own next : ℕ → List ℕ) (old_ends : List ℕ) (old_list : List RowElement) (ends : List ℕ) (list : List RowElement) (number column : ℕ)
+module _ (columns : List (List ℕ × ModelColumn)) (rows : ℕ) (own next : ℕ →
+    List ℕ) (old_ends : List ℕ) (old_list : List RowElement) (ends : List ℕ) (list : List RowElement) (number column : ℕ)
     (are : ArePut columns rows own old_ends old_list)
     (row : number ≤ rows)
     (more : (i : ℕ) → next i ≡ own i ++ column_if (eq_by_cmp nat_cmp (suc i) number) column)
     (fits : (i : ℕ) → length (next i) ≤ length (columns_with columns (suc i) (length columns)))
     (placed : 0 < number → (d : RowElement) → IsListed columns number column (get_or list (get_or old_ends number 0) d))
-    (kept : (p : ℕ) (d : RowElement) → (0 < number → p ≡ get_or old_ends number 0 → ⊥) → get_or list p d ≡ get_or old_list p d) where
+    (kept : (p : ℕ) (d : RowElement) → (0 < number → p ≡ get_or old_ends number 0 → ⊥) →
+    get_or list p d ≡ get_or old_list p d) where
   next_length : (i : ℕ) → length (next i) ≡ length (own i) + cond (eq_by_cmp nat_cmp (suc i) number) 1 0
   next_length = one_longer own next number column more
 
@@ -465,7 +498,8 @@ module _ (columns : List (List ℕ × ModelColumn)) (rows : ℕ) (own next : ℕ
   put_more = grind (arith, next_length, put_at)
 
 -- with all columns the lists are done
-module _ (columns : List (List ℕ × ModelColumn)) (rows : ℕ) (lists : RowLists) (are : ArePut columns rows (λ i. columns_with columns (suc i) (length columns)) lists.starts.items lists.elements.items) where
+module _ (columns : List (List ℕ × ModelColumn)) (rows : ℕ) (lists : RowLists)
+    (are : ArePut columns rows (λ i. columns_with columns (suc i) (length columns)) lists.starts.items lists.elements.items) where
   all_starts : (i : ℕ) → i ≤ rows → get_or lists.starts.items i 0 ≡ start_of columns i
   all_starts = grind arith
 
@@ -483,19 +517,22 @@ module _ (columns : List (List ℕ × ModelColumn)) (rows : ℕ) (lists : RowLis
     filled_length : length filled ≡ length own_columns
     filled_length = grind (arith, starts_rise columns (suc i) rows below, length-drop, length-take-le)
 
-    filled_at : (p : ℕ) (d : RowElement) → p < length filled → IsListed columns (suc i) (get_or own_columns p 0) (get_or filled p d)
+    filled_at : (p : ℕ) (d : RowElement) → p < length filled →
+        IsListed columns (suc i) (get_or own_columns p 0) (get_or filled p d)
     filled_at = grind (arith, filled_length, listed_same, get_or-take, get_or-drop)
 
     own_filled : map (λ (e : RowElement). e.column) filled ≡ own_columns
-    own_filled = let column : RowElement → ℕ = λ e. e.column in let none : RowElement = record { column = 0; place = 0 } in
+    own_filled = let column : RowElement → ℕ = λ e. e.column in
+        let none : RowElement = record { column = 0; place = 0 } in
         let len = length-map filled column in same_number_lists (map column filled) own_columns (len ∙ filled_length) (λ p under.
-        let inside : p < length filled = subst (λ (n : ℕ). p < n) len under in get_or-map column filled p none 0 inside ∙ (filled_at p none inside).0)
+        let inside : p < length filled = subst (λ (n : ℕ). p < n) len under in
+        get_or-map column filled p none 0 inside ∙ (filled_at p none inside).0)
 
   pub lists_from_put : AreByRow columns rows lists
   lists_from_put = grind (arith, all_starts, list_filled, own_filled, filled_at)
 
 -- ---- the list of a row
 
-pub has_list : {columns : List (List ℕ × ModelColumn)} {rows : ℕ} {lists : RowLists} → AreByRow columns rows lists → (i : ℕ) → i < rows
-    → HasList lists i
+pub has_list : {columns : List (List ℕ × ModelColumn)} {rows : ℕ} {lists : RowLists} → AreByRow columns rows lists →
+    (i : ℕ) → i < rows → HasList lists i
 has_list {columns} {rows} {lists} are i below = grind (arith, starts_rise columns (suc i) rows below)

@@ -34,7 +34,8 @@ then_second = grind arith
 
 -- keys that compare as equal are the same
 pub same_key : (a b : CoefficientKey) → key_cmp a b ≡ orders.Equal → a ≡ b
-same_key a b h = let columns = tied_names a.column b.column (then_first (bytes_cmp a.column b.column) (bytes_cmp a.row b.row) h) in
+same_key a b h = let columns =
+    tied_names a.column b.column (then_first (bytes_cmp a.column b.column) (bytes_cmp a.row b.row) h) in
     let rows = tied_names a.row b.row (then_second (bytes_cmp a.column b.column) (bytes_cmp a.row b.row) h) in grind arith
 
 -- ---- entries put one after another, in any order and any number of times
@@ -77,11 +78,13 @@ module _ {K X : Type 0} (R : K → K → Ordering) where
         → IsPartOf (put R k v base) target
     part_put = grind (arith, find-put, equal_from)
 
-    part_puts : (target es base : List (K × X)) → Each (λ e. find R e.0 target ≡ Some e.1) es → IsPartOf base target → IsPartOf (puts es base) target
+    part_puts : (target es base : List (K × X)) → Each (λ e. find R e.0 target ≡ Some e.1) es → IsPartOf base target →
+        IsPartOf (puts es base) target
     part_puts target [] base h part = part
     part_puts target (e ∷ es) base h part = grind (arith, part_puts target es (put R e.0 e.1 base) h.1, part_put)
 
-    kept_put : (q k : K) (v : X) (base : List (K × X)) → is_some (find R q base) ≡ true → is_some (find R q (put R k v base)) ≡ true
+    kept_put : (q k : K) (v : X) (base : List (K × X)) → is_some (find R q base) ≡ true →
+        is_some (find R q (put R k v base)) ≡ true
     kept_put = grind (arith, find-put)
 
     kept_puts : (q : K) (es base : List (K × X)) → is_some (find R q base) ≡ true → is_some (find R q (puts es base)) ≡ true
@@ -97,8 +100,8 @@ module _ {K X : Type 0} (R : K → K → Ordering) where
     some_puts q (e ∷ es) base h = grind (arith, some_puts q es (put R e.0 e.1 base), kept_puts, here_put)
 
     -- each key of a list that is found in another
-    some_in : (q : K) (target es : List (K × X)) → Each (λ e. is_some (find R e.0 es) ≡ true) target → is_some (find R q target) ≡ true
-        → is_some (find R q es) ≡ true
+    some_in : (q : K) (target es : List (K × X)) → Each (λ e. is_some (find R e.0 es) ≡ true) target →
+        is_some (find R q target) ≡ true → is_some (find R q es) ≡ true
     some_in q [] es h found = cc
     some_in q (e ∷ target) es h found = grind (arith, some_in q target es h.1)
 
@@ -138,11 +141,14 @@ module _ {K X : Type 0} (R : K → K → Ordering) where
     -- a sorted list finds each entry of its own
     pub finds_own : (es : List (K × X)) → T (is_sorted R es) → Each (λ e. find R e.0 es ≡ Some e.1) es
     finds_own [] h = tt
-    finds_own (e ∷ es) h = let below = first_so (below_all R e.0 es) (is_sorted R es) (true_from (below_all R e.0 es && is_sorted R es) h) in
-        let rest = finds_own es (T_from (is_sorted R es) (second_so (below_all R e.0 es) (is_sorted R es) (true_from (below_all R e.0 es && is_sorted R es) h))) in
+    finds_own (e ∷ es) h = let below =
+        first_so (below_all R e.0 es) (is_sorted R es) (true_from (below_all R e.0 es && is_sorted R es) h) in
+        let rest = finds_own es (T_from (is_sorted R es)
+        (second_so (below_all R e.0 es) (is_sorted R es) (true_from (below_all R e.0 es && is_sorted R es) h))) in
         (ap (λ (b : Bool). cond b (Some e.1) (find R e.0 es)) (tied R o same e.0), keep e es es below rest)
       where
-        past : (e d : K × X) (es : List (K × X)) → (eq_by_cmp R d.0 e.0 ≡ true → ⊥) → find R d.0 es ≡ Some d.1 → find R d.0 (e ∷ es) ≡ Some d.1
+        past : (e d : K × X) (es : List (K × X)) → (eq_by_cmp R d.0 e.0 ≡ true → ⊥) → find R d.0 es ≡ Some d.1 →
+            find R d.0 (e ∷ es) ≡ Some d.1
         past e d es isnt is = by (eq_by_cmp R d.0 e.0) refl
           where
             by : (b : Bool) → eq_by_cmp R d.0 e.0 ≡ b → cond b (Some e.1) (find R d.0 es) ≡ Some d.1
@@ -175,14 +181,15 @@ module _ {K X : Type 0} (R : K → K → Ordering) (o : IsTotalOrder R) where
     sorted_of-alike es fs h = grind (arith, same_entries, is_sorted-sorted_of es, is_sorted-sorted_of fs, find-sorted_of)
 
     -- a list in which one more entry is found makes the map with that entry
-    pub sorted_of-put : (k : K) (v : X) (es fs : List (K × X)) → ((q : K) → find R q es ≡ cond (eq_by_cmp R q k) (Some v) (find R q fs))
-        → sorted_of R es ≡ put R k v (sorted_of R fs)
+    pub sorted_of-put : (k : K) (v : X) (es fs : List (K × X)) →
+        ((q : K) → find R q es ≡ cond (eq_by_cmp R q k) (Some v) (find R q fs)) → sorted_of R es ≡ put R k v (sorted_of R fs)
     sorted_of-put k v es fs h = same_entries R o same (sorted_of R es) (put R k v (sorted_of R fs)) (is_sorted-sorted_of es)
         (is_sorted-put R o k v (sorted_of R fs) (is_sorted-sorted_of fs)) (λ q. find-sorted_of q es ∙ h q
         ∙ ap (cond (eq_by_cmp R q k) (Some v)) (sym (find-sorted_of q fs)) ∙ sym (find-put R o q k v (sorted_of R fs)))
 
     -- a new entry at the end
-    pub sorted_of-append : (k : K) (v : X) (es : List (K × X)) → find R k es ≡ None → sorted_of R (es ++ (k, v) ∷ []) ≡ put R k v (sorted_of R es)
+    pub sorted_of-append : (k : K) (v : X) (es : List (K × X)) → find R k es ≡ None →
+        sorted_of R (es ++ (k, v) ∷ []) ≡ put R k v (sorted_of R es)
     sorted_of-append = grind (arith, sorted_of-put, find-append)
 
     -- a sorted list is its own map
@@ -228,7 +235,8 @@ swapped = grind arith
 
 -- ---- entries one list after another
 
-pub find-two : {K X : Type 0} (R : K → K → Ordering) (q : K) (xs ys : List (K × X)) → find R q (xs ++ ys) ≡ or_else (find R q xs) (find R q ys)
+pub find-two : {K X : Type 0} (R : K → K → Ordering) (q : K) (xs ys : List (K × X)) →
+    find R q (xs ++ ys) ≡ or_else (find R q xs) (find R q ys)
 find-two R q [] ys = refl
 find-two {K} {X} R q (x ∷ xs) ys = grind (arith, find-two R q xs ys)
 
@@ -263,16 +271,19 @@ module _ (name : ℕ → Option (List ℕ)) (apart : IsInjective name) where
   find-other_column q c (e ∷ es) h = grind (arith, find-other_column q c es h)
 
   -- a value that is put at a number is found at its row
-  pub find-put_cell : (q : CoefficientKey) (n : ℕ) (v : Number) (r c : List ℕ) (es : List (ℕ × Number)) → name n ≡ Some r → find key_cmp q
-      (column_cells name c (put nat_cmp n v es)) ≡ cond (eq_by_cmp key_cmp q (at r c)) (Some v) (find key_cmp q (column_cells name c es))
+  pub find-put_cell : (q : CoefficientKey) (n : ℕ) (v : Number) (r c : List ℕ) (es : List (ℕ × Number)) →
+      name n ≡ Some r → find key_cmp q (column_cells name c (put nat_cmp n v es)) ≡ cond (eq_by_cmp key_cmp q (at r c))
+      (Some v) (find key_cmp q (column_cells name c es))
   find-put_cell q n v r c [] p = grind arith
   find-put_cell q n v r c (e ∷ es) p =
       let rest = column_cells name c es in
       let here : Option (List ℕ) → List (CoefficientKey × Number) = λ o. option_map_or (λ row. (at row c, e.1) ∷ rest) o rest in
-      elim (nat_cmp n e.0) as (λ w. nat_cmp n e.0 ≡ w → find key_cmp q (column_cells name c (by_order w ((n, v) ∷ e ∷ es) ((e.0, v) ∷ es)
-      (e ∷ put nat_cmp n v es))) ≡ cond (eq_by_cmp key_cmp q (at r c)) (Some v) (find key_cmp q (here (name e.0)))) [
+      elim (nat_cmp n e.0) as (λ w. nat_cmp n e.0 ≡ w →
+      find key_cmp q (column_cells name c (by_order w ((n, v) ∷ e ∷ es) ((e.0, v) ∷ es) (e ∷ put nat_cmp n v es))) ≡
+      cond (eq_by_cmp key_cmp q (at r c)) (Some v) (find key_cmp q (here (name e.0)))) [
         | Less ↦ λ _. ap
-            (λ (o : Option (List ℕ)). find key_cmp q (option_map_or (λ row. (at row c, v) ∷ here (name e.0)) o (here (name e.0)))) p
+            (λ (o : Option (List ℕ)). find key_cmp q
+            (option_map_or (λ row. (at row c, v) ∷ here (name e.0)) o (here (name e.0)))) p
         | Equal ↦ λ tie.
             let named : name e.0 ≡ Some r = ap name (sym (nat_cmp-IsAntisymmetric n e.0 tie)) ∙ p in
             ap (λ (o : Option (List ℕ)). find key_cmp q (option_map_or (λ row. (at row c, v) ∷ rest) o rest)) named
@@ -285,8 +296,8 @@ module _ (name : ℕ → Option (List ℕ)) (apart : IsInjective name) where
               | None ↦ λ _. find-put_cell q n v r c es p
               | Some s ↦ λ named.
                   ap (cond (eq_by_cmp key_cmp q (at s c)) (Some e.1)) (find-put_cell q n v r c es p)
-                  ∙ swapped (eq_by_cmp key_cmp q (at s c)) (eq_by_cmp key_cmp q (at r c)) (Some e.1) (Some v) (find key_cmp q rest)
-                  (λ a b.
+                  ∙ swapped (eq_by_cmp key_cmp q (at s c)) (eq_by_cmp key_cmp q (at r c)) (Some e.1) (Some v)
+                  (find key_cmp q rest) (λ a b.
                   let joined : eq_by_cmp key_cmp (at r c) (at s c) ≡ true =
                   ap is_eq (sym (key_total.congr q (at r c) (at s c) (equal_from (key_cmp q (at r c)) b))) ∙ a in
                   let same : is_eq (nat_cmp n e.0) ≡ true = sym (in_column r s c ∙ same_row n e.0 r s p named) ∙ joined in
@@ -323,7 +334,8 @@ or_left = grind arith
 pub or_right : (a b r : Bool) → false ≡ a → r ≡ b → r ≡ (a || b)
 or_right = grind arith
 
-pub lookup_is_find : {K X : Type 0} (R : K → K → Ordering) (q : K) (es : List (K × X)) → lookup (λ k. is_eq (R q k)) es ≡ find R q es
+pub lookup_is_find : {K X : Type 0} (R : K → K → Ordering) (q : K) (es : List (K × X)) →
+    lookup (λ k. is_eq (R q k)) es ≡ find R q es
 lookup_is_find R q [] = refl
 lookup_is_find R q (e ∷ es) = grind (arith, lookup_is_find R q es)
 
@@ -332,10 +344,12 @@ module _ {K X : Type 0} (R : K → K → Ordering) (o : IsTotalOrder R) where
   of_two = grind (arith, find-sorted_of, find-two)
 
   -- what is in one of the parts is in the map
-  pub has_two : (q : K) (xs ys : List (K × X)) → is_some (find R q (sorted_of R (xs ++ ys))) ≡ (is_some (find R q xs) || is_some (find R q ys))
+  pub has_two : (q : K) (xs ys : List (K × X)) →
+      is_some (find R q (sorted_of R (xs ++ ys))) ≡ (is_some (find R q xs) || is_some (find R q ys))
   has_two = grind (arith, of_two, some_of)
 
-  none_of_two : (q : K) (xs ys : List (K × X)) → find R q (sorted_of R (xs ++ ys)) ≡ None → or_else (find R q xs) (find R q ys) ≡ None
+  none_of_two : (q : K) (xs ys : List (K × X)) → find R q (sorted_of R (xs ++ ys)) ≡ None →
+      or_else (find R q xs) (find R q ys) ≡ None
   none_of_two = grind (arith, of_two)
 
   pub absent_first : (q : K) (xs ys : List (K × X)) → find R q (sorted_of R (xs ++ ys)) ≡ None → find R q xs ≡ None
@@ -343,14 +357,25 @@ module _ {K X : Type 0} (R : K → K → Ordering) (o : IsTotalOrder R) where
 
   module _ (same : (x y : K) → R x y ≡ Equal → x ≡ y) where
     -- an entry that is put into the first part
-    pub put_first : (k : K) (v : X) (xs zs ys : List (K × X)) → zs ≡ put R k v xs → sorted_of R (zs ++ ys) ≡ put R k v (sorted_of R (xs ++ ys))
+    pub put_first : (k : K) (v : X) (xs zs ys : List (K × X)) → zs ≡ put R k v xs →
+        sorted_of R (zs ++ ys) ≡ put R k v (sorted_of R (xs ++ ys))
     put_first = grind (arith, sorted_of-put, find-two, or_else, find-put)
 
     -- an entry that is put into the second part, and is in neither
     pub put_second : (k : K) (v : X) (xs ys zs : List (K × X))
         → ((q : K) → lookup (λ x. is_eq (R q x)) zs ≡ cond (is_eq (R k q)) (Some v) (lookup (λ x. is_eq (R q x)) ys))
         → find R k (sorted_of R (xs ++ ys)) ≡ None → sorted_of R (xs ++ zs) ≡ put R k v (sorted_of R (xs ++ ys))
-    put_second = grind (arith, sorted_of-put, find-two, or_else, lookup_is_find, eq_by_cmp_equiv, find_tied, equal_from, absent_first)
+    put_second = grind (
+      arith,
+      sorted_of-put,
+      find-two,
+      or_else,
+      lookup_is_find,
+      eq_by_cmp_equiv,
+      find_tied,
+      equal_from,
+      absent_first,
+    )
 
 -- ---- a property that exchanges of neighbours keep is kept by permutations
 
@@ -366,7 +391,8 @@ module _ {X : Type 0} (R : List X → List X → Type 0) (same : (xs : List X) �
   to_head (y ∷ xs) (suc j) x d h =
       chain _ _ _ (turn x y xs) (chain _ _ _ (skip y _ _ (to_head xs j x d (omega arith))) (turn y (get_or xs j d) (set xs j x)))
 
-  exchanged : (xs : List X) (i j : ℕ) (d : X) → i < length xs → j < length xs → R xs (set (set xs i (get_or xs j d)) j (get_or xs i d))
+  exchanged : (xs : List X) (i j : ℕ) (d : X) → i < length xs → j < length xs →
+      R xs (set (set xs i (get_or xs j d)) j (get_or xs i d))
   exchanged [] i j d p q = absurd (omega arith)
   exchanged (x ∷ xs) zero zero d p q = same (x ∷ xs)
   exchanged (x ∷ xs) zero (suc j) d p q = grind (arith, to_head)
@@ -391,11 +417,13 @@ two_heads x y xs = IsPermutation-swap (x ∷ y ∷ xs) (y ∷ x ∷ xs) 0 1 (ome
 
 -- ---- parts of a list in another order
 
-pub filter-permutation : {X : Type 0} (p : X → Bool) (xs ys : List X) → IsPermutation xs ys → IsPermutation (filter p xs) (filter p ys)
-filter-permutation {X} p = along_permutation (λ xs ys. IsPermutation (filter p xs) (filter p ys)) (λ xs. IsPermutation-refl (filter p xs))
-    skip turn (λ xs ys zs. IsPermutation-trans (filter p xs) (filter p ys) (filter p zs))
+pub filter-permutation : {X : Type 0} (p : X → Bool) (xs ys : List X) → IsPermutation xs ys →
+    IsPermutation (filter p xs) (filter p ys)
+filter-permutation {X} p = along_permutation (λ xs ys. IsPermutation (filter p xs) (filter p ys))
+    (λ xs. IsPermutation-refl (filter p xs)) skip turn (λ xs ys zs. IsPermutation-trans (filter p xs) (filter p ys) (filter p zs))
   where
-    skip : (x : X) (xs ys : List X) → IsPermutation (filter p xs) (filter p ys) → IsPermutation (filter p (x ∷ xs)) (filter p (x ∷ ys))
+    skip : (x : X) (xs ys : List X) → IsPermutation (filter p xs) (filter p ys) →
+        IsPermutation (filter p (x ∷ xs)) (filter p (x ∷ ys))
     skip x xs ys h =
         elim (p x) as (λ b. IsPermutation (cond b (x ∷ filter p xs) (filter p xs)) (cond b (x ∷ filter p ys) (filter p ys))) [
           | true ↦ IsPermutation-cons x (filter p xs) (filter p ys) h
@@ -416,12 +444,13 @@ filter-permutation {X} p = along_permutation (λ xs ys. IsPermutation (filter p 
 
 -- ---- keys that strictly ascend
 
-rising_once : {K X : Type 0} (R : K → K → Ordering) (k : K) (es : List (K × X)) → AllByRecursion (λ q. R k q ≡ Less) (map (λ e. e.0) es)
-    → find R k es ≡ None
+rising_once : {K X : Type 0} (R : K → K → Ordering) (k : K) (es : List (K × X)) →
+    AllByRecursion (λ q. R k q ≡ Less) (map (λ e. e.0) es) → find R k es ≡ None
 rising_once R k [] h = refl
 rising_once R k (e ∷ es) h = grind (arith, rising_once R k es h.1)
 
-pub once-from_rising : {K X : Type 0} (R : K → K → Ordering) (es : List (K × X)) → IsStrictlySortedBy R (map (λ e. e.0) es) → IsOnceBy R es
+pub once-from_rising : {K X : Type 0} (R : K → K → Ordering) (es : List (K × X)) →
+    IsStrictlySortedBy R (map (λ e. e.0) es) → IsOnceBy R es
 unfolding IsStrictlySortedBy
 once-from_rising R [] h = tt
 once-from_rising R (e ∷ es) h = grind (arith, once-from_rising R es h.1, rising_once)
@@ -433,15 +462,19 @@ abbrev pub NeverFalls : {X : Type 0} → (X → X → Bool) → List X → Type 
 NeverFalls lt [] = Unit {0}
 NeverFalls lt (x ∷ xs) = Each (λ y. lt y x ≡ false) xs × NeverFalls lt xs
 
-never_below : {X : Type 0} (lt : X → X → Bool) (x : X) (xs : List X) → ((j : ℕ) (d : X) → j < length xs → lt (get_or xs j d) x ≡ false)
-    → Each (λ y. lt y x ≡ false) xs
+never_below : {X : Type 0} (lt : X → X → Bool) (x : X) (xs : List X) →
+    ((j : ℕ) (d : X) → j < length xs → lt (get_or xs j d) x ≡ false) → Each (λ y. lt y x ≡ false) xs
 never_below lt x [] h = tt
 never_below lt x (y ∷ xs) h = (h zero y (omega arith), never_below lt x xs (λ j d l. h (suc j) d (omega arith)))
 
 never_falls : {X : Type 0} (lt : X → X → Bool) (xs : List X)
     → ((i j : ℕ) (d : X) → i ≤ j → j < length xs → lt (get_or xs j d) (get_or xs i d) ≡ false) → NeverFalls lt xs
 never_falls lt [] h = tt
-never_falls lt (x ∷ xs) h = (never_below lt x xs (λ j d l. h zero (suc j) d (omega arith) (omega arith)), never_falls lt xs (λ i j d w l. h (suc i) (suc j) d (omega arith) (omega arith)))
+never_falls lt (x ∷ xs) h = (
+  never_below lt x xs (λ j d l. h zero (suc j) d (omega arith) (omega arith)),
+  never_falls lt
+      xs (λ i j d w l. h (suc i) (suc j) d (omega arith) (omega arith)),
+)
 
 -- the result of a sort by keys
 pub never_falls-from_sort : {K X : Type 0} {R : K → K → Ordering} (o : IsTotalOrder R) (key : X → K) (xs : List X)
@@ -480,15 +513,17 @@ module _ {K X : Type 0} (R : K → K → Ordering) (o : IsTotalOrder R) where
       elim (R k e.0) as (λ w. R k e.0 ≡ w
       → IsPermutation ((k, v) ∷ e ∷ es) (by_order w ((k, v) ∷ e ∷ es) ((e.0, v) ∷ es) (e ∷ put R k v es))) [
         | Less ↦ λ _. IsPermutation-refl ((k, v) ∷ e ∷ es)
-        | Equal ↦ λ is. let tie : eq_by_cmp R k e.0 ≡ true = ap is_eq is in let none : eq_by_cmp R k e.0 ≡ false = first.0 in absurd cc
+        | Equal ↦ λ is. let tie : eq_by_cmp R k e.0 ≡ true = ap is_eq is in
+            let none : eq_by_cmp R k e.0 ≡ false = first.0 in absurd cc
         | Greater ↦ λ _. IsPermutation-trans ((k, v) ∷ e ∷ es) (e ∷ (k, v) ∷ es) (e ∷ put R k v es) (two_heads (k, v) e es)
             (IsPermutation-cons e ((k, v) ∷ es) (put R k v es) (put-permutation k v es first.1))
       ] refl
 
   pub sorted_of-permutation : (es : List (K × X)) → IsOnceBy R es → IsPermutation es (sorted_of R es)
   sorted_of-permutation [] h = IsPermutation-refl []
-  sorted_of-permutation (e ∷ es) h = IsPermutation-trans (e ∷ es) (e ∷ sorted_of R es) (put R e.0 e.1 (sorted_of R es)) (IsPermutation-cons
-      e es (sorted_of R es) (sorted_of-permutation es h.1)) (put-permutation e.0 e.1 (sorted_of R es) (find-sorted_of R o e.0 es ∙ h.0))
+  sorted_of-permutation (e ∷ es) h = IsPermutation-trans (e ∷ es) (e ∷ sorted_of R es) (put R e.0 e.1 (sorted_of R es))
+      (IsPermutation-cons e es (sorted_of R es) (sorted_of-permutation es h.1))
+      (put-permutation e.0 e.1 (sorted_of R es) (find-sorted_of R o e.0 es ∙ h.0))
 
   -- ---- sorted entries
 
@@ -524,8 +559,8 @@ module _ {K X : Type 0} (R : K → K → Ordering) (o : IsTotalOrder R) where
   once-sorted (e ∷ es) h = grind (arith, once-sorted es, none_below, first_so, second_so)
 
   -- two lists without a common key
-  pub once-append : (xs ys : List (K × X)) → IsOnceBy R xs → IsOnceBy R ys → ((q : K) → is_some (find R q ys) ≡ true → find R q xs ≡ None)
-      → IsOnceBy R (xs ++ ys)
+  pub once-append : (xs ys : List (K × X)) → IsOnceBy R xs → IsOnceBy R ys →
+      ((q : K) → is_some (find R q ys) ≡ true → find R q xs ≡ None) → IsOnceBy R (xs ++ ys)
   once-append [] ys a b h = b
   once-append (x ∷ xs) ys a b h = grind (arith, once-append xs ys a.1 b, find-two, or_else, passed, tied_itself)
 
@@ -574,7 +609,8 @@ module _ {K X : Type 0} (R : K → K → Ordering) (o : IsTotalOrder R) where
 
   pub once-put_first : (k : K) (v : X) (xs zs ys : List (K × X)) → zs ≡ put R k v xs → find R k (sorted_of R (xs ++ ys)) ≡ None
       → IsOnceBy R (xs ++ ys) → IsOnceBy R (zs ++ ys)
-  once-put_first k v xs zs ys is absent h = let none : find R k (xs ++ ys) ≡ None = sym (find-sorted_of R o k (xs ++ ys)) ∙ absent in
+  once-put_first k v xs zs ys is absent h = let none : find R k (xs ++ ys) ≡ None =
+      sym (find-sorted_of R o k (xs ++ ys)) ∙ absent in
       let before : find R k xs ≡ None = first_none (find R k xs) (find R k ys) (sym (find-two R k xs ys) ∙ none) in
       subst (λ (zs : List (K × X)). IsOnceBy R (zs ++ ys)) (sym is) (once-permutation ((k, v) ∷ xs ++ ys) (put R k v xs ++ ys)
       (IsPermutation-append_left ys ((k, v) ∷ xs) (put R k v xs) (put-permutation k v xs before)) (none, h))

@@ -1,8 +1,12 @@
--- A row by its type without a range: its only possible error is its right-hand side. Rows with two equal limits, and columns without bounds.
-use Rattle.std.{proofs.Common.{◌≡◌, Bool, true, false, ap, arith, refl, sym}, specs.{Prelude.{None, Option, Some, is_none, not, unwrap_or, ◌&&◌, ◌||◌}, Cmp.int_cmp_total}}
+-- A row by its type without a range: its only possible error is its right-hand side. Rows with two equal limits, and
+-- columns without bounds.
+use Rattle.std.proofs.Common.{◌≡◌, Bool, true, false, ap, arith, refl, sym}
+use Rattle.std.specs.{Prelude.{None, Option, Some, is_none, not, unwrap_or, ◌&&◌, ◌||◌}, Cmp.int_cmp_total}
 use Rattle.mpslp_decimal.specs.Decimal.{Number, zero_number, difference_of}
 use Rattle.mpslp_types.specs.{Limit.limit_of, declared.kinds.Limit.{Limit, TheVariants.{Finite, MinusInf, PlusInf}}}
-use Rattle.mpslp_model_core.specs.{Model.Row, Limits.{RowDefinition, by_limits, has_infinite_rhs, is_declared_integer, no_side_declared}, RowForms.is_plain}
+use Rattle.mpslp_model_core.specs.Model.{Row}
+use Rattle.mpslp_model_core.specs.Limits.{RowDefinition, by_limits, has_infinite_rhs, is_declared_integer, no_side_declared}
+use Rattle.mpslp_model_core.specs.RowForms.{is_plain}
 use Rattle.mpslp_model_core.specs.declared.bounds.DeclaredColumn.{DeclaredColumn}
 use Rattle.mpslp_model_core.specs.Views.{letter_E, row_range, row_sense}
 use Rattle.mpslp_model_core.specs.WrongParts.{are_faulty_bounds, is_inexact, is_too_large, is_crossed, is_large_limit, is_faulty_row}
@@ -27,7 +31,8 @@ both_same : (l : Limit) → is_large_limit l ≡ false → has_fault (record { l
 both_same = grind (arith, difference_itself, int_cmp_total)
 
 -- a row with two equal limits
-pub same_faulty : (d : Number) (b : Number) (r : Option Number) → is_large_limit (Finite d) ≡ is_faulty_row (by_limits (Finite d) (Finite d)) b r
+pub same_faulty : (d : Number) (b : Number) (r : Option Number) →
+    is_large_limit (Finite d) ≡ is_faulty_row (by_limits (Finite d) (Finite d)) b r
 same_faulty = grind (arith, difference_itself, int_cmp_total)
 
 pub letter_same : (d : Number) → letter_E ≡ row_sense (record { lower = Finite d; upper = Finite d })
@@ -69,11 +74,20 @@ unbounded_faulty false false false true = refl
 unbounded_faulty false false false false = refl
 
 -- only one that is semi-continuous has an error: its upper bound is infinite
-pub no_side_faulty : (d : DeclaredColumn) → no_side_declared d ≡ true → (d.semi && not (is_declared_integer d)) ≡ are_faulty_bounds d
+pub no_side_faulty : (d : DeclaredColumn) → no_side_declared d ≡ true →
+    (d.semi && not (is_declared_integer d)) ≡ are_faulty_bounds d
 no_side_faulty d none = by d.lower d.upper none
   where
     by : (lower upper : Option Limit) → (is_none lower && is_none upper) ≡ true → (d.semi && not (is_declared_integer d))
-        ≡ are_faulty_bounds (record { lower = lower; upper = upper; marked = d.marked; integer = d.integer; binary = d.binary; semi = d.semi })
+        ≡ are_faulty_bounds (record {
+          lower = lower;
+          upper = upper;
+          marked = d.marked;
+          integer = d.integer;
+          binary =
+              d.binary;
+          semi = d.semi;
+        })
     by None None none = unbounded_faulty d.marked d.integer d.binary d.semi
     by (Some x) upper none = absurd cc
     by None (Some x) none = absurd cc

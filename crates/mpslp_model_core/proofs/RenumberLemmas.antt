@@ -36,7 +36,8 @@ abbrev pub KeepsApart : ℕ → (ℕ → ℕ) → Type 0
 KeepsApart bound rank = (n m : ℕ) → n < bound → m < bound → rank n ≡ rank m → n ≡ m
 
 -- a property of each entry of a map is one of the entries from which it is made
-pub each-of_map : (P : ℕ × Number → Type 0) (es : List (ℕ × Number)) → IsOnceBy nat_cmp es → All P (sorted_of nat_cmp es) → Each P es
+pub each-of_map : (P : ℕ × Number → Type 0) (es : List (ℕ × Number)) → IsOnceBy nat_cmp es →
+    All P (sorted_of nat_cmp es) → Each P es
 each-of_map P es once h = each-from_all P es (All-permutation P (sorted_of nat_cmp es) es
     (IsPermutation-sym es (sorted_of nat_cmp es) (sorted_of-permutation nat_cmp nat_cmp_total es once)) h)
 
@@ -50,7 +51,8 @@ module _ (bound : ℕ) (rank : ℕ → ℕ) (apart : KeepsApart bound rank) wher
   find-renamed n [] h within = refl
   find-renamed n (e ∷ es) h within = grind (arith, find-renamed n es h within.1)
 
-  pub once-renamed : (es : List (ℕ × Number)) → Each (λ e. e.0 < bound) es → IsOnceBy nat_cmp es → IsOnceBy nat_cmp (renamed rank es)
+  pub once-renamed : (es : List (ℕ × Number)) → Each (λ e. e.0 < bound) es → IsOnceBy nat_cmp es →
+      IsOnceBy nat_cmp (renamed rank es)
   once-renamed [] within once = tt
   once-renamed (e ∷ es) within once = grind (arith, once-renamed es within.1 once.1, find-renamed)
 
@@ -62,16 +64,25 @@ module _ (bound : ℕ) (rank : ℕ → ℕ) (apart : KeepsApart bound rank) wher
   pub moved-from_any_order : (es ys : List (ℕ × Number)) → IsOnceBy nat_cmp es → Each (λ e. e.0 < bound) es
       → IsPermutation (renamed rank (filter is_kept es)) ys → NeverFalls (λ e d. is_lt (nat_cmp e.0 d.0)) ys
       → ys ≡ filter is_kept (sorted_of nat_cmp (renamed rank (sorted_of nat_cmp es)))
-  moved-from_any_order es ys once within p rises = let all = renamed rank es in let map_of = renamed rank (sorted_of nat_cmp es) in
-      let kept = filter is_kept all in let target = filter is_kept (sorted_of nat_cmp map_of) in let all_once = once-renamed es within once in
-      let map_permuted = IsPermutation-map (λ (e : ℕ × Number). (rank e.0, e.1)) es (sorted_of nat_cmp es) (sorted_of-permutation nat_cmp nat_cmp_total es once) in
-      let map_once = once-permutation nat_cmp nat_cmp_total all map_of map_permuted all_once in let permuted = IsPermutation-trans all
+  moved-from_any_order es ys once within p rises = let all = renamed rank es in
+      let map_of = renamed rank (sorted_of nat_cmp es) in
+      let kept = filter is_kept all in
+      let target = filter is_kept (sorted_of nat_cmp map_of) in
+      let all_once = once-renamed es within once in
+      let map_permuted = IsPermutation-map (λ (e : ℕ × Number). (rank e.0, e.1)) es (sorted_of nat_cmp es)
+      (sorted_of-permutation nat_cmp nat_cmp_total es once) in
+      let map_once = once-permutation nat_cmp nat_cmp_total all map_of map_permuted all_once in
+      let permuted = IsPermutation-trans all
       map_of (sorted_of nat_cmp map_of) map_permuted (sorted_of-permutation nat_cmp nat_cmp_total map_of map_once) in
       let kept_once = once-filter nat_cmp nat_cmp_total is_kept all all_once in permuted-is_map nat_cmp nat_cmp_total
-      nat_cmp-IsAntisymmetric kept ys kept_once (subst (λ (es : List (ℕ × Number)). IsPermutation es ys) (sym (renamed-kept es)) p) rises
-      ∙ sorted_of-alike nat_cmp nat_cmp_total nat_cmp-IsAntisymmetric kept target (find-permutation nat_cmp nat_cmp_total kept target
-      (filter-permutation is_kept all (sorted_of nat_cmp map_of) permuted) kept_once) ∙ sorted_of-sorted nat_cmp nat_cmp_total
-      nat_cmp-IsAntisymmetric target (T_from (is_sorted nat_cmp target) (is_sorted-filter nat_cmp nat_cmp_total is_kept (sorted_of nat_cmp
+      nat_cmp-IsAntisymmetric kept ys kept_once
+      (subst (λ (es : List (ℕ × Number)). IsPermutation es ys) (sym (renamed-kept es)) p) rises
+      ∙ sorted_of-alike nat_cmp nat_cmp_total nat_cmp-IsAntisymmetric kept target
+      (find-permutation nat_cmp nat_cmp_total kept target
+      (filter-permutation is_kept all (sorted_of nat_cmp map_of) permuted) kept_once)
+      ∙ sorted_of-sorted nat_cmp nat_cmp_total nat_cmp-IsAntisymmetric target
+      (T_from (is_sorted nat_cmp target)
+      (is_sorted-filter nat_cmp nat_cmp_total is_kept (sorted_of nat_cmp
       map_of) (true_from (is_sorted nat_cmp (sorted_of nat_cmp map_of)) (is_sorted-sorted_of nat_cmp nat_cmp_total map_of))))
 
   -- what is found among renumbered coefficients
@@ -79,7 +90,8 @@ module _ (bound : ℕ) (rank : ℕ → ℕ) (apart : KeepsApart bound rank) wher
       → find nat_cmp (rank n) (filter is_kept (sorted_of nat_cmp (renamed rank es))) ≡ unless_zero (find nat_cmp n es)
   find-moved n es h within = find-filter nat_cmp nat_cmp_total (λ (v : Number). not (is_zero v)) (rank n)
       (sorted_of nat_cmp (renamed rank es)) (once-sorted nat_cmp nat_cmp_total (sorted_of nat_cmp (renamed rank es))
-      (true_from (is_sorted nat_cmp (sorted_of nat_cmp (renamed rank es))) (is_sorted-sorted_of nat_cmp nat_cmp_total (renamed rank es))))
+      (true_from (is_sorted nat_cmp (sorted_of nat_cmp (renamed rank es)))
+      (is_sorted-sorted_of nat_cmp nat_cmp_total (renamed rank es))))
       ∙ ap unless_zero (find-sorted_of nat_cmp nat_cmp_total (rank n) (renamed rank es) ∙ find-renamed n es h within)
 
 -- ---- renumbering rows and sorting columns does not change the nonzero coefficients
@@ -90,7 +102,8 @@ module _ (name : ℕ → Option (List ℕ)) (r : List ℕ) (nameless : (n : ℕ)
   none_in_column c d [] = refl
   none_in_column c d (e ∷ es) =
       let rest = column_cells name d es in
-      elim (name e.0) as (λ o. name e.0 ≡ o → find key_cmp (at r c) (option_map_or (λ row. (at row d, e.1) ∷ rest) o rest) ≡ None) [
+      elim (name e.0) as (λ o. name e.0 ≡ o →
+      find key_cmp (at r c) (option_map_or (λ row. (at row d, e.1) ∷ rest) o rest) ≡ None) [
         | None ↦ λ _. none_in_column c d es
         | Some s ↦ λ is.
             elim (eq_by_cmp key_cmp (at r c) (at s d)) as (λ b. eq_by_cmp key_cmp (at r c) (at s d) ≡ b
@@ -107,7 +120,8 @@ module _ (name : ℕ → Option (List ℕ)) (r : List ℕ) (nameless : (n : ℕ)
 
 -- Each row keeps its name under its final number, and no other row has a name. Each column keeps its coefficients under the
 -- final numbers.
-pub record AreRenumbered (name later : ℕ → Option (List ℕ)) (rank : ℕ → ℕ) (cols moved : List (List ℕ × List (ℕ × Number))) : Type 0 where
+pub record AreRenumbered (name later : ℕ → Option (List ℕ)) (rank : ℕ →
+    ℕ) (cols moved : List (List ℕ × List (ℕ × Number))) : Type 0 where
   pub apart : IsInjective name
   pub apart_later : IsInjective later
   pub named : (r : List ℕ) → ((n : ℕ) × (name n ≡ Some r)) ⊎ ((n : ℕ) → name n ≡ Some r → ⊥)
@@ -118,8 +132,9 @@ pub record AreRenumbered (name later : ℕ → Option (List ℕ)) (rank : ℕ �
   pub cells : (n : ℕ) (r c : List ℕ) → name n ≡ Some r → option_and_then (find nat_cmp (rank n)) (find bytes_cmp c moved)
       ≡ unless_zero (option_and_then (find nat_cmp n) (find bytes_cmp c cols))
 
-pub renumbered : (name later : ℕ → Option (List ℕ)) (rank : ℕ → ℕ) (cols moved : List (List ℕ × List (ℕ × Number))) → AreRenumbered name
-    later rank cols moved → sorted_of key_cmp (all_cells later moved) ≡ filter is_kept (sorted_of key_cmp (all_cells name cols))
+pub renumbered : (name later : ℕ → Option (List ℕ)) (rank : ℕ → ℕ) (cols moved : List (List ℕ × List (ℕ × Number))) →
+    AreRenumbered name later rank cols moved →
+    sorted_of key_cmp (all_cells later moved) ≡ filter is_kept (sorted_of key_cmp (all_cells name cols))
 renumbered name later rank cols moved a =
     let old = all_cells name cols in
     let new = all_cells later moved in

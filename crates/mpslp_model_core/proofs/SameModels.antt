@@ -38,7 +38,8 @@ cells_stated (c ∷ cs) = grind (arith, cells_stated cs)
 
 pub same-parts : {m n : ModelParts} {v w : LinearModel} → linear_model m ≡ v → linear_model n ≡ w → AreSameParts v w m n → v ≡ w
 same-parts {m} {n} {v} {w} see seen p =
-    let sense : m.sense ≡ n.sense = ap (λ (x : LinearModel). x.sense) see ∙ p.objective.0 ∙ sym (ap (λ (x : LinearModel). x.sense) seen) in
+    let sense : m.sense ≡ n.sense = ap (λ (x : LinearModel). x.sense) see ∙ p.objective.0
+    ∙ sym (ap (λ (x : LinearModel). x.sense) seen) in
     let objective : m.objective ≡ n.objective = ap (λ (x : LinearModel). x.objective) see ∙ p.objective.1
     ∙ sym (ap (λ (x : LinearModel). x.objective) seen) in
     let constant : m.constant ≡ n.constant = ap (λ (x : LinearModel). x.constant) see ∙ p.objective.2
@@ -62,8 +63,8 @@ same-parts {m} {n} {v} {w} see seen p =
 -- ---- the columns from the model
 
 -- nothing is found at a number without a row
-unnamed_cells : (name : ℕ → Option (List ℕ)) (n : ℕ) (es : List (ℕ × Number)) → name n ≡ None → list_all (λ e. is_some (name e.0)) es ≡ true
-    → find nat_cmp n es ≡ None
+unnamed_cells : (name : ℕ → Option (List ℕ)) (n : ℕ) (es : List (ℕ × Number)) → name n ≡ None →
+    list_all (λ e. is_some (name e.0)) es ≡ true → find nat_cmp n es ≡ None
 unnamed_cells name n [] none h = refl
 unnamed_cells name n (e ∷ es) none h = grind (arith, unnamed_cells name n es none)
 
@@ -71,13 +72,15 @@ unnamed : (name : ℕ → Option (List ℕ)) (n : ℕ) (c : List ℕ) (cols : Li
     → all_named name cols ≡ true → option_and_then (find nat_cmp n) (find bytes_cmp c cols) ≡ None
 unnamed name n c [] none h = refl
 unnamed name n c (col ∷ cols) none h =
-    elim (eq_by_cmp bytes_cmp c col.0) as (λ b. option_and_then (find nat_cmp n) (cond b (Some col.1) (find bytes_cmp c cols)) ≡ None) [
+    elim (eq_by_cmp bytes_cmp c col.0) as
+    (λ b. option_and_then (find nat_cmp n) (cond b (Some col.1) (find bytes_cmp c cols)) ≡ None) [
       | true ↦ unnamed_cells name n col.1 none (first_so (list_all (λ e. is_some (name e.0)) col.1) (all_named name cols) h)
       | false ↦ unnamed name n c cols none (second_so (list_all (λ e. is_some (name e.0)) col.1) (all_named name cols) h)
     ]
 
 abbrev FindSame : List (List ℕ × List (ℕ × Number)) → List (List ℕ × List (ℕ × Number)) → Type 0
-FindSame xs ys = (c : List ℕ) (n : ℕ) → option_and_then (find nat_cmp n) (find bytes_cmp c xs) ≡ option_and_then (find nat_cmp n) (find bytes_cmp c ys)
+FindSame xs ys = (c : List ℕ) (n : ℕ) →
+    option_and_then (find nat_cmp n) (find bytes_cmp c xs) ≡ option_and_then (find nat_cmp n) (find bytes_cmp c ys)
 
 -- the first column is found by its name
 first_found : (c : List ℕ) (name : List ℕ) (cells : List (ℕ × Number)) (cols : List (List ℕ × List (ℕ × Number))) → c ≡ name
@@ -104,20 +107,23 @@ same_stated : (xs ys : List (List ℕ × ModelColumn)) → IsOnce (cells_of xs) 
 same_stated [] [] once once_too g h same alike = refl
 same_stated [] (b ∷ ys) once once_too g h same alike = absurd cc
 same_stated (a ∷ xs) [] once once_too g h same alike = absurd cc
-same_stated (a ∷ xs) (b ∷ ys) once once_too g h same alike = let heads : ◌≡◌ {A = List ℕ × Column} (a.0, a.1.bounds) (b.0, b.1.bounds) = cc in
-    let rest : bounds_of xs ≡ bounds_of ys = cc in let names : a.0 ≡ b.0 = ap (λ (p : List ℕ × Column). p.0) heads in
+same_stated (a ∷ xs) (b ∷ ys) once once_too g h same alike =
+    let heads : ◌≡◌ {A = List ℕ × Column} (a.0, a.1.bounds) (b.0, b.1.bounds) = cc in
+    let rest : bounds_of xs ≡ bounds_of ys = cc in
+    let names : a.0 ≡ b.0 = ap (λ (p : List ℕ × Column). p.0) heads in
     let sorted = first_so (is_sorted nat_cmp a.1.cells) (list_all (λ c. is_sorted nat_cmp c.1) (cells_of xs)) g in
     let sorted_too = first_so (is_sorted nat_cmp b.1.cells) (list_all (λ c. is_sorted nat_cmp c.1) (cells_of ys)) h in
-    let cells : a.1.cells ≡ b.1.cells = same_entries nat_cmp nat_cmp_total nat_cmp-IsAntisymmetric a.1.cells b.1.cells (T_from _ sorted)
-    (T_from _ sorted_too) (λ n. ap (option_and_then (find nat_cmp n)) (sym (first_found a.0 a.0 a.1.cells (cells_of xs) refl))
+    let cells : a.1.cells ≡ b.1.cells = same_entries nat_cmp nat_cmp_total nat_cmp-IsAntisymmetric a.1.cells b.1.cells
+    (T_from _ sorted) (T_from _ sorted_too)
+    (λ n. ap (option_and_then (find nat_cmp n)) (sym (first_found a.0 a.0 a.1.cells (cells_of xs) refl))
     ∙ alike a.0 n ∙ ap (option_and_then (find nat_cmp n)) (first_found a.0 b.0 b.1.cells (cells_of ys) names)) in
     let more = same_stated xs ys once.1 once_too.1 (second_so (is_sorted nat_cmp a.1.cells) (list_all (λ c. is_sorted nat_cmp c.1)
     (cells_of xs)) g) (second_so (is_sorted nat_cmp b.1.cells) (list_all (λ c. is_sorted nat_cmp c.1) (cells_of ys)) h) rest
     (same_after a.0 b.0 a.1.cells b.1.cells (cells_of xs) (cells_of ys) names once once_too alike) in
     λ i. (names i, ((ap (λ (p : List ℕ × Column). p.1) heads) i, cells i)) ∷ more i
 
-pub parts-same : {m n : ModelParts} {v w : LinearModel} → linear_model m ≡ v → AreModelParts m → linear_model n ≡ w → AreModelParts n
-    → v ≡ w → AreSameParts v w m n
+pub parts-same : {m n : ModelParts} {v w : LinearModel} → linear_model m ≡ v → AreModelParts m → linear_model n ≡ w →
+    AreModelParts n → v ≡ w → AreSameParts v w m n
 parts-same {m} {n} {v} {w} see p seen q same =
     let rows : m.rows.items ≡ n.rows.items = sym (rows_seen see p) ∙ ap (λ (x : LinearModel). maps.entries x.rows) same
     ∙ rows_seen seen q in
@@ -130,10 +136,12 @@ parts-same {m} {n} {v} {w} see p seen q same =
     let coefficients : sorted_of key_cmp all ≡ sorted_of key_cmp all_too = sym (coefficients_seen m see)
     ∙ ap (λ (x : LinearModel). maps.entries x.coefficients) same ∙ coefficients_seen n seen in
     let alike : FindSame (cells_by_name m) (cells_by_name n) = λ c k.
-    elim (name_of_row_key m k) as (λ o. name_of_row_key m k ≡ o → option_and_then (find nat_cmp k) (find bytes_cmp c (cells_by_name m))
-    ≡ option_and_then (find nat_cmp k) (find bytes_cmp c (cells_by_name n))) [
+    elim (name_of_row_key m k) as (λ o. name_of_row_key m k ≡ o →
+    option_and_then (find nat_cmp k) (find bytes_cmp c (cells_by_name m)) ≡ option_and_then (find nat_cmp k)
+    (find bytes_cmp c (cells_by_name n))) [
       | None ↦ λ no. unnamed (name_of_row_key m) k c (cells_by_name m) no p.named
-          ∙ sym (unnamed (name_of_row_key n) k c (cells_by_name n) (sym (ap (λ (f : ℕ → Option (List ℕ)). f k) names) ∙ no) q.named)
+          ∙ sym (unnamed (name_of_row_key n) k c (cells_by_name n) (sym (ap (λ (f : ℕ → Option (List ℕ)). f k) names)
+          ∙ no) q.named)
       | Some r ↦ λ is.
           sym (find-all_cells (name_of_row_key m) (apart_in m p) k r c (cells_by_name m) is (once_in m p))
           ∙ sym (find-sorted_of key_cmp key_total (at r c) all)
@@ -143,8 +151,12 @@ parts-same {m} {n} {v} {w} see p seen q same =
           (sym (ap (λ (f : ℕ → Option (List ℕ)). f k) names) ∙ is) (once_in n q)
     ] refl in
     record {
-      objective =
-          (ap (λ (x : LinearModel). x.sense) same, ap (λ (x : LinearModel). x.objective) same, ap (λ (x : LinearModel). x.constant) same);
+      objective = (
+        ap (λ (x : LinearModel). x.sense) same,
+        ap (λ (x : LinearModel). x.objective) same,
+        ap
+            (λ (x : LinearModel). x.constant) same,
+      );
       rows = rows;
       columns = same_stated m.columns n.columns (once_in m p) (once_in n q) p.cells q.cells columns alike;
     }

@@ -77,11 +77,13 @@ above_by_index n (c ∷ cells) zero d above h below = grind arith
 above_by_index n (c ∷ cells) (suc m) d above h below = grind (arith, above_by_index c.0 cells m d)
 
 -- a coefficient's number is at least its index
-pub index_within : (cells : List (ℕ × Number)) (m : ℕ) (d : ℕ × Number) → is_sorted nat_cmp cells ≡ true → m < length cells → m ≤ (get_or cells m d).0
+pub index_within : (cells : List (ℕ × Number)) (m : ℕ) (d : ℕ × Number) → is_sorted nat_cmp cells ≡ true →
+    m < length cells → m ≤ (get_or cells m d).0
 index_within [] m d h below = absurd (omega arith)
 index_within (c ∷ cells) zero d h below = omega arith
 index_within (c ∷ cells) (suc m) d h below = let later = above_by_index c.0 cells m d (first_so (below_all nat_cmp c.0 cells)
-    (is_sorted nat_cmp cells) h) (second_so (below_all nat_cmp c.0 cells) (is_sorted nat_cmp cells) h) (omega arith) in omega arith
+    (is_sorted nat_cmp cells) h) (second_so (below_all nat_cmp c.0 cells) (is_sorted nat_cmp cells) h) (omega arith) in
+    omega arith
 
 -- ---- the nonzeros of a column of a model are its cells in the order of row numbers, without that of the objective
 
@@ -91,8 +93,8 @@ is_element_of objective column place = not (same_bytes objective place.row) && s
 
 -- rows are numbered in the order of their names
 abbrev pub RiseByName : (ℕ → Option (List ℕ)) → Type 0
-RiseByName name = (n m : ℕ) (r s : List ℕ) → name (suc n) ≡ Some r → name (suc m) ≡ Some s → is_lt (nat_cmp (suc n) (suc m)) ≡ true
-    → bytes_cmp r s ≡ Less
+RiseByName name = (n m : ℕ) (r s : List ℕ) → name (suc n) ≡ Some r → name (suc m) ≡ Some s →
+    is_lt (nat_cmp (suc n) (suc m)) ≡ true → bytes_cmp r s ≡ Less
 
 then_less : (a b : Ordering) → is_eq a ≡ true → b ≡ Less → is_lt (ordering_then a b) ≡ true
 then_less = grind arith
@@ -102,9 +104,11 @@ module _ (name : ℕ → Option (List ℕ)) (apart : IsInjective name) (rise : R
       → below_all key_cmp (at r c) (column_cells name c (row_cells es)) ≡ true
   below_cells n r [] p h = refl
   below_cells n r ((zero, x) ∷ es) p h = grind (arith, below_cells n r es p)
-  below_cells n r ((suc m, x) ∷ es) p h = grind (arith, below_cells n r es p, second_so, at, both_so, then_less, bytes_total, first_so)
+  below_cells n r ((suc m, x) ∷ es) p h =
+      grind (arith, below_cells n r es p, second_so, at, both_so, then_less, bytes_total, first_so)
 
-  pub sorted_cells : (es : List (ℕ × Number)) → is_sorted nat_cmp es ≡ true → is_sorted key_cmp (column_cells name c (row_cells es)) ≡ true
+  pub sorted_cells : (es : List (ℕ × Number)) → is_sorted nat_cmp es ≡ true →
+      is_sorted key_cmp (column_cells name c (row_cells es)) ≡ true
   sorted_cells [] h = refl
   sorted_cells ((zero, x) ∷ es) h = grind (arith, sorted_cells es)
   sorted_cells ((suc m, x) ∷ es) h = grind (arith, sorted_cells es, second_so, at, both_so, below_cells, first_so)
@@ -153,8 +157,9 @@ module _ (name : ℕ → Option (List ℕ)) (apart : IsInjective name) (rise : R
     none_later q (col ∷ cols) h = grind (arith, none_later q cols, find-two, or_else, find-other_column)
 
     -- among all cells, those of the column are found
-    find-in_column : (q : CoefficientKey) (es : List (ℕ × Number)) (cols : List (List ℕ × List (ℕ × Number))) → same_bytes c q.column ≡ true
-        → IsOnce cols → find bytes_cmp c cols ≡ Some es → find key_cmp q (all_cells name cols) ≡ find key_cmp q (column_cells name c es)
+    find-in_column : (q : CoefficientKey) (es : List (ℕ × Number)) (cols : List (List ℕ × List (ℕ × Number))) →
+        same_bytes c q.column ≡ true → IsOnce cols → find bytes_cmp c cols ≡ Some es →
+        find key_cmp q (all_cells name cols) ≡ find key_cmp q (column_cells name c es)
     find-in_column q es [] own once is = cc
     find-in_column q es (col ∷ cols) own once is =
         let same : q.column ≡ c = sym ((bytes_decides c q.column).0 own) in
@@ -179,18 +184,25 @@ module _ (name : ℕ → Option (List ℕ)) (apart : IsInjective name) (rise : R
     -- the nonzeros of the column are its cells of rows, in the order of their numbers
     pub elements_are_cells : (es : List (ℕ × Number)) (cols : List (List ℕ × List (ℕ × Number))) → IsOnce cols
         → find bytes_cmp c cols ≡ Some es → is_sorted nat_cmp es ≡ true
-        → filter (λ e. is_element_of objective c e.0) (sorted_of key_cmp (all_cells name cols)) ≡ column_cells name c (row_cells es)
+        → filter (λ e. is_element_of objective c e.0) (sorted_of key_cmp (all_cells name cols)) ≡ column_cells name c
+        (row_cells es)
     elements_are_cells es cols once is sorted =
         let all = sorted_of key_cmp (all_cells name cols) in
-        same_entries key_cmp key_total same_key (filter (λ e. is_element_of objective c e.0) all) (column_cells name c (row_cells es))
-        (is_sorted-where_key key_cmp (is_element_of objective c) all (is_sorted-sorted_of key_cmp key_total (all_cells name cols)))
+        same_entries key_cmp key_total same_key (filter (λ e. is_element_of objective c e.0) all)
+        (column_cells name c (row_cells es))
+        (is_sorted-where_key key_cmp (is_element_of objective c) all
+        (is_sorted-sorted_of key_cmp key_total (all_cells name cols)))
         (T_from (is_sorted key_cmp (column_cells name c (row_cells es))) (sorted_cells es sorted))
         (λ q.
-        find-where_key key_cmp (is_element_of objective c) q (λ x tie. ap (is_element_of objective c) (sym (same_key q x tie))) all
-        ∙ ap (λ (o : Option Number). cond (is_element_of objective c q) o None) (find-sorted_of key_cmp key_total q (all_cells name cols))
-        ∙ elim (is_element_of objective c q) as (λ b. is_element_of objective c q ≡ b
-        → cond b (find key_cmp q (all_cells name cols)) None ≡ cond b (find key_cmp q (column_cells name c es)) None) [
-          | true ↦ λ in'. find-in_column q es cols (second_so (not (same_bytes objective q.row)) (same_bytes c q.column) in') once is
+        find-where_key key_cmp (is_element_of objective c) q
+        (λ x tie. ap (is_element_of objective c) (sym (same_key q x tie))) all
+        ∙ ap (λ (o : Option Number). cond (is_element_of objective c q) o None)
+        (find-sorted_of key_cmp key_total q (all_cells name cols)) ∙ elim (is_element_of objective c q) as
+        (λ b. is_element_of objective c q ≡ b →
+        cond b (find key_cmp q (all_cells name cols)) None ≡ cond b
+        (find key_cmp q (column_cells name c es)) None) [
+          | true ↦ λ in'. find-in_column q es cols (second_so (not (same_bytes objective q.row)) (same_bytes c q.column)
+              in') once is
           | false ↦ λ _. refl
         ] refl
         ∙ sym (find-row_cells q es))
@@ -205,12 +217,13 @@ rows_only (col ∷ cols) = (col.0, row_cells col.1) ∷ rows_only cols
 -- ---- concatenated sorted lists
 
 module _ {K X : Type 0} (R : K → K → Ordering) where
-  below_all-append : (k : K) (xs ys : List (K × X)) → below_all R k xs ≡ true → below_all R k ys ≡ true → below_all R k (xs ++ ys) ≡ true
+  below_all-append : (k : K) (xs ys : List (K × X)) → below_all R k xs ≡ true → below_all R k ys ≡ true →
+      below_all R k (xs ++ ys) ≡ true
   below_all-append k [] ys g h = h
   below_all-append k (x ∷ xs) ys g h = grind (arith, below_all-append k xs ys)
 
-  is_sorted-append : (xs ys : List (K × X)) → is_sorted R xs ≡ true → is_sorted R ys ≡ true → list_all (λ x. below_all R x.0 ys) xs ≡ true
-      → is_sorted R (xs ++ ys) ≡ true
+  is_sorted-append : (xs ys : List (K × X)) → is_sorted R xs ≡ true → is_sorted R ys ≡ true →
+      list_all (λ x. below_all R x.0 ys) xs ≡ true → is_sorted R (xs ++ ys) ≡ true
   is_sorted-append [] ys g h all = h
   is_sorted-append (x ∷ xs) ys g h all = grind (arith, is_sorted-append xs ys, second_so, both_so, below_all-append, first_so)
 
@@ -225,17 +238,20 @@ joined = grind arith
 
 module _ (name : ℕ → Option (List ℕ)) where
   -- cells of a later column are above
-  below_column : (r c d : List ℕ) (es : List (ℕ × Number)) → is_lt (bytes_cmp c d) ≡ true → below_all key_cmp (at r c) (column_cells name d es) ≡ true
+  below_column : (r c d : List ℕ) (es : List (ℕ × Number)) → is_lt (bytes_cmp c d) ≡ true →
+      below_all key_cmp (at r c) (column_cells name d es) ≡ true
   below_column r c d [] h = refl
   below_column r c d (e ∷ es) h = grind (arith, below_column r c d es h)
 
   below_columns : (r c : List ℕ) (cols : List (List ℕ × List (ℕ × Number))) → below_all bytes_cmp c cols ≡ true
       → below_all key_cmp (at r c) (all_cells name (rows_only cols)) ≡ true
   below_columns r c [] h = refl
-  below_columns r c (col ∷ cols) h = grind (arith, below_columns r c cols, second_so, below_all-append, at, below_column, first_so)
+  below_columns r c (col ∷ cols) h =
+      grind (arith, below_columns r c cols, second_so, below_all-append, at, below_column, first_so)
 
-  each_below : (c : List ℕ) (es : List (ℕ × Number)) (cols : List (List ℕ × List (ℕ × Number))) → below_all bytes_cmp c cols ≡ true
-      → list_all (λ x. below_all key_cmp x.0 (all_cells name (rows_only cols))) (column_cells name c es) ≡ true
+  each_below : (c : List ℕ) (es : List (ℕ × Number)) (cols : List (List ℕ × List (ℕ × Number))) →
+      below_all bytes_cmp c cols ≡ true →
+      list_all (λ x. below_all key_cmp x.0 (all_cells name (rows_only cols))) (column_cells name c es) ≡ true
   each_below c [] cols h = refl
   each_below c (e ∷ es) cols h = grind (arith, each_below c es cols h, at, both_so, below_columns)
 
@@ -243,24 +259,29 @@ module _ (name : ℕ → Option (List ℕ)) where
     sorted_all : (cols : List (List ℕ × List (ℕ × Number))) → is_sorted bytes_cmp cols ≡ true
         → list_all (λ c. is_sorted nat_cmp c.1) cols ≡ true → is_sorted key_cmp (all_cells name (rows_only cols)) ≡ true
     sorted_all [] g h = refl
-    sorted_all (col ∷ cols) g h = is_sorted-append key_cmp (column_cells name col.0 (row_cells col.1)) (all_cells name (rows_only cols))
-        (sorted_cells name apart rise col.0 col.1 (first_so (is_sorted nat_cmp col.1) (list_all (λ c. is_sorted nat_cmp c.1) cols) h))
+    sorted_all (col ∷ cols) g h = is_sorted-append key_cmp (column_cells name col.0 (row_cells col.1))
+        (all_cells name (rows_only cols))
+        (sorted_cells name apart rise col.0 col.1
+        (first_so (is_sorted nat_cmp col.1) (list_all (λ c. is_sorted nat_cmp c.1) cols) h))
         (sorted_all cols (second_so (below_all bytes_cmp col.0 cols) (is_sorted bytes_cmp cols) g)
         (second_so (is_sorted nat_cmp col.1) (list_all (λ c. is_sorted nat_cmp c.1) cols) h))
         (each_below col.0 (row_cells col.1) cols (first_so (below_all bytes_cmp col.0 cols) (is_sorted bytes_cmp cols) g))
 
     module _ (objective : List ℕ) (named : name zero ≡ Some objective) where
       -- in one column
-      find-of_rows : (q : CoefficientKey) (c : List ℕ) (es : List (ℕ × Number)) → find key_cmp q (column_cells name c (row_cells es))
-          ≡ cond (not (same_bytes objective q.row)) (find key_cmp q (column_cells name c es)) None
+      find-of_rows : (q : CoefficientKey) (c : List ℕ) (es : List (ℕ × Number)) →
+          find key_cmp q (column_cells name c (row_cells es)) ≡ cond (not (same_bytes objective q.row))
+          (find key_cmp q (column_cells name c es)) None
       find-of_rows q c es =
           let row = not (same_bytes objective q.row) in
           find-row_cells name apart rise c objective named q es
           ∙ elim (same_bytes c q.column) as (λ b. same_bytes c q.column ≡ b
-          → cond (row && b) (find key_cmp q (column_cells name c es)) None ≡ cond row (find key_cmp q (column_cells name c es)) None) [
+          → cond (row && b) (find key_cmp q (column_cells name c es)) None ≡ cond row
+          (find key_cmp q (column_cells name c es)) None) [
             | true ↦ λ _. ap (λ (t : Bool). cond t (find key_cmp q (column_cells name c es)) None) (and_true row)
             | false ↦ λ other.
-                let none : find key_cmp q (column_cells name c es) ≡ None = find-other_column name apart q c es (untied q c other) in
+                let none : find key_cmp q (column_cells name c es) ≡ None =
+                find-other_column name apart q c es (untied q c other) in
                 ap (λ (o : Option Number). cond (row && false) o None) none ∙ both_none (row && false) ∙ sym (both_none row)
                 ∙ ap (λ (o : Option Number). cond row o None) (sym none)
           ] refl
@@ -268,36 +289,42 @@ module _ (name : ℕ → Option (List ℕ)) where
           untied : (q : CoefficientKey) (c : List ℕ) → same_bytes c q.column ≡ false → eq_by_cmp bytes_cmp q.column c ≡ false
           untied q c other =
               elim (eq_by_cmp bytes_cmp q.column c) as (λ b. eq_by_cmp bytes_cmp q.column c ≡ b → b ≡ false) [
-                | true ↦ λ tie. let no : false ≡ true = sym other ∙ (bytes_decides c q.column).1 (sym (name_same q.column c tie)) in
+                | true ↦ λ tie. let no : false ≡ true =
+                    sym other ∙ (bytes_decides c q.column).1 (sym (name_same q.column c tie)) in
                     absurd cc
                 | false ↦ λ _. refl
               ] refl
 
-      find-all_rows : (q : CoefficientKey) (cols : List (List ℕ × List (ℕ × Number))) → find key_cmp q (all_cells name (rows_only cols))
-          ≡ cond (not (same_bytes objective q.row)) (find key_cmp q (all_cells name cols)) None
+      find-all_rows : (q : CoefficientKey) (cols : List (List ℕ × List (ℕ × Number))) →
+          find key_cmp q (all_cells name (rows_only cols)) ≡ cond (not (same_bytes objective q.row))
+          (find key_cmp q (all_cells name cols)) None
       find-all_rows q [] = grind arith
       find-all_rows q (col ∷ cols) = grind (arith, find-all_rows q cols, find-two, or_else, find-of_rows, joined)
 
       -- the nonzeros are the cells of rows, column after column
       pub elements_are_rows : (cols : List (List ℕ × List (ℕ × Number))) → is_sorted bytes_cmp cols ≡ true
           → list_all (λ c. is_sorted nat_cmp c.1) cols ≡ true
-          → filter (λ e. not (same_bytes objective e.0.row)) (sorted_of key_cmp (all_cells name cols)) ≡ all_cells name (rows_only cols)
+          → filter (λ e. not (same_bytes objective e.0.row)) (sorted_of key_cmp (all_cells name cols)) ≡ all_cells name
+          (rows_only cols)
       elements_are_rows cols g h = let all = sorted_of key_cmp (all_cells name cols) in
           let is_row : CoefficientKey → Bool = λ place. not (same_bytes objective place.row) in
           same_entries key_cmp key_total same_key (filter (λ e. is_row e.0) all) (all_cells name (rows_only cols))
           (is_sorted-where_key key_cmp is_row all (is_sorted-sorted_of key_cmp key_total (all_cells name cols)))
-          (T_from (is_sorted key_cmp (all_cells name (rows_only cols))) (sorted_all cols g h)) (λ q. find-where_key key_cmp is_row q
-          (λ x tie. ap is_row (sym (same_key q x tie))) all ∙ ap (λ (o : Option Number). cond (is_row q) o None)
+          (T_from (is_sorted key_cmp (all_cells name (rows_only cols))) (sorted_all cols g h))
+          (λ q. find-where_key key_cmp is_row q (λ x tie. ap is_row (sym (same_key q x tie))) all
+          ∙ ap (λ (o : Option Number). cond (is_row q) o None)
           (find-sorted_of key_cmp key_total q (all_cells name cols)) ∙ sym (find-all_rows q cols))
 
   -- ---- how many
 
   -- a coefficient is found for each number that has a name
-  pub length-named : (c : List ℕ) (es : List (ℕ × Number)) → list_all (λ e. is_some (name e.0)) es ≡ true → length (column_cells name c es) ≡ length es
+  pub length-named : (c : List ℕ) (es : List (ℕ × Number)) → list_all (λ e. is_some (name e.0)) es ≡ true →
+      length (column_cells name c es) ≡ length es
   length-named c [] h = refl
   length-named c (e ∷ es) h = grind (arith, length-named c es)
 
-  pub rows_named : (es : List (ℕ × Number)) → list_all (λ e. is_some (name e.0)) es ≡ true → list_all (λ e. is_some (name e.0)) (row_cells es) ≡ true
+  pub rows_named : (es : List (ℕ × Number)) → list_all (λ e. is_some (name e.0)) es ≡ true →
+      list_all (λ e. is_some (name e.0)) (row_cells es) ≡ true
   rows_named [] h = refl
   rows_named ((zero, x) ∷ es) h = grind (arith, rows_named es)
   rows_named ((suc n, x) ∷ es) h = grind (arith, rows_named es)
@@ -314,8 +341,8 @@ above_at k [] i e h at = cc
 above_at {X} k (d ∷ es) zero e h at = grind arith
 above_at k (d ∷ es) (suc i) e h at = grind (arith, above_at k es i e)
 
-pub rise : {X : Type 0} (es : List (List ℕ × X)) (i j : ℕ) (e f : List ℕ × X) → is_sorted bytes_cmp es ≡ true → slice_get es i ≡ Some e
-    → slice_get es j ≡ Some f → i < j → bytes_cmp e.0 f.0 ≡ Less
+pub rise : {X : Type 0} (es : List (List ℕ × X)) (i j : ℕ) (e f : List ℕ × X) → is_sorted bytes_cmp es ≡ true →
+    slice_get es i ≡ Some e → slice_get es j ≡ Some f → i < j → bytes_cmp e.0 f.0 ≡ Less
 rise [] i j e f h at there below = cc
 rise (d ∷ es) i zero e f h at there below = absurd (omega arith)
 rise {X} (d ∷ es) zero (suc j) e f h at there below = grind (arith, above_at, first_so)
@@ -331,7 +358,8 @@ apart_names a b less = search (rules, never_below_itself)
 pub named_entry : {X : Type 0} (es : List (List ℕ × X)) (i : ℕ) (r : List ℕ)
     → option_map (λ (e : List ℕ × X). e.0) (slice_get es i) ≡ Some r → (e : List ℕ × X) × (slice_get es i ≡ Some e) × (e.0 ≡ r)
 named_entry {X} es i r named =
-    elim (slice_get es i) as (λ o. option_map (λ (e : List ℕ × X). e.0) o ≡ Some r → (e : List ℕ × X) × (o ≡ Some e) × (e.0 ≡ r)) [
+    elim (slice_get es i) as (λ o. option_map (λ (e : List ℕ × X). e.0) o ≡ Some r →
+    (e : List ℕ × X) × (o ≡ Some e) × (e.0 ≡ r)) [
       | None ↦ λ no. absurd cc
       | Some e ↦ λ is. (e, refl, cc)
     ] named
@@ -348,7 +376,8 @@ module _ {X : Type 0} (objective : List ℕ) (es : List (List ℕ × X)) (sorted
   pub rise_by_name : RiseByName (name_of (Some objective) es)
   rise_by_name = grind (arith, named_entry, rise, is_below)
 
-  one_number : (n m : ℕ) (r : List ℕ) → name_of (Some objective) es (suc n) ≡ Some r → name_of (Some objective) es (suc m) ≡ Some r → n ≡ m
+  one_number : (n m : ℕ) (r : List ℕ) → name_of (Some objective) es (suc n) ≡ Some r →
+      name_of (Some objective) es (suc m) ≡ Some r → n ≡ m
   one_number n m r p q =
       let e = named_entry es n r p in
       let f = named_entry es m r q in
@@ -377,7 +406,8 @@ module _ {V X : Type 0} (f : V → X) where
   is_sorted-part [] = refl
   is_sorted-part (e ∷ es) = grind (arith, is_sorted-part es, below_all-part)
 
-  pub slice_get-part : (es : List (List ℕ × V)) (i : ℕ) → slice_get (each_part f es) i ≡ option_map (λ (e : List ℕ × V). (e.0, f e.1)) (slice_get es i)
+  pub slice_get-part : (es : List (List ℕ × V)) (i : ℕ) →
+      slice_get (each_part f es) i ≡ option_map (λ (e : List ℕ × V). (e.0, f e.1)) (slice_get es i)
   slice_get-part [] i = refl
   slice_get-part (e ∷ es) zero = refl
   slice_get-part (e ∷ es) (suc i) = slice_get-part es i
@@ -403,11 +433,13 @@ found_by R total same [] i e once at = absurd cc
 found_by {K} {X} R total same (d ∷ es) zero e once at = grind arith
 found_by {K} {X} R total same (d ∷ es) (suc i) e once at = grind (arith, found_by R total same es i e once.1 at)
 
-pub found_at : {X : Type 0} (es : List (List ℕ × X)) (i : ℕ) (e : List ℕ × X) → IsOnce es → slice_get es i ≡ Some e → find bytes_cmp e.0 es ≡ Some e.1
+pub found_at : {X : Type 0} (es : List (List ℕ × X)) (i : ℕ) (e : List ℕ × X) → IsOnce es → slice_get es i ≡ Some e →
+    find bytes_cmp e.0 es ≡ Some e.1
 found_at = grind (arith, found_by, bytes_total, name_same)
 
 -- a property of all entries is one of the entry at a number
-pub all_at : {X : Type 0} (p : X → Bool) (es : List X) (i : ℕ) (e : X) → list_all p es ≡ true → slice_get es i ≡ Some e → p e ≡ true
+pub all_at : {X : Type 0} (p : X → Bool) (es : List X) (i : ℕ) (e : X) → list_all p es ≡ true →
+    slice_get es i ≡ Some e → p e ≡ true
 all_at p [] i e h at = absurd cc
 all_at {X} p (d ∷ es) zero e h at = grind arith
 all_at p (d ∷ es) (suc i) e h at = grind (arith, all_at p es i e)
@@ -417,7 +449,8 @@ all_at p (d ∷ es) (suc i) e h at = grind (arith, all_at p es i e)
 pub rows_seen : {m : ModelParts} {v : LinearModel} → linear_model m ≡ v → AreModelParts m → maps.entries v.rows ≡ m.rows.items
 rows_seen {m} {v} seen parts = grind (arith, maps.entries-from_sorted bytes_cmp m.rows.items)
 
-pub columns_seen : {m : ModelParts} {v : LinearModel} → linear_model m ≡ v → AreModelParts m → maps.entries v.columns ≡ columns_in m
+pub columns_seen : {m : ModelParts} {v : LinearModel} → linear_model m ≡ v → AreModelParts m →
+    maps.entries v.columns ≡ columns_in m
 columns_seen {m} {v} seen parts = grind (arith, maps.entries-from_sorted bytes_cmp (columns_in m))
 
 pub coefficients_seen : (m : ModelParts) {v : LinearModel} → linear_model m ≡ v
@@ -425,10 +458,6 @@ pub coefficients_seen : (m : ModelParts) {v : LinearModel} → linear_model m �
 coefficients_seen m {v} seen = ap (λ (w : LinearModel). maps.entries w.coefficients) (sym seen)
     ∙ maps.entries-from_sorted key_cmp (sorted_of key_cmp (all_cells (name_of_row_key m) (cells_by_name m)))
     (is_sorted-sorted_of key_cmp key_total (all_cells (name_of_row_key m) (cells_by_name m)))
-
--- the entry of a number, in an equal list
-pub at_index : {X : Type 0} {xs ys : List X} (i : ℕ) {e : X} → xs ≡ ys → slice_get ys i ≡ Some e → slice_get xs i ≡ Some e
-at_index = grind arith
 
 -- as many names as entries
 pub count_seen : {X : Type 0} {es items : List (List ℕ × X)} → es ≡ items → length items ≡ length (map (λ e. e.0) es)
@@ -439,7 +468,8 @@ pub column_names_seen : {m : ModelParts} {v : LinearModel} → linear_model m �
     → column_names v ≡ map (λ (e : List ℕ × ModelColumn). e.0) m.columns
 column_names_seen = grind (arith, columns_seen, names-part)
 
-pub count_columns : {m : ModelParts} {v : LinearModel} → linear_model m ≡ v → AreModelParts m → length m.columns ≡ length (column_names v)
+pub count_columns : {m : ModelParts} {v : LinearModel} → linear_model m ≡ v → AreModelParts m →
+    length m.columns ≡ length (column_names v)
 count_columns {m} seen parts = grind (arith, column_names_seen seen parts, length-map)
 
 -- the entry of a number, through a function
@@ -448,15 +478,20 @@ pub entry_seen : {X Y : Type 0} {es items : List (List ℕ × X)} (f : List ℕ 
 entry_seen = grind (arith, at, slice_get-map)
 
 -- what is read of a column by its number
-pub column_read : {Y : Type 0} {m : ModelParts} {v : LinearModel} (f : List ℕ × Column → Y) (j : ℕ) → linear_model m ≡ v → AreModelParts m
-    → slice_get (map f (maps.entries v.columns)) j ≡ option_map (λ (e : List ℕ × ModelColumn). f (e.0, e.1.bounds)) (slice_get m.columns j)
+pub column_read : {Y : Type 0} {m : ModelParts} {v : LinearModel} (f : List ℕ × Column → Y) (j : ℕ) →
+    linear_model m ≡ v → AreModelParts m →
+    slice_get (map f (maps.entries v.columns)) j ≡ option_map (λ (e : List ℕ × ModelColumn). f (e.0, e.1.bounds))
+    (slice_get m.columns j)
 column_read {Y} {m} f j seen parts = grind (arith, columns_seen seen parts, slice_get-map, slice_get-part bounds_in m.columns j)
 
-pub column_seen : {Y : Type 0} {m : ModelParts} {v : LinearModel} (f : List ℕ × Column → Y) (j : ℕ) {e : List ℕ × ModelColumn} → linear_model m ≡ v
-    → AreModelParts m → slice_get m.columns j ≡ Some e → slice_get (map f (maps.entries v.columns)) j ≡ Some (f (e.0, e.1.bounds))
-column_seen f j seen parts at = column_read f j seen parts ∙ ap (option_map (λ (e : List ℕ × ModelColumn). f (e.0, e.1.bounds))) at
+pub column_seen : {Y : Type 0} {m : ModelParts} {v : LinearModel} (f : List ℕ × Column →
+    Y) (j : ℕ) {e : List ℕ × ModelColumn} → linear_model m ≡ v → AreModelParts m → slice_get m.columns j ≡ Some e →
+    slice_get (map f (maps.entries v.columns)) j ≡ Some (f (e.0, e.1.bounds))
+column_seen f j seen parts at =
+    column_read f j seen parts ∙ ap (option_map (λ (e : List ℕ × ModelColumn). f (e.0, e.1.bounds))) at
 
-position_or_len-map : {X Y : Type 0} (p : Y → Bool) (f : X → Y) (xs : List X) → position_or_len p (map f xs) ≡ position_or_len (λ x. p (f x)) xs
+position_or_len-map : {X Y : Type 0} (p : Y → Bool) (f : X → Y) (xs : List X) →
+    position_or_len p (map f xs) ≡ position_or_len (λ x. p (f x)) xs
 position_or_len-map p f [] = refl
 position_or_len-map p f (x ∷ xs) = grind (arith, position_or_len-map p f xs)
 
@@ -465,8 +500,8 @@ pub position-map : {X Y : Type 0} (p : Y → Bool) (f : X → Y) (xs : List X) �
 position-map = grind (arith, at, position_or_len-map, length-map)
 
 -- the first entry of a name is the only one
-number_of_name : {X : Type 0} (es : List (List ℕ × X)) (i : ℕ) (e : List ℕ × X) → is_sorted bytes_cmp es ≡ true → slice_get es i ≡ Some e
-    → position_or_len (λ (d : List ℕ × X). same_bytes e.0 d.0) es ≡ i
+number_of_name : {X : Type 0} (es : List (List ℕ × X)) (i : ℕ) (e : List ℕ × X) → is_sorted bytes_cmp es ≡ true →
+    slice_get es i ≡ Some e → position_or_len (λ (d : List ℕ × X). same_bytes e.0 d.0) es ≡ i
 number_of_name [] i e h at = absurd cc
 number_of_name {X} (d ∷ es) zero e h at = grind (arith, nat_list_eq_equiv)
 number_of_name {X} (d ∷ es) (suc i) e h at = grind (arith, number_of_name es i e, second_so, at, apart_names, above_at, first_so)
@@ -474,7 +509,8 @@ number_of_name {X} (d ∷ es) (suc i) e h at = grind (arith, number_of_name es i
 pub number_seen : {m : ModelParts} {v : LinearModel} → linear_model m ≡ v → AreModelParts m → (n : ℕ) (r : List ℕ)
     → name_of_row_key m (suc n) ≡ Some r → row_index v r ≡ Some n
 number_seen {m} {v} seen parts n r named = let e = named_entry m.rows.items n r named in
-    let first = number_of_name m.rows.items n e.0 parts.rows e.1 in grind (arith, rows_seen, position-map, lt-ltb, slice_get_within)
+    let first = number_of_name m.rows.items n e.0 parts.rows e.1 in
+    grind (arith, rows_seen, position-map, lt-ltb, slice_get_within)
 
 -- the name of the row of a number
 pub row_numbered : {m : ModelParts} {v : LinearModel} → linear_model m ≡ v → AreModelParts m → (i : ℕ) → i < num_rows v
@@ -519,20 +555,24 @@ module _ (m : ModelParts) (parts : AreModelParts m) where
         | Some e ↦ λ here is.
             let own_cells : e.1.cells ≡ cells = cc in
             let entry : slice_get (cells_by_name m) j ≡ Some (e.0, cells) = slice_get-part cells_in m.columns j ∙ ap (option_map
-            (λ (d : List ℕ × ModelColumn). (d.0, cells_in d.1))) here ∙ ap (λ (es : List (ℕ × Number)). Some (e.0, es)) own_cells in
+            (λ (d : List ℕ × ModelColumn). (d.0, cells_in d.1))) here ∙ ap (λ (es : List (ℕ × Number)). Some (e.0, es))
+            own_cells in
             let name : column_name v j
-            ≡ e.0 = get_or_from_slice_get (column_names v) j e.0 [] (column_seen (λ (d : List ℕ × Column). d.0) j seen parts here) in
+            ≡ e.0 = get_or_from_slice_get (column_names v) j e.0 []
+            (column_seen (λ (d : List ℕ × Column). d.0) j seen parts here) in
             record {
               found = ap (λ (n : List ℕ). find bytes_cmp n (cells_by_name m)) name
                   ∙ found_at (cells_by_name m) j (e.0, cells) once_in entry;
               sorted = all_at (λ c. is_sorted nat_cmp c.1) (cells_by_name m) j (e.0, cells) parts.cells entry;
-              named = all_at (λ c. list_all (λ d. is_some (name_of_row_key m d.0)) c.1) (cells_by_name m) j (e.0, cells) parts.named entry;
+              named = all_at (λ c. list_all (λ d. is_some (name_of_row_key m d.0)) c.1) (cells_by_name m) j (e.0, cells)
+                  parts.named entry;
             }
       ] refl at
 
   -- what is found by the number of a row
-  pub found_seen : (v : LinearModel) → linear_model m ≡ v → (j : ℕ) (cells : List (ℕ × Number)) → AreCellsAt v j cells → (n : ℕ) (r : List
-      ℕ) → name_of_row_key m n ≡ Some r → maps.find key_cmp (at r (column_name v j)) (maps.entries v.coefficients) ≡ find nat_cmp n cells
+  pub found_seen : (v : LinearModel) → linear_model m ≡ v → (j : ℕ) (cells : List (ℕ × Number)) → AreCellsAt v j cells →
+      (n : ℕ) (r : List ℕ) → name_of_row_key m n ≡ Some r →
+      maps.find key_cmp (at r (column_name v j)) (maps.entries v.coefficients) ≡ find nat_cmp n cells
   found_seen v seen j cells are n r named =
       grind (
         arith,
@@ -544,15 +584,18 @@ module _ (m : ModelParts) (parts : AreModelParts m) where
 
   -- a coefficient by the number of its row
   pub value_seen : (v : LinearModel) → linear_model m ≡ v → (j : ℕ) (cells : List (ℕ × Number)) → AreCellsAt v j cells → (n : ℕ)
-      (r : List ℕ) → name_of_row_key m n ≡ Some r → unwrap_or (find nat_cmp n cells) zero_number ≡ coefficient_at v r (column_name v j)
+      (r : List ℕ) → name_of_row_key m n ≡ Some r →
+      unwrap_or (find nat_cmp n cells) zero_number ≡ coefficient_at v r (column_name v j)
   value_seen = grind (arith, found_seen)
 
   -- the nonzeros of a column
   pub elements_seen : (v : LinearModel) → linear_model m ≡ v → (j : ℕ) (cells : List (ℕ × Number)) → AreCellsAt v j cells
       → column_elements v (column_name v j) ≡ column_cells (name_of_row_key m) (column_name v j) (row_cells cells)
-  elements_seen v seen j cells are = let column = column_name v j in (λ i. filter (λ (e : CoefficientKey × Number). not (same_bytes
-      (sym (ap (λ (w : LinearModel). w.objective) seen) i) e.0.row) && same_bytes column e.0.column) (coefficients_seen m seen i))
-      ∙ elements_are_cells (name_of_row_key m) apart_in rise_in column m.objective refl cells (cells_by_name m) once_in are.found are.sorted
+  elements_seen v seen j cells are = let column = column_name v j in
+      (λ i. filter (λ (e : CoefficientKey × Number). not
+      (same_bytes (sym (ap (λ (w : LinearModel). w.objective) seen) i) e.0.row) && same_bytes column e.0.column)
+      (coefficients_seen m seen i)) ∙ elements_are_cells (name_of_row_key m) apart_in rise_in column m.objective
+      refl cells (cells_by_name m) once_in are.found are.sorted
 
   -- each by its number
   numbered : (v : LinearModel) → linear_model m ≡ v → (c : List ℕ) (es : List (ℕ × Number)) (k : ℕ) (e : ℕ × Number)
@@ -575,7 +618,8 @@ module _ (m : ModelParts) (parts : AreModelParts m) where
                   (λ t. Some (number_seen seen parts i r row t, (ap (λ (d : ℕ × Number). d.1) same) t))
                   ∙ ap (λ (a : ℕ). Some (Some a, e.1)) own_number
               | suc h ↦ λ later. numbered v seen c es h e
-                  (second_so (is_some (name_of_row_key m (suc i))) (list_all (λ d. is_some (name_of_row_key m d.0)) es) named) later n is
+                  (second_so (is_some (name_of_row_key m (suc i))) (list_all (λ d. is_some (name_of_row_key m d.0)) es)
+                  named) later n is
             ] here
       ] refl (first_so (is_some (name_of_row_key m (suc i))) (list_all (λ d. is_some (name_of_row_key m d.0)) es) named)
 
@@ -599,7 +643,8 @@ module _ (m : ModelParts) (parts : AreModelParts m) where
 
   pub length_seen : (v : LinearModel) → linear_model m ≡ v → (j : ℕ) (cells : List (ℕ × Number)) → AreCellsAt v j cells
       → length (row_cells cells) ≡ length (column_elements v (column_name v j))
-  length_seen v seen j cells are = grind (arith, elements_seen v seen j cells are, length-named, rows_named (name_of_row_key m) cells are.named)
+  length_seen v seen j cells are =
+      grind (arith, elements_seen v seen j cells are, length-named, rows_named (name_of_row_key m) cells are.named)
 
   -- the number of nonzeros in all columns
   count_named : (columns : List (List ℕ × ModelColumn))
@@ -611,15 +656,16 @@ module _ (m : ModelParts) (parts : AreModelParts m) where
   pub elements_counted : (v : LinearModel) → linear_model m ≡ v → count_row_cells m.columns ≡ num_elements v
   elements_counted v seen =
       sym (
-      (λ i. length (filter (λ (e : CoefficientKey × Number). not (same_bytes (sym (ap (λ (w : LinearModel). w.objective) seen) i) e.0.row))
-      (coefficients_seen m seen i)))
-      ∙ ap length (elements_are_rows (name_of_row_key m) apart_in rise_in m.objective refl (cells_by_name m) cells_rise parts.cells)
-      ∙ count_named m.columns parts.named
+      (λ i. length (filter (λ (e : CoefficientKey × Number). not
+      (same_bytes (sym (ap (λ (w : LinearModel). w.objective) seen) i) e.0.row)) (coefficients_seen m seen i)))
+      ∙ ap length (elements_are_rows (name_of_row_key m) apart_in rise_in m.objective refl (cells_by_name m) cells_rise
+      parts.cells) ∙ count_named m.columns parts.named
       )
 
 -- the coefficients of each column are in the order of their numbers
-pub all_sorted : (columns : List (List ℕ × ModelColumn)) → list_all (λ c. is_sorted nat_cmp c.1) (each_part cells_in columns) ≡ true
-    → list_all (λ (column : List ℕ × ModelColumn). is_sorted nat_cmp column.1.cells) columns ≡ true
+pub all_sorted : (columns : List (List ℕ × ModelColumn)) →
+    list_all (λ c. is_sorted nat_cmp c.1) (each_part cells_in columns) ≡ true →
+    list_all (λ (column : List ℕ × ModelColumn). is_sorted nat_cmp column.1.cells) columns ≡ true
 all_sorted [] h = refl
 all_sorted (c ∷ cs) h = grind (arith, all_sorted cs)
 
@@ -637,8 +683,9 @@ all_of_rows = grind (arith, above_zero, slice_get-get_or)
 
 module _ (m : LinearModel) (i : ℕ) where
   -- the one at this place comes before the others
-  pub one_first : (k : ℕ) (entry : ℕ × Number) → slice_get (row_columns m (row_name m i)) k ≡ Some entry.0 → entry.1 ≡ coefficient_at m
-      (row_name m i) (column_name m entry.0) → drop k (row_elements m (row_name m i)) ≡ entry ∷ drop (k + 1) (row_elements m (row_name m i))
+  pub one_first : (k : ℕ) (entry : ℕ × Number) → slice_get (row_columns m (row_name m i)) k ≡ Some entry.0 →
+      entry.1 ≡ coefficient_at m (row_name m i) (column_name m entry.0) →
+      drop k (row_elements m (row_name m i)) ≡ entry ∷ drop (k + 1) (row_elements m (row_name m i))
   one_first k entry column value =
       grind (
         arith,
@@ -687,8 +734,9 @@ pub joined_within : (rows : List (List ℕ × Row)) (k : ℕ) → length (joined
 joined_within rows k = grind (arith, take-append-drop k rows, joined-append (take k rows) (drop k rows), length-append)
 
 -- the part between the ends of the names before an index and through it
-part_of : (rows : List (List ℕ × Row)) (i : ℕ) (d : List ℕ × Row) → i < length rows → take (length (joined_names (take (suc i) rows))
-    - length (joined_names (take i rows))) (drop (length (joined_names (take i rows))) (joined_names rows)) ≡ (get_or rows i d).0
+part_of : (rows : List (List ℕ × Row)) (i : ℕ) (d : List ℕ × Row) → i < length rows →
+    take (length (joined_names (take (suc i) rows)) - length (joined_names (take i rows)))
+    (drop (length (joined_names (take i rows))) (joined_names rows)) ≡ (get_or rows i d).0
 part_of [] i d below = absurd (omega arith)
 part_of (row ∷ rows) zero d below = grind (arith, append-nil, take_at)
 part_of (row ∷ rows) (suc i) d below =
@@ -704,19 +752,26 @@ part_of (row ∷ rows) (suc i) d below =
 name_read : (rows : List (List ℕ × Row)) (names : RowNames) → AreNames rows names → (i : ℕ) → i < length rows
     → option_map (λ (row : List ℕ × Row). row.0) (slice_get rows i) ≡ Some (name_in names i)
 name_read [] names are i below = absurd (omega arith)
-name_read (row ∷ rows) names are i below = grind (arith, slice_get-get_or (row ∷ rows) i row below, part_of (row ∷ rows) i row below)
+name_read (row ∷ rows) names are i below =
+    grind (arith, slice_get-get_or (row ∷ rows) i row below, part_of (row ∷ rows) i row below)
 
 -- what the accessor finds
-pub name_seen : {m : ModelParts} {v : LinearModel} (names : RowNames) → linear_model m ≡ v → AreModelParts m → AreNames m.rows.items names
-    → (i : ℕ) → i < length m.rows.items → slice_get (row_names v) i ≡ Some (name_in names i)
-name_seen {m} {v} names seen parts are i below = ap (λ (rows : List (List ℕ × Row)). slice_get (map (λ (row : List ℕ × Row). row.0) rows) i)
-    (rows_seen seen parts) ∙ slice_get-map (λ (row : List ℕ × Row). row.0) m.rows.items i ∙ name_read m.rows.items names are i below
+pub name_seen : {m : ModelParts} {v : LinearModel} (names : RowNames) → linear_model m ≡ v → AreModelParts m →
+    AreNames m.rows.items names → (i : ℕ) → i < length m.rows.items → slice_get (row_names v) i ≡ Some (name_in names i)
+name_seen {m} {v} names seen parts are i below =
+    ap (λ (rows : List (List ℕ × Row)). slice_get (map (λ (row : List ℕ × Row). row.0) rows) i) (rows_seen seen parts)
+    ∙ slice_get-map (λ (row : List ℕ × Row). row.0) m.rows.items i ∙ name_read m.rows.items names are i below
 
 pub name_ordered : (rows : List (List ℕ × Row)) {names : RowNames} → AreNames rows names → (i : ℕ) → i < length rows
     → get_or names.starts.items i 0 ≤ get_or names.starts.items (suc i) 0
 name_ordered [] are i below = absurd (omega arith)
 name_ordered (row ∷ rows) are i below =
-    grind (arith, joined_more (row ∷ rows) i row below, length-append (joined_names (take i (row ∷ rows))) (get_or (row ∷ rows) i row).0)
+    grind (
+      arith,
+      joined_more (row ∷ rows) i row below,
+      length-append (joined_names (take i (row ∷ rows)))
+          (get_or (row ∷ rows) i row).0,
+    )
 
 pub name_inside : {rows : List (List ℕ × Row)} {names : RowNames} → AreNames rows names → (i : ℕ) → i < length rows
     → get_or names.starts.items (suc i) 0 ≤ length names.text.items

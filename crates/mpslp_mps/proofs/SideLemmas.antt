@@ -34,9 +34,6 @@ is_sided all row = has_name all.rhs_values row || (is_row_by_limits all row || (
 abbrev pub side_kind : Bool → Bool → Option FaultKind
 side_kind there sided = cond (not there) (Some kinds.UnknownRow) (cond sided (Some kinds.DuplicateRhs) None)
 
-none_so : (b : Bool) (o : Option Number) → o ≡ None → (b && is_some o) ≡ false
-none_so = grind arith
-
 -- N rows have no right-hand sides
 abbrev pub AreLimited : Draft → Type 0
 AreLimited all = (row : List ℕ) → is_free_row all row ≡ true → is_sided all row ≡ false

@@ -1,5 +1,6 @@
 -- A text is divided into fields from its start.
-use Rattle.std.proofs.Common.{Bool, Bor, List, [], ap, append_assoc, arith, drop, false, length, map, refl, subst, suc, sym, take, true, ℕ, ◌++◌, ◌+◌}
+use Rattle.std.proofs.Common.{Bool, Bor, List, [], ap, append_assoc, arith, drop, false, length, map, refl, subst, suc}
+use Rattle.std.proofs.Common.{sym, take, true, ℕ, ◌++◌, ◌+◌}
 use Rattle.std.proofs.{Common.{◌-◌, ◌<◌, ◌∙◌, ◌∷◌, ◌≡◌, ◌≤◌}, lemmas.{Bool.{lt-ltb, Decides.nat_tests}}}
 use Rattle.std.proofs.lemmas.List.{map-append, Sums.{position_or_len_is, prefix_len-le-length}}
 use Rattle.std.specs.{List.{position, position_or_len, slice_split}, Prelude.{None, codes, filter, nat_lt, not, slice_index}}

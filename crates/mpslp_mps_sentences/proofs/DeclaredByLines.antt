@@ -32,13 +32,21 @@ abbrev pub may_refuse : FaultKind → Declaration → Bool
 may_refuse kind d = list_any (λ test. is_kind kind (kind_of_build_fault test.1)) (refusal_tests empty_draft d)
 
 -- the kinds of the tests of a declaration do not depend on the draft
-not-refused : (kind : FaultKind) (all : Draft) (d : Declaration) → not (may_refuse kind d) ≡ true → refused_as kind (refusal_tests all d) ≡ false
+not-refused : (kind : FaultKind) (all : Draft) (d : Declaration) → not (may_refuse kind d) ≡ true →
+    refused_as kind (refusal_tests all d) ≡ false
 not-refused = grind arith
 
 pub none-refuse : (kind : FaultKind) (ds : Declarations) (all : Draft) → list_all (λ d. not (may_refuse kind d)) ds ≡ true
     → refuses kind all ds ≡ false
 none-refuse kind [] all h = refl
-none-refuse kind (d ∷ ds) all h = grind (arith, refuses, not-refused, none-refuse kind ds (with_declaration all d) (second_so (not (may_refuse kind d)) (list_all (λ d. not (may_refuse kind d)) ds) h))
+none-refuse kind (d ∷ ds) all h =
+    grind (
+      arith,
+      refuses,
+      not-refused,
+      none-refuse kind ds (with_declaration all d)
+          (second_so (not (may_refuse kind d)) (list_all (λ d. not (may_refuse kind d)) ds) h),
+    )
 
 pub no-one : {X : Type 0} (kind : FaultKind) (ds : Declarations) (all : Draft) → list_all (λ d. not (may_refuse kind d)) ds ≡ true
     → refuses kind all ds ≡ true → X
@@ -61,7 +69,8 @@ abbrev pub holds_in : (Section → Declaration → Bool) → Option Section → 
 holds_in p o d = option_map_or (λ section. p section d) o false
 
 module _ (p : Section → Declaration → Bool) (holds : HoldsInSections p) where
-  pub data-each : (context : Context) (earlier : Draft) (fields : Fields) (o : Option Section) → list_all (λ d. holds_in p o d) (data_declared context earlier fields o) ≡ true
+  pub data-each : (context : Context) (earlier : Draft) (fields : Fields) (o : Option Section) →
+      list_all (λ d. holds_in p o d) (data_declared context earlier fields o) ≡ true
   data-each context earlier fields o = grind arith
 
 abbrev pub is_of_header : Declaration → Bool
@@ -109,15 +118,15 @@ all-so p q [] h k = refl
 all-so p q (d ∷ ds) h k = both_so _ _ (h d (first_so _ _ k)) (all-so p q ds h (second_so _ _ k))
 
 -- what lines of other sections declare
-elsewhere : (section : Section) (context : Context) (earlier : Draft) (fields : Fields) (o : Option Section) → is_section section o ≡ false
-    → list_all (is_elsewhere section) (data_declared context earlier fields o) ≡ true
+elsewhere : (section : Section) (context : Context) (earlier : Draft) (fields : Fields) (o : Option Section) →
+    is_section section o ≡ false → list_all (is_elsewhere section) (data_declared context earlier fields o) ≡ true
 elsewhere section context earlier fields o h = grind arith
 
 -- ---- a part of the draft that only lines of one section declare
 
 pub each-kept : {X : Type 0} (part : Draft → X) (p : Declaration → Bool)
-    → ((all : Draft) (d : Declaration) → p d ≡ true → part (with_declaration all d) ≡ part all) → (ds : Declarations) (all : Draft)
-    → list_all p ds ≡ true → part (with_declarations all ds) ≡ part all
+    → ((all : Draft) (d : Declaration) → p d ≡ true → part (with_declaration all d) ≡ part all) →
+    (ds : Declarations) (all : Draft) → list_all p ds ≡ true → part (with_declarations all ds) ≡ part all
 each-kept part p one [] all h = refl
 each-kept part p one (d ∷ ds) all h = each-kept part p one ds (with_declaration all d) (second_so (p d) (list_all p ds) h)
     ∙ one all d (first_so (p d) (list_all p ds) h)
@@ -138,17 +147,21 @@ module _ (section : Section) (part : Draft → Bool) (is : IsPartOf section part
       by all (declare_objective name) h = is.objective all name
       by all _ h = cc
 
-  pub data-kept : (context : Context) (earlier : Draft) (fields : Fields) (o : Option Section) → is_section section o ≡ false → part (with_declarations earlier (data_declared context earlier fields o)) ≡ part earlier
+  pub data-kept : (context : Context) (earlier : Draft) (fields : Fields) (o : Option Section) →
+      is_section section o ≡ false → part (with_declarations earlier (data_declared context earlier fields o)) ≡ part earlier
   data-kept context earlier fields o h =
       each-kept part (is_elsewhere section) is.other (data_declared context earlier fields o) earlier
       (elsewhere section context earlier fields o h)
 
   -- if each line of the section that declares it passes the test, it has such a line
-  pub lines-kept : (test : Fields → Bool) → ((context : Context) (earlier : Draft) (fields : Fields) → part (with_declarations earlier
-      (data_declared context earlier fields (Some section))) ≡ true → (test fields || part earlier) ≡ true) → (before : List LineContent)
-      (earlier : Draft) (item : LineContent) → (part earlier ≡ true → list_any test (data_lines section before) ≡ true)
-      → part (next_draft before earlier item) ≡ true → list_any test (data_lines section (before ++ item ∷ [])) ≡ true
-  lines-kept test own before earlier item have h = grind (arith, data_lines-push, list_any-append, or_left, or_right, header-kept, section-is, data-kept)
+  pub lines-kept : (test : Fields → Bool) →
+      ((context : Context) (earlier : Draft) (fields : Fields) → part (with_declarations earlier
+      (data_declared context earlier fields (Some section))) ≡ true → (test fields || part earlier) ≡ true) →
+      (before : List LineContent) (earlier : Draft) (item : LineContent) →
+      (part earlier ≡ true → list_any test (data_lines section before) ≡ true) →
+      part (next_draft before earlier item) ≡ true → list_any test (data_lines section (before ++ item ∷ [])) ≡ true
+  lines-kept test own before earlier item have h =
+      grind (arith, data_lines-push, list_any-append, or_left, or_right, header-kept, section-is, data-kept)
 
 -- ---- errors that only declarations of one section have
 
@@ -157,9 +170,10 @@ pub record IsErrorOfSection (section : Section) (kind : FaultKind) : Type 0 wher
   pub other : (d : Declaration) → is_elsewhere section d ≡ true → not (may_refuse kind d) ≡ true
 
 -- no header has it
-pub unrefused-header : {X : Type 0} (kind : FaultKind) → ((d : Declaration) → is_of_header d ≡ true → not (may_refuse kind d) ≡ true)
-    → (context : Context) (earlier : Draft) (more : Fields) (o : Option Section)
-    → refuses kind earlier (header_declared context earlier more o) ≡ true → X
+pub unrefused-header : {X : Type 0} (kind : FaultKind) →
+    ((d : Declaration) → is_of_header d ≡ true → not (may_refuse kind d) ≡ true) →
+    (context : Context) (earlier : Draft) (more : Fields) (o : Option Section) →
+    refuses kind earlier (header_declared context earlier more o) ≡ true → X
 unrefused-header kind none context earlier more o h = no-one kind (header_declared context earlier more o) earlier
     (all-so is_of_header _ (header_declared context earlier more o) none (header-each context earlier more o)) h
 
@@ -168,22 +182,27 @@ pub unrefused-data : {X : Type 0} (section : Section) (kind : FaultKind) → ((d
     → not (may_refuse kind d) ≡ true) → (context : Context) (earlier : Draft) (fields : Fields) (o : Option Section)
     → is_section section o ≡ false → refuses kind earlier (data_declared context earlier fields o) ≡ true → X
 unrefused-data section kind other context earlier fields o out h =
-    no-one kind (data_declared context earlier fields o) earlier (all-so _ _ _ other (elsewhere section context earlier fields o out)) h
+    no-one kind (data_declared context earlier fields o) earlier
+    (all-so _ _ _ other (elsewhere section context earlier fields o out)) h
 
 -- nor has a line of another section than these, if they are the homes of all declarations that may be rejected with it
 pub unrefused : {X : Type 0} (kind : FaultKind) (homes : List Section)
     → ((d : Declaration) → (list_any (same_section (home_of d)) (Name ∷ homes) || not (may_refuse kind d)) ≡ true)
-    → (context : Context) (earlier : Draft) (fields : Fields) (section : Section) → list_any (same_section section) (Name ∷ homes) ≡ false
-    → refuses kind earlier (data_declared context earlier fields (Some section)) ≡ true → X
-unrefused kind homes none context earlier fields section out h = no-one kind (data_declared context earlier fields (Some section)) earlier
-    (all-so _ _ (data_declared context earlier fields (Some section)) by (data-each is_at_home at_home context earlier fields (Some section))) h
+    → (context : Context) (earlier : Draft) (fields : Fields) (section : Section) →
+    list_any (same_section section) (Name ∷ homes) ≡ false →
+    refuses kind earlier (data_declared context earlier fields (Some section)) ≡ true → X
+unrefused kind homes none context earlier fields section out h =
+    no-one kind (data_declared context earlier fields (Some section)) earlier
+    (all-so _ _ (data_declared context earlier fields (Some section)) by
+    (data-each is_at_home at_home context earlier fields (Some section))) h
   where
     by : (d : Declaration) → is_at_home section d ≡ true → not (may_refuse kind d) ≡ true
     by = grind (arith, none)
 
 -- so a line with this error is one of the section, and passes the test if each of those with the error does
-pub line-of : (section : Section) (kind : FaultKind) → IsErrorOfSection section kind → (test : Fields → Bool) (before : List LineContent)
-    (earlier : Draft) → ((fields : Fields) → refuses kind earlier (data_declared (context_of before) earlier fields (Some section)) ≡ true
+pub line-of : (section : Section) (kind : FaultKind) → IsErrorOfSection section kind →
+    (test : Fields → Bool) (before : List LineContent) (earlier : Draft) →
+    ((fields : Fields) → refuses kind earlier (data_declared (context_of before) earlier fields (Some section)) ≡ true
     → test fields ≡ true) → (item : LineContent) → refuses kind earlier (line_declares (context_of before) earlier item) ≡ true
     → is_line_of section test before item ≡ true
 line-of section kind is test before earlier own skipped h = cc
@@ -215,14 +234,16 @@ block-more column (x ∷ lines) fields h = by (is_some (marker_word x)) h (λ k.
     or = grind arith
 
     by : (b : Bool) → list_any (is_of column) (cond b [] (x ∷ block_lines lines)) ≡ true
-        → (list_any (is_of column) (block_lines lines) ≡ true → list_any (is_of column) (block_lines (lines ++ fields ∷ [])) ≡ true)
-        → list_any (is_of column) (cond b [] (x ∷ block_lines (lines ++ fields ∷ []))) ≡ true
+        → (list_any (is_of column) (block_lines lines) ≡ true →
+        list_any (is_of column) (block_lines (lines ++ fields ∷ [])) ≡ true) →
+        list_any (is_of column) (cond b [] (x ∷ block_lines (lines ++ fields ∷ []))) ≡ true
     by = grind arith
 
 in_block-more : (column : List ℕ) (lines : List Fields) (fields : Fields) → is_in_block column lines ≡ true
     → is_in_block column (lines ++ fields ∷ []) ≡ true
 in_block-more column [] fields h = cc
-in_block-more column (x ∷ lines) fields h = by (opens_block x) (list_any (is_of column) (block_lines lines)) (is_in_block column lines)
+in_block-more column (x ∷ lines) fields h =
+    by (opens_block x) (list_any (is_of column) (block_lines lines)) (is_in_block column lines)
     (list_any (is_of column) (block_lines (lines ++ fields ∷ []))) (is_in_block column (lines ++ fields ∷ []))
     (block-more column lines fields) (in_block-more column lines fields) h
   where
@@ -232,16 +253,19 @@ in_block-more column (x ∷ lines) fields h = by (opens_block x) (list_any (is_o
 -- if the last marker line, or the one before all these, opens a block, a line after them is in it
 last-block : (column : List ℕ) (fields : Fields) → is_marker_line fields ≡ false → is_of column fields ≡ true
     → (lines : List Fields) (word : Option (List ℕ)) → is_opening (last_or word (filter_map marker_word lines)) ≡ true
-    → ((is_opening word && list_any (is_of column) (block_lines (lines ++ fields ∷ []))) || is_in_block column (lines ++ fields ∷ [])) ≡ true
+    → ((is_opening word && list_any (is_of column) (block_lines (lines ++ fields ∷ []))) || is_in_block column
+    (lines ++ fields ∷ [])) ≡ true
 last-block column fields plain of [] word h = grind (arith, or_left)
 last-block column fields plain of (x ∷ lines) word h = by (marker_word x) h (λ w k. last-block column fields plain of lines w k)
   where
     more : List Fields
     more = lines ++ fields ∷ []
 
-    by : (o : Option (List ℕ)) → is_opening (last_or word (cons_option o (filter_map marker_word lines))) ≡ true → ((w : Option (List ℕ))
-        → is_opening (last_or w (filter_map marker_word lines)) ≡ true → ((is_opening w && list_any (is_of column) (block_lines more))
-        || is_in_block column more) ≡ true) → ((is_opening word && list_any (is_of column) (cond (is_some o) [] (x ∷ block_lines more)))
+    by : (o : Option (List ℕ)) → is_opening (last_or word (cons_option o (filter_map marker_word lines))) ≡ true →
+        ((w : Option (List ℕ)) → is_opening (last_or w (filter_map marker_word lines)) ≡ true →
+        ((is_opening w && list_any (is_of column) (block_lines more))
+        || is_in_block column more) ≡ true) →
+        ((is_opening word && list_any (is_of column) (cond (is_some o) [] (x ∷ block_lines more)))
         || ((is_opening o && list_any (is_of column) (block_lines more)) || is_in_block column more)) ≡ true
     by = grind (arith, or_right, more)
 
@@ -257,7 +281,8 @@ cells-same column name (pair ∷ pairs) all = cells-same column name pairs
     (with_declaration all (declare_coefficient (record { row = pair.row; column = name }) (value_of pair.literal)))
 
 abbrev pub HaveMarkedLines : List LineContent → Draft → Type 0
-HaveMarkedLines before earlier = (column : List ℕ) → has_name earlier.marked column ≡ true → is_in_block column (data_lines Columns before) ≡ true
+HaveMarkedLines before earlier = (column : List ℕ) → has_name earlier.marked column ≡ true →
+    is_in_block column (data_lines Columns before) ≡ true
 
 pub marked_lines-kept : Keeps HaveMarkedLines
 marked_lines-kept before earlier item have column h = ap (is_in_block column) (data_lines-push Columns before item) ∙ by item h
@@ -269,7 +294,8 @@ marked_lines-kept before earlier item have column h = ap (is_in_block column) (d
     old = grind (arith, is_in_block, append-nil)
 
     new : (fields : Fields) → is_marker_line fields ≡ false → (line : ValuesLine) → column_shape fields ≡ Some line
-        → same_bytes column line.name ≡ true → (context_of before).in_integer_part ≡ true → is_in_block column (lines ++ fields ∷ []) ≡ true
+        → same_bytes column line.name ≡ true → (context_of before).in_integer_part ≡ true →
+        is_in_block column (lines ++ fields ∷ []) ≡ true
     new fields plain line shape same inside = last-block column fields plain here lines None inside
       where
         here : is_of column fields ≡ true
@@ -277,8 +303,8 @@ marked_lines-kept before earlier item have column h = ap (is_in_block column) (d
 
     front : (fields : Fields) → is_marker_line fields ≡ false → (line : ValuesLine) → column_shape fields ≡ Some line → (b : Bool)
         → (context_of before).in_integer_part ≡ b → has_name (with_declarations earlier (declare_column line.name
-        ∷ (cond b (declare_marked line.name ∷ []) [] ++ flat_map (coefficient_declared line.name) line.pairs))).marked column ≡ true
-        → is_in_block column (lines ++ fields ∷ []) ≡ true
+        ∷ (cond b (declare_marked line.name ∷ []) [] ++ flat_map (coefficient_declared line.name) line.pairs))).marked
+        column ≡ true → is_in_block column (lines ++ fields ∷ []) ≡ true
     front = grind (arith, has-put, cells-same, in_block-more, lines, new)
 
     shaped : (fields : Fields) → is_marker_line fields ≡ false → (o : Option ValuesLine) → column_shape fields ≡ o
@@ -287,15 +313,19 @@ marked_lines-kept before earlier item have column h = ap (is_in_block column) (d
     shaped = grind (arith, in_block-more, front, context_of)
 
     own : (fields : Fields) (b : Bool) → is_marker_line fields ≡ b → has_name
-        (with_declarations earlier (cond b [] (declared_if_some (column_declared (context_of before)) (column_shape fields)))).marked column
+        (with_declarations earlier (cond b []
+        (declared_if_some (column_declared (context_of before)) (column_shape fields)))).marked column
         ≡ true → is_in_block column (lines ++ fields ∷ []) ≡ true
     own = grind (arith, in_block-more, shaped, column_shape)
 
-    by : (x : LineContent) → has_name (with_declarations earlier (line_declares (context_of before) earlier x)).marked column ≡ true
-        → is_in_block column (lines ++ fields_under Columns (current_section before) x) ≡ true
+    by : (x : LineContent) → has_name (with_declarations earlier (line_declares (context_of before) earlier x)).marked
+        column ≡ true → is_in_block column (lines ++ fields_under Columns (current_section before) x) ≡ true
     by skipped k = old k
-    by (header keyword more) k = old (sym (header-kept Columns (λ all. has_name all.marked column) (marked-part column) (context_of before) earlier more (section_named keyword)) ∙ k)
-    by (data_line fields) k = grind (arith, data_line, is_section, current_section, is_in_block, when, section-is, data-kept, marked-part, own, old)
+    by (header keyword more) k = old
+        (sym (header-kept Columns (λ all. has_name all.marked column) (marked-part column) (context_of before) earlier
+        more (section_named keyword)) ∙ k)
+    by (data_line fields) k = grind
+        (arith, data_line, is_section, current_section, is_in_block, when, section-is, data-kept, marked-part, own, old)
 
 -- ---- no constant, no row by its limits, no binary column
 
@@ -328,7 +358,8 @@ pub plain-kept : (context : Context) (earlier : Draft) (item : LineContent) → 
 plain-kept context earlier skipped plain = plain
 plain-kept context earlier (header keyword more) plain = grind (arith, plain-all, all-so, is_of_header, header-each)
 plain-kept context earlier (data_line fields) plain = plain-all (data_declared context earlier fields context.section) earlier
-    (all-so _ is_plain _ (λ d k. by context.section d k) (data-each (λ section d. is_plain d) plain-in_sections context earlier fields context.section)) plain
+    (all-so _ is_plain _ (λ d k. by context.section d k)
+    (data-each (λ section d. is_plain d) plain-in_sections context earlier fields context.section)) plain
   where
     by : (o : Option Section) (d : Declaration) → holds_in (λ section e. is_plain e) o d ≡ true → is_plain d ≡ true
     by = grind arith
@@ -346,25 +377,29 @@ turned : (a b c : Bool) → (b || (a || c)) ≡ true → ((a || b) || c) ≡ tru
 turned = grind arith
 
 own-ranges : (row : List ℕ) (pairs : List Pair) (all : Draft)
-    → has_name (with_declarations all (map (λ (pair : Pair). declare_range pair.row (value_of pair.literal)) pairs)).ranges row ≡ true
-    → (list_any (λ pair. same_bytes row pair.row) pairs || has_name all.ranges row) ≡ true
+    → has_name (with_declarations all (map (λ (pair : Pair). declare_range pair.row (value_of pair.literal))
+    pairs)).ranges row ≡ true → (list_any (λ pair. same_bytes row pair.row) pairs || has_name all.ranges row) ≡ true
 own-ranges row [] all h = h
 own-ranges row (pair ∷ pairs) all h =
     grind (arith, turned, has-put, own-ranges row pairs (with_declaration all (declare_range pair.row (value_of pair.literal))) h)
 
 abbrev pub HaveRangeLines : List LineContent → Draft → Type 0
-HaveRangeLines before earlier = (row : List ℕ) → has_name earlier.ranges row ≡ true → list_any (has_value_of row) (data_lines Ranges before) ≡ true
+HaveRangeLines before earlier = (row : List ℕ) → has_name earlier.ranges row ≡ true →
+    list_any (has_value_of row) (data_lines Ranges before) ≡ true
 
 pub range_lines-kept : Keeps HaveRangeLines
 range_lines-kept before earlier item have row h =
     lines-kept Ranges (λ all. has_name all.ranges row) (ranges-part row) _ own before earlier item (have row) h
   where
-    of : (all : Draft) (o : Option ValuesLine) → has_name (with_declarations all (declared_if_some ranges_declared o)).ranges row ≡ true
-        → (list_any (λ pair. same_bytes row pair.row) (option_map_or (λ (line : ValuesLine). line.pairs) o []) || has_name all.ranges row) ≡ true
+    of : (all : Draft) (o : Option ValuesLine) →
+        has_name (with_declarations all (declared_if_some ranges_declared o)).ranges row ≡ true →
+        (list_any (λ pair. same_bytes row pair.row) (option_map_or (λ (line : ValuesLine). line.pairs) o []) ||
+        has_name all.ranges row) ≡ true
     of = grind (arith, own-ranges)
 
     own : (context : Context) (all : Draft) (fields : Fields) → has_name (with_declarations all
-        (data_declared context all fields (Some Ranges))).ranges row ≡ true → (has_value_of row fields || has_name all.ranges row) ≡ true
+        (data_declared context all fields (Some Ranges))).ranges row ≡ true →
+        (has_value_of row fields || has_name all.ranges row) ≡ true
     own = grind (arith, of, vector_shape)
 
 -- ---- right-hand sides
@@ -373,29 +408,33 @@ sides-part : (row : List ℕ) → IsPartOf Rhs (λ all. has_name all.rhs_values 
 sides-part = grind arith
 
 own-sides : (earlier : Draft) (row : List ℕ) (pairs : List Pair) (all : Draft) → has_name
-    (with_declarations all (flat_map (λ (pair : Pair). rhs_declared earlier pair.row (value_of pair.literal)) pairs)).rhs_values row ≡ true
-    → (list_any (λ pair. same_bytes row pair.row) pairs || has_name all.rhs_values row) ≡ true
+    (with_declarations all (flat_map (λ (pair : Pair). rhs_declared earlier pair.row (value_of pair.literal))
+    pairs)).rhs_values row ≡ true → (list_any (λ pair. same_bytes row pair.row) pairs || has_name all.rhs_values row) ≡ true
 own-sides earlier row [] all h = h
 own-sides earlier row (pair ∷ pairs) all h = by (is_free_row earlier pair.row) h (λ next k. own-sides earlier row pairs next k)
   where
     more : Declarations
     more = flat_map (λ p. rhs_declared earlier p.row (value_of p.literal)) pairs
 
-    by : (b : Bool) → has_name (with_declarations all (cond b [] (declare_rhs pair.row (value_of pair.literal) ∷ []) ++ more)).rhs_values
-        row ≡ true → ((next : Draft) → has_name (with_declarations next more).rhs_values row ≡ true
-        → (list_any (λ p. same_bytes row p.row) pairs || has_name next.rhs_values row) ≡ true)
+    by : (b : Bool) → has_name (with_declarations all
+        (cond b [] (declare_rhs pair.row (value_of pair.literal) ∷ []) ++ more)).rhs_values row ≡ true →
+        ((next : Draft) → has_name (with_declarations next more).rhs_values row ≡ true →
+        (list_any (λ p. same_bytes row p.row) pairs || has_name next.rhs_values row) ≡ true)
         → ((same_bytes row pair.row || list_any (λ p. same_bytes row p.row) pairs) || has_name all.rhs_values row) ≡ true
     by = grind (arith, turned, or_right, has-put)
 
 abbrev pub HaveSideLines : List LineContent → Draft → Type 0
-HaveSideLines before earlier = (row : List ℕ) → has_name earlier.rhs_values row ≡ true → list_any (has_value_of row) (data_lines Rhs before) ≡ true
+HaveSideLines before earlier = (row : List ℕ) → has_name earlier.rhs_values row ≡ true →
+    list_any (has_value_of row) (data_lines Rhs before) ≡ true
 
 pub side_lines-kept : Keeps HaveSideLines
 side_lines-kept before earlier item have row h =
     lines-kept Rhs (λ all. has_name all.rhs_values row) (sides-part row) _ own before earlier item (have row) h
   where
-    of : (all : Draft) (o : Option ValuesLine) → has_name (with_declarations all (declared_if_some (rhs_line_declared all) o)).rhs_values
-        row ≡ true → (list_any (λ pair. same_bytes row pair.row) (option_map_or (λ (line : ValuesLine). line.pairs) o []) || has_name all.rhs_values row) ≡ true
+    of : (all : Draft) (o : Option ValuesLine) →
+        has_name (with_declarations all (declared_if_some (rhs_line_declared all) o)).rhs_values row ≡ true →
+        (list_any (λ pair. same_bytes row pair.row) (option_map_or (λ (line : ValuesLine). line.pairs) o []) ||
+        has_name all.rhs_values row) ≡ true
     of = grind (arith, own-sides)
 
     own : (context : Context) (all : Draft) (fields : Fields)
@@ -406,21 +445,25 @@ side_lines-kept before earlier item have row h =
 -- ---- bounds and types of columns
 
 -- what a line of BOUNDS declares of a column, if each bound that declares it has a type of this kind
-of-bounds : (part : Draft → Bool) (is_of : BoundType → Bool) (column : List ℕ) → ((type : BoundType) (c : List ℕ) (v : Limit) (all : Draft)
-    → part (with_declarations all (bound_declared type c v)) ≡ true → ((is_of type && same_bytes column c) || part all) ≡ true)
+of-bounds : (part : Draft → Bool) (is_of : BoundType → Bool) (column : List ℕ) →
+    ((type : BoundType) (c : List ℕ) (v : Limit) (all : Draft) →
+    part (with_declarations all (bound_declared type c v)) ≡ true → ((is_of type && same_bytes column c) || part all) ≡ true)
     → (fields : Fields) (all : Draft) → part (with_declarations all (bound_line_declared fields)) ≡ true
     → (is_such_bound (λ type name. is_of type && same_bytes column name) fields || part all) ≡ true
 of-bounds part is_of column each [] all h = h
 of-bounds part is_of column each (letters ∷ more) all h = typed (bound_type letters) h
   where
     lined : (type : BoundType) (o : Option BoundLine)
-        → part (with_declarations all (declared_if_some (λ (line : BoundLine). bound_declared type line.column (bound_value line)) o))
-        ≡ true → (option_map_or (λ (line : BoundLine). is_of type && same_bytes column line.column) o false || part all) ≡ true
+        → part (with_declarations all (declared_if_some
+        (λ (line : BoundLine). bound_declared type line.column (bound_value line)) o)) ≡ true →
+        (option_map_or (λ (line : BoundLine). is_of type && same_bytes column line.column) o false || part all) ≡ true
     lined = grind arith
 
     typed : (o : Option BoundType) → part (with_declarations all (declared_if_some (λ (type : BoundType). declared_if_some
         (λ (line : BoundLine). bound_declared type line.column (bound_value line)) (bound_shape type more)) o)) ≡ true
-        → (option_map_or (λ (type : BoundType). option_map_or (λ (line : BoundLine). is_of type && same_bytes column line.column) (bound_shape type more) false) o false || part all) ≡ true
+        → (option_map_or (λ (type : BoundType). option_map_or
+        (λ (line : BoundLine). is_of type && same_bytes column line.column) (bound_shape type more) false) o false
+        || part all) ≡ true
     typed = grind arith
 
 lowers-part : (column : List ℕ) → IsPartOf Bounds (λ all. has_name all.lowers column)
@@ -438,12 +481,15 @@ semis-part = grind arith
 abbrev pub HaveBoundLines : (Draft → List ℕ → Bool) → (BoundType → Bool) → List LineContent → Draft → Type 0
 HaveBoundLines part is_of before earlier = (column : List ℕ) → part earlier column ≡ true → has_bound before is_of column ≡ true
 
-module _ (part : Draft → List ℕ → Bool) (is_of : BoundType → Bool) (is : (column : List ℕ) → IsPartOf Bounds (λ all. part all column))
-    (each : (column : List ℕ) (type : BoundType) (c : List ℕ) (v : Limit) (all : Draft) → part (with_declarations all
-    (bound_declared type c v)) column ≡ true → ((is_of type && same_bytes column c) || part all column) ≡ true) where
+module _ (part : Draft → List ℕ → Bool) (is_of : BoundType → Bool) (is : (column : List ℕ) →
+    IsPartOf Bounds (λ all. part all column)) (each : (column : List ℕ) (type : BoundType) (c : List ℕ) (v : Limit)
+    (all : Draft) → part (with_declarations all (bound_declared type c v)) column ≡ true →
+    ((is_of type && same_bytes column c) || part all column) ≡ true) where
   bound_lines-kept : Keeps (HaveBoundLines part is_of)
-  bound_lines-kept before earlier item have column h = lines-kept Bounds (λ all. part all column) (is column) _ (λ context all fields k.
-      of-bounds (λ draft. part draft column) is_of column (each column) fields all k) before earlier item (have column) h
+  bound_lines-kept before earlier item have column h =
+      lines-kept Bounds (λ all. part all column) (is column) _
+      (λ context all fields k. of-bounds (λ draft. part draft column) is_of column (each column) fields all k)
+      before earlier item (have column) h
 
 abbrev pub lower_of : Draft → List ℕ → Bool
 lower_of all column = has_name all.lowers column
@@ -465,7 +511,8 @@ lower_lines-kept = bound_lines-kept lower_of gives_lower lowers-part each
     put = grind (arith, has-put)
 
     each : (column : List ℕ) (type : BoundType) (c : List ℕ) (v : Limit) (all : Draft) → has_name (with_declarations all
-        (bound_declared type c v)).lowers column ≡ true → ((gives_lower type && same_bytes column c) || has_name all.lowers column) ≡ true
+        (bound_declared type c v)).lowers column ≡ true →
+        ((gives_lower type && same_bytes column c) || has_name all.lowers column) ≡ true
     each = grind (arith, put)
 
 pub upper_lines-kept : Keeps (HaveBoundLines upper_of gives_upper)
@@ -476,7 +523,8 @@ upper_lines-kept = bound_lines-kept upper_of gives_upper uppers-part each
     put = grind (arith, has-put)
 
     each : (column : List ℕ) (type : BoundType) (c : List ℕ) (v : Limit) (all : Draft) → has_name (with_declarations all
-        (bound_declared type c v)).uppers column ≡ true → ((gives_upper type && same_bytes column c) || has_name all.uppers column) ≡ true
+        (bound_declared type c v)).uppers column ≡ true →
+        ((gives_upper type && same_bytes column c) || has_name all.uppers column) ≡ true
     each = grind (arith, put)
 
 pub integer_lines-kept : Keeps (HaveBoundLines integer_of is_integer_type)
@@ -499,5 +547,6 @@ semi_lines-kept = bound_lines-kept semi_of is_semi_type semis-part each
     put = grind (arith, has-put)
 
     each : (column : List ℕ) (type : BoundType) (c : List ℕ) (v : Limit) (all : Draft) → has_name (with_declarations all
-        (bound_declared type c v)).semis column ≡ true → ((is_semi_type type && same_bytes column c) || has_name all.semis column) ≡ true
+        (bound_declared type c v)).semis column ≡ true →
+        ((is_semi_type type && same_bytes column c) || has_name all.semis column) ≡ true
     each = grind (arith, put)

@@ -57,12 +57,14 @@ rows-stay : (context : Context) (earlier : Draft) (item : LineContent) (name : L
 rows-stay = search (rules, new-objective, section-is, rows-kept, no-rows-header, new-row, no-rows-data)
 
 -- what a row line declares exists
-line-there : (context : Context) (earlier : Draft) (line : RowLine) (type : RowType) (name : List ℕ) → same_bytes name line.name ≡ true
-    → has_row (with_declarations earlier (row_of_type context earlier line.name type)) name ≡ true
+line-there : (context : Context) (earlier : Draft) (line : RowLine) (type : RowType) (name : List ℕ) →
+    same_bytes name line.name ≡ true →
+    has_row (with_declarations earlier (row_of_type context earlier line.name type)) name ≡ true
 line-there = grind (arith, or_right, has-put, or_left)
 
 rows_there-kept : KeepsIfGood AreRowsThere
-rows_there-kept before earlier item good there name h = by (names_row before name) refl item good (sym (names_row-push before item name) ∙ h)
+rows_there-kept before earlier item good there name h =
+    by (names_row before name) refl item good (sym (names_row-push before item name) ∙ h)
   where
     typed : (line : RowLine) (o : Option RowType) → is_some o ≡ true → same_bytes name line.name ≡ true
         → has_row (with_declarations earlier (declared_if_some (row_of_type (context_of before) earlier line.name) o)) name ≡ true
@@ -71,18 +73,19 @@ rows_there-kept before earlier item good there name h = by (names_row before nam
     first : (b : Bool) → (b || false) ≡ true → b ≡ true
     first = grind arith
 
-    row : (o : Option RowLine) → option_map_or (λ (line : RowLine). is_some (row_type line.letter) && is_mps_name line.name) o false ≡ true
-        → is_named name (cons_option (option_map (λ (line : RowLine). line.name) o) []) ≡ true
+    row : (o : Option RowLine) → option_map_or (λ (line : RowLine). is_some (row_type line.letter) && is_mps_name
+        line.name) o false ≡ true → is_named name (cons_option (option_map (λ (line : RowLine). line.name) o) []) ≡ true
         → has_row (with_declarations earlier (declared_if_some (row_declared (context_of before) earlier) o)) name ≡ true
     row = grind (arith, false≢true, typed, row_type, first_so, first)
 
-    under : (fields : Fields) → IsGood before earlier (data_line fields) → (b : Bool) → is_section Rows (current_section before) ≡ b
-        → is_named name (filter_map row_name (when b fields)) ≡ true
+    under : (fields : Fields) → IsGood before earlier (data_line fields) → (b : Bool) →
+        is_section Rows (current_section before) ≡ b → is_named name (filter_map row_name (when b fields)) ≡ true
         → has_row (with_declarations earlier (line_declares (context_of before) earlier (data_line fields))) name ≡ true
     under = grind (arith, section-is, row-fields, false≢true, row)
 
-    new : (x : LineContent) → IsGood before earlier x → is_named name (filter_map row_name (fields_under Rows (current_section before) x))
-        ≡ true → has_row (with_declarations earlier (line_declares (context_of before) earlier x)) name ≡ true
+    new : (x : LineContent) → IsGood before earlier x →
+        is_named name (filter_map row_name (fields_under Rows (current_section before) x)) ≡ true →
+        has_row (with_declarations earlier (line_declares (context_of before) earlier x)) name ≡ true
     new = grind (arith, false≢true, under)
 
     by : (b : Bool) → names_row before name ≡ b → (x : LineContent) → IsGood before earlier x
@@ -93,10 +96,23 @@ rows_there-kept before earlier item good there name h = by (names_row before nam
 -- ---- each row that exists has a line, up to the header of COLUMNS, when the objective may be `obj`
 
 abbrev pub HaveRowLines : List LineContent → Draft → Type 0
-HaveRowLines before earlier = (name : List ℕ) → has_row earlier name ≡ true → (names_row before name || has_section before Columns) ≡ true
+HaveRowLines before earlier = (name : List ℕ) → has_row earlier name ≡ true →
+    (names_row before name || has_section before Columns) ≡ true
 
 row_lines-kept : Keeps HaveRowLines
-row_lines-kept = grind (arith, names_row-push, has_section-push, or_right, false≢true, has-put, or_left, rows-kept, no-rows-header, no-rows-data, section-is)
+row_lines-kept = grind (
+  arith,
+  names_row-push,
+  has_section-push,
+  or_right,
+  false≢true,
+  has-put,
+  or_left,
+  rows-kept,
+  no-rows-header,
+  no-rows-data,
+  section-is,
+)
 
 -- ---- each coefficient that exists has a line
 
@@ -111,7 +127,13 @@ entry-kept = grind arith
 entries-kept : (ds : Declarations) (all : Draft) (key : CoefficientKey) → list_all (λ d. not (declares_entry d)) ds ≡ true
     → has_coefficient (with_declarations all ds) key ≡ has_coefficient all key
 entries-kept [] all key h = refl
-entries-kept (d ∷ ds) all key h = grind (arith, entry-kept, entries-kept ds (with_declaration all d) key (second_so (not (declares_entry d)) (list_all (λ d. not (declares_entry d)) ds) h))
+entries-kept (d ∷ ds) all key h =
+    grind (
+      arith,
+      entry-kept,
+      entries-kept ds (with_declaration all d) key
+          (second_so (not (declares_entry d)) (list_all (λ d. not (declares_entry d)) ds) h),
+    )
 
 no-entries-header : (context : Context) (earlier : Draft) (more : Fields) (o : Option Section)
     → list_all (λ d. not (declares_entry d)) (header_declared context earlier more o) ≡ true
@@ -127,7 +149,12 @@ own-entries : (column : List ℕ) (pairs : List Pair) (all : Draft) (key : Coeff
     → ((same_bytes key.column column && list_any (λ pair. same_bytes key.row pair.row) pairs) || has_coefficient all key) ≡ true
 own-entries column [] all key h = or_right _ _ h
 own-entries column (pair ∷ pairs) all key h =
-    grind (arith, has-put_key, own-entries column pairs (with_declaration all (declare_coefficient (record { row = pair.row; column = column }) (value_of pair.literal))) key h)
+    grind (
+      arith,
+      has-put_key,
+      own-entries column pairs
+          (with_declaration all (declare_coefficient (record { row = pair.row; column = column }) (value_of pair.literal))) key h,
+    )
 
 abbrev pub HaveEntryLines : List LineContent → Draft → Type 0
 HaveEntryLines before earlier = (key : CoefficientKey) → has_coefficient earlier key ≡ true
@@ -148,17 +175,20 @@ entry_lines-kept before earlier item have key h = ap (list_any test) (data_lines
 
     marks : (line : ValuesLine) (b : Bool) → has_coefficient (with_declarations earlier (declare_column line.name
         ∷ (cond b (declare_marked line.name ∷ []) [] ++ flat_map (coefficient_declared line.name) line.pairs))) key ≡ true
-        → ((same_bytes key.column line.name && list_any (λ pair. same_bytes key.row pair.row) line.pairs) || has_coefficient earlier key) ≡ true
+        → ((same_bytes key.column line.name && list_any (λ pair. same_bytes key.row pair.row) line.pairs) ||
+        has_coefficient earlier key) ≡ true
     marks line true k = own-entries line.name line.pairs _ key k
     marks line false k = own-entries line.name line.pairs _ key k
 
-    of : (o : Option ValuesLine) → has_coefficient (with_declarations earlier (declared_if_some (column_declared (context_of before)) o))
+    of : (o : Option ValuesLine) →
+        has_coefficient (with_declarations earlier (declared_if_some (column_declared (context_of before)) o))
         key ≡ true → (option_map_or (λ (line : ValuesLine). same_bytes key.column line.name
         && list_any (λ pair. same_bytes key.row pair.row) line.pairs) o false || has_coefficient earlier key) ≡ true
     of = grind (arith, marks, context_of)
 
     line : (fields : Fields) (b : Bool) → is_marker_line fields ≡ b → has_coefficient
-        (with_declarations earlier (cond b [] (declared_if_some (column_declared (context_of before)) (column_shape fields)))) key ≡ true
+        (with_declarations earlier (cond b []
+        (declared_if_some (column_declared (context_of before)) (column_shape fields)))) key ≡ true
         → (option_map_or (λ (line : ValuesLine). same_bytes key.column line.name && list_any (λ pair. same_bytes key.row pair.row)
         line.pairs) (cond b None (column_shape fields)) false || has_coefficient earlier key) ≡ true
     line = grind (arith, of, column_shape)
@@ -182,9 +212,15 @@ declares_sense _ = false
 sense-kept : (all : Draft) (d : Declaration) → not (declares_sense d) ≡ true → (with_declaration all d).sense ≡ all.sense
 sense-kept = grind arith
 
-senses-kept : (ds : Declarations) (all : Draft) → list_all (λ d. not (declares_sense d)) ds ≡ true → (with_declarations all ds).sense ≡ all.sense
+senses-kept : (ds : Declarations) (all : Draft) → list_all (λ d. not (declares_sense d)) ds ≡ true →
+    (with_declarations all ds).sense ≡ all.sense
 senses-kept [] all h = refl
-senses-kept (d ∷ ds) all h = grind (arith, sense-kept, senses-kept ds (with_declaration all d) (second_so (not (declares_sense d)) (list_all (λ d. not (declares_sense d)) ds) h))
+senses-kept (d ∷ ds) all h = grind (
+  arith,
+  sense-kept,
+  senses-kept ds (with_declaration all d)
+      (second_so (not (declares_sense d)) (list_all (λ d. not (declares_sense d)) ds) h),
+)
 
 no-senses-header : (context : Context) (earlier : Draft) (more : Fields) (o : Option Section) → is_section ObjSense o ≡ false
     → list_all (λ d. not (declares_sense d)) (header_declared context earlier more o) ≡ true
@@ -195,7 +231,16 @@ no-senses-data : (context : Context) (earlier : Draft) (fields : Fields) (o : Op
 no-senses-data = grind arith
 
 sense_word-kept : Keeps HasSenseWord
-sense_word-kept = grind (arith, said_after-push, flat_map-append, false≢true, section-is, senses-kept, no-senses-header, no-senses-data)
+sense_word-kept = grind (
+  arith,
+  said_after-push,
+  flat_map-append,
+  false≢true,
+  section-is,
+  senses-kept,
+  no-senses-header,
+  no-senses-data,
+)
 
 -- ---- the objective: an N row, or `obj` from the header of COLUMNS on
 
@@ -215,7 +260,19 @@ abbrev pub IsFreeLine : List LineContent → Draft → Type 0
 IsFreeLine before earlier = is_some earlier.objective ≡ true → (has_free_line before || has_section before Columns) ≡ true
 
 free_line-kept : Keeps IsFreeLine
-free_line-kept = grind (arith, free_line-push, has_section-push, or_right, false≢true, are_unnamed, objective-kept, or_left, header-unnamed, section-is, data-unnamed)
+free_line-kept = grind (
+  arith,
+  free_line-push,
+  has_section-push,
+  or_right,
+  false≢true,
+  are_unnamed,
+  objective-kept,
+  or_left,
+  header-unnamed,
+  section-is,
+  data-unnamed,
+)
 
 -- an N row is the objective, or OBJNAME gives another name
 abbrev pub IsFreeNamed : List LineContent → Draft → Type 0
@@ -226,12 +283,14 @@ free_named-kept = grind (arith, free_line-push, or_left, named-after, or_right, 
 
 -- if there is none, and OBJNAME has no word, `obj` exists from the header of COLUMNS on
 abbrev pub IsDefaultThere : List LineContent → Draft → Type 0
-IsDefaultThere before earlier = has_section before Columns ≡ true → has_default_objective before ≡ true → has_row earlier (codes "obj") ≡ true
+IsDefaultThere before earlier = has_section before Columns ≡ true → has_default_objective before ≡ true →
+    has_row earlier (codes "obj") ≡ true
 
 no-word : (before : List LineContent) → has_its_word before ObjName ≡ false → objname before ≡ None
 no-word before h = sym (ap head_of (stated-words None before)) ∙ none (words_in ObjName before) h
   where
-    none : (words : List Fields) → is_nonempty (flat_map (λ (fields : Fields). fields) words) ≡ false → head_of (filter_map word_shape words) ≡ None
+    none : (words : List Fields) → is_nonempty (flat_map (λ (fields : Fields). fields) words) ≡ false →
+        head_of (filter_map word_shape words) ≡ None
     none [] e = refl
     none ([] ∷ more) e = none more e
     none ((word ∷ rest) ∷ more) e = absurd (true≢false e)
@@ -239,7 +298,8 @@ no-word before h = sym (ap head_of (stated-words None before)) ∙ none (words_i
 default_there-kept : (before : List LineContent) (earlier : Draft) (item : LineContent) → IsFreeLine before earlier
     → IsDefaultThere before earlier → IsDefaultThere (before ++ item ∷ []) (next_draft before earlier item)
 default_there-kept before earlier item free there begun default =
-    by (has_section before Columns) refl item (sym (has_section-push Columns before item) ∙ begun) free_before (no_word item word_after)
+    by (has_section before Columns) refl item (sym (has_section-push Columns before item) ∙ begun) free_before
+    (no_word item word_after)
   where
     free_before : has_free_line before ≡ false
     free_before = grind (arith, nor, free_line-push, not_so)
@@ -254,12 +314,15 @@ default_there-kept before earlier item free there begun default =
         → is_none earlier.objective ≡ true
     none_yet = grind (arith, never, both_false, true≢false)
 
-    declares : (o : Option Section) (more : Fields) → is_section Columns o ≡ true → is_none earlier.objective ≡ true → is_none (objname before)
+    declares : (o : Option Section) (more : Fields) → is_section Columns o ≡ true → is_none earlier.objective ≡ true →
+        is_none (objname before)
         ≡ true → has_row (with_declarations earlier (header_declared (context_of before) earlier more o)) (codes "obj") ≡ true
     declares = grind (arith, section-is, both_so)
 
-    by : (b : Bool) → has_section before Columns ≡ b → (x : LineContent) → (b || begins Columns x) ≡ true → has_free_line before ≡ false
-        → has_its_word before ObjName ≡ false → has_row (with_declarations earlier (line_declares (context_of before) earlier x)) (codes "obj") ≡ true
+    by : (b : Bool) → has_section before Columns ≡ b → (x : LineContent) → (b || begins Columns x) ≡ true →
+        has_free_line before ≡ false
+        → has_its_word before ObjName ≡ false →
+        has_row (with_declarations earlier (line_declares (context_of before) earlier x)) (codes "obj") ≡ true
     by = grind (arith, rows-stay, both_so, so_not, no-word, declares, none_yet)
 
 -- ---- all of it
@@ -278,7 +341,18 @@ pub none-stated : Stated [] empty_draft
 none-stated = grind arith
 
 pub stated-kept : KeepsIfGood Stated
-stated-kept before earlier item good stated = search (rules, known-kept, rows_there-kept, row_lines-kept, entry_lines-kept, sense_word-kept, free_line-kept, free_named-kept, default_there-kept)
+stated-kept before earlier item good stated =
+    search (
+      rules,
+      known-kept,
+      rows_there-kept,
+      row_lines-kept,
+      entry_lines-kept,
+      sense_word-kept,
+      free_line-kept,
+      free_named-kept,
+      default_there-kept,
+    )
 
 -- ---- the first line of a text with an error: its kind is that of one of its tests, or of a rejected declaration. The
 -- kinds of errors for which each line is tested, so that a kind determines the tests
@@ -293,7 +367,8 @@ holds_of kind (test ∷ more) = if is_kind kind test.1 then (test.0 || holds_of 
 -- one of the errors of declarations has this kind
 abbrev pub refused_as : FaultKind → List (Bool × BuildFault) → Bool
 refused_as kind [] = false
-refused_as kind (test ∷ more) = if is_kind kind (kind_of_build_fault test.1) then (test.0 || refused_as kind more) else refused_as kind more
+refused_as kind (test ∷ more) = if is_kind kind (kind_of_build_fault test.1) then (test.0 || refused_as kind more)
+    else refused_as kind more
 
 abbrev pub refuses : FaultKind → Draft → Declarations → Bool
 refuses kind earlier [] = false
@@ -327,7 +402,8 @@ any-held kind [] = refl
 any-held kind ((held, other) ∷ more) = by (any-held kind more) held (is_kind kind other) refl
   where
     by : list_any (is_kind kind) (those_of more) ≡ holds_of kind more → (b c : Bool) → is_kind kind other ≡ c
-        → list_any (is_kind kind) (cond b (other ∷ those_of more) (those_of more)) ≡ cond c (b || holds_of kind more) (holds_of kind more)
+        → list_any (is_kind kind) (cond b (other ∷ those_of more) (those_of more)) ≡ cond c (b || holds_of kind more)
+        (holds_of kind more)
     by = grind arith
 
 any-refused : (kind : FaultKind) (tests : List (Bool × BuildFault))
@@ -336,18 +412,20 @@ any-refused kind [] = refl
 any-refused kind ((held, other) ∷ more) = by (any-refused kind more) held (is_kind kind (kind_of_build_fault other)) refl
   where
     by : list_any (is_kind kind) (map kind_of_build_fault (those_of more)) ≡ refused_as kind more → (b c : Bool) → is_kind kind
-        (kind_of_build_fault other) ≡ c → list_any (is_kind kind) (map kind_of_build_fault (cond b (other ∷ those_of more) (those_of more)))
+        (kind_of_build_fault other) ≡ c →
+        list_any (is_kind kind) (map kind_of_build_fault (cond b (other ∷ those_of more) (those_of more)))
         ≡ cond c (b || refused_as kind more) (refused_as kind more)
     by = grind arith
 
 any-declaring : (kind : FaultKind) (earlier : Draft) (ds : Declarations)
     → list_any (is_kind kind) (declaring_faults earlier ds) ≡ refuses kind earlier ds
 any-declaring kind earlier [] = refl
-any-declaring kind earlier (d ∷ ds) = grind (arith, map-append, list_any-append, any-refused, any-declaring kind (with_declaration earlier d) ds)
+any-declaring kind earlier (d ∷ ds) =
+    grind (arith, map-append, list_any-append, any-refused, any-declaring kind (with_declaration earlier d) ds)
 
 -- the kind of the first error of a line is that of a failing test, or of a rejected declaration
-reported-by : (tests : FaultTests) (earlier : Draft) (ds : Declarations) (kind : FaultKind) → first_fault tests earlier ds ≡ Some kind
-    → (holds_of kind tests || refuses kind earlier ds) ≡ true
+reported-by : (tests : FaultTests) (earlier : Draft) (ds : Declarations) (kind : FaultKind) →
+    first_fault tests earlier ds ≡ Some kind → (holds_of kind tests || refuses kind earlier ds) ≡ true
 reported-by tests earlier ds kind h = sym (list_any-append (is_kind kind) (those_of tests) (declaring_faults earlier ds)
     ∙ (ap (λ b. b || list_any (is_kind kind) (declaring_faults earlier ds)) (any-held kind tests)
     ∙ ap (λ b. holds_of kind tests || b) (any-declaring kind earlier ds))) ∙ among-least _ kind h
@@ -357,7 +435,8 @@ reported-by tests earlier ds kind h = sym (list_any-append (is_kind kind) (those
 abbrev pub is_below : FaultKind → FaultKind → Bool
 is_below kind other = nat_lt (kind_rank other) (kind_rank kind)
 
-least-passes : (p : FaultKind → Bool) (kinds : List FaultKind) → list_all p kinds ≡ true → option_map_or p (least_kind kinds) true ≡ true
+least-passes : (p : FaultKind → Bool) (kinds : List FaultKind) → list_all p kinds ≡ true →
+    option_map_or p (least_kind kinds) true ≡ true
 least-passes p [] h = refl
 least-passes p (kind ∷ kinds) h = grind (arith, lesser, least-passes p kinds (second_so (p kind) (list_all p kinds) h))
 
@@ -365,7 +444,12 @@ those-below : (kind : FaultKind) (tests : FaultTests) → list_all (λ test. is_
     → list_all (is_below kind) (those_of tests) ≡ true
 those-below kind [] h = refl
 those-below kind ((held, other) ∷ more) h =
-    grind (arith, both_so, those-below kind more (second_so (is_below kind other) (list_all (λ test. is_below kind test.1) more) h))
+    grind (
+      arith,
+      both_so,
+      those-below kind more
+          (second_so (is_below kind other) (list_all (λ test. is_below kind test.1) more) h),
+    )
 
 not-below : (kind other : FaultKind) → is_below kind other ≡ true → other ≡ kind → ⊥
 not-below = grind arith
@@ -404,7 +488,8 @@ pub record IsKept (Holds : List LineContent → Draft → Type 0) : Type 0 where
       → Holds (before ++ item ∷ []) (next_draft before earlier item)
 
 -- what is known of the line, and of those before it
-pub record Faulted (Holds : List LineContent → Draft → Type 0) (ls : List (List ℕ)) (before : List LineContent) (n : ℕ) (fault : Fault) : Type 0 where
+pub record Faulted (Holds : List LineContent → Draft → Type 0) (ls : List (List ℕ)) (before : List LineContent) (n : ℕ)
+    (fault : Fault) : Type 0 where
   pub front : List (List ℕ)
   pub line : List ℕ
   pub later : List (List ℕ)
@@ -425,7 +510,8 @@ find-line : (Holds : List LineContent → Draft → Type 0) → IsKept Holds
     → (ls : List (List ℕ)) (before : List LineContent) (earlier : Draft) (n : ℕ) (fault : Fault) → Holds before earlier
     → first_line_fault n (lines_in_context_after before earlier ls) ≡ Some fault → Faulted Holds ls before n fault
 find-line Holds keeps [] before earlier n fault known h = absurd cc
-find-line Holds keeps (line ∷ ls) before earlier n fault known h = by (λ good free e. find-line Holds keeps ls _ next (n + 1) fault
+find-line Holds keeps (line ∷ ls) before earlier n fault known h =
+    by (λ good free e. find-line Holds keeps ls _ next (n + 1) fault
     (keeps.kept before earlier (content_of line) good free known) e) (line_fault placed) refl h
   where
     placed : LineInContext
@@ -437,9 +523,11 @@ find-line Holds keeps (line ∷ ls) before earlier n fault known h = by (λ good
     rest : List LineInContext
     rest = lines_in_context_after (before ++ content_of line ∷ []) next ls
 
-    by : (IsGood before earlier (content_of line) → refusals_in_turn earlier (declared_at placed) ≡ [] → first_line_fault (n + 1) rest
-        ≡ Some fault → Faulted Holds ls (before ++ content_of line ∷ []) (n + 1) fault) → (o : Option FaultKind) → line_fault placed ≡ o
-        → option_or (option_map (fault_on_line n) o) (first_line_fault (n + 1) rest) ≡ Some fault → Faulted Holds (line ∷ ls) before n fault
+    by : (IsGood before earlier (content_of line) → refusals_in_turn earlier (declared_at placed) ≡ [] →
+        first_line_fault (n + 1) rest
+        ≡ Some fault → Faulted Holds ls (before ++ content_of line ∷ []) (n + 1) fault) → (o : Option FaultKind) →
+        line_fault placed ≡ o → option_or (option_map (fault_on_line n) o) (first_line_fault (n + 1) rest) ≡ Some
+        fault → Faulted Holds (line ∷ ls) before n fault
     by find None e k =
         let fine = faultless (tests_at placed) earlier (declared_at placed) e in
         let good : IsGood before earlier (content_of line) = item-form _ earlier line fine.form in
@@ -479,10 +567,11 @@ abbrev is_of_whole : FaultKind → Bool
 is_of_whole kind = nat_le (kind_rank MissingEnd) (kind_rank kind)
 
 named-whole : (all : Draft) (kinds : List FaultKind) (fault : Fault) → list_all is_of_whole kinds ≡ true
-    → head_of (filter_map (λ kind. option_map (λ name. whole_fault kind (Some name)) (head_of (names_with all kind))) kinds) ≡ Some fault
-    → is_of_whole fault.kind ≡ true
+    → head_of (filter_map (λ kind. option_map (λ name. whole_fault kind (Some name)) (head_of (names_with all kind)))
+    kinds) ≡ Some fault → is_of_whole fault.kind ≡ true
 named-whole all [] fault h e = cc
-named-whole all (kind ∷ kinds) fault h e = grind (arith, named-whole all kinds fault (second_so (is_of_whole kind) (list_all is_of_whole kinds) h))
+named-whole all (kind ∷ kinds) fault h e =
+    grind (arith, named-whole all kinds fault (second_so (is_of_whole kind) (list_all is_of_whole kinds) h))
 
 of-whole : (bytes : List ℕ) (fault : Fault) → whole_mps_fault bytes ≡ Some fault → is_of_whole fault.kind ≡ true
 of-whole bytes fault h = by (has_end bytes) h
@@ -490,10 +579,12 @@ of-whole bytes fault h = by (has_end bytes) h
     all : Draft
     all = draft_of (declarations_of bytes)
 
-    simple : (kind : FaultKind) → is_of_whole kind ≡ true → Some (whole_fault kind None) ≡ Some fault → is_of_whole fault.kind ≡ true
+    simple : (kind : FaultKind) → is_of_whole kind ≡ true → Some (whole_fault kind None) ≡ Some fault →
+        is_of_whole fault.kind ≡ true
     simple = grind arith
 
-    of : (b : Bool) → cond b (head_of (named_faults all)) (Some (whole_fault NoColumns None)) ≡ Some fault → is_of_whole fault.kind ≡ true
+    of : (b : Bool) → cond b (head_of (named_faults all)) (Some (whole_fault NoColumns None)) ≡ Some fault →
+        is_of_whole fault.kind ≡ true
     of true e = named-whole all named_kinds fault refl e
     of false e = grind (arith, simple)
 
@@ -503,23 +594,26 @@ of-whole bytes fault h = by (has_end bytes) h
 -- ---- the law of a kind
 
 -- the tests of the length and the bytes of a line are of other kinds
-passed : (kind : FaultKind) (first second : Bool) (tests : FaultTests) → is_kind kind LineTooLong ≡ false → is_kind kind BadByte ≡ false
-    → holds_of kind ((first, LineTooLong) ∷ (second, BadByte) ∷ tests) ≡ holds_of kind tests
+passed : (kind : FaultKind) (first second : Bool) (tests : FaultTests) → is_kind kind LineTooLong ≡ false →
+    is_kind kind BadByte ≡ false → holds_of kind ((first, LineTooLong) ∷ (second, BadByte) ∷ tests) ≡ holds_of kind tests
 passed = grind arith
 
 -- The kind is that of a failing test of the line's form, or of a rejected declaration; only the latter if it comes after all
 -- kinds of its form.
 pub record IsFirst (kind : FaultKind) (before : List LineContent) (earlier : Draft) (item : LineContent) : Type 0 where
-  pub stated : (holds_of kind (item_tests (context_of before) earlier item) || refuses kind earlier (line_declares (context_of before) earlier item)) ≡ true
+  pub stated : (holds_of kind (item_tests (context_of before) earlier item) || refuses kind earlier
+      (line_declares (context_of before) earlier item)) ≡ true
   pub late : is_below kind LineTooLong ≡ true → is_below kind BadByte ≡ true
       → list_all (λ test. is_below kind test.1) (item_tests (context_of before) earlier item) ≡ true → IsGood before earlier item
 
 -- If each line whose first error is of this kind is such a line, the law of the kind holds.
 pub in-words-by : (Holds : List LineContent → Draft → Type 0) → IsKept Holds
-    → (kind : FaultKind) (is_such : List LineContent → LineContent → Bool) → is_of_whole kind ≡ false → is_kind kind LineTooLong ≡ false
-    → is_kind kind BadByte ≡ false → ((before : List LineContent) (earlier : Draft) (item : LineContent) → Holds before earlier
+    → (kind : FaultKind) (is_such : List LineContent → LineContent → Bool) → is_of_whole kind ≡ false →
+    is_kind kind LineTooLong ≡ false → is_kind kind BadByte ≡ false →
+    ((before : List LineContent) (earlier : Draft) (item : LineContent) → Holds before earlier
     → IsFirst kind before earlier item → is_such before item ≡ true) → IsInWords kind is_such
-in-words-by Holds keeps kind is_such early short legal such bytes fault first k = by (first_line_fault 1 (lines_in_context bytes)) refl first
+in-words-by Holds keeps kind is_such early short legal such bytes fault first k =
+    by (first_line_fault 1 (lines_in_context bytes)) refl first
   where
     by : (o : Option Fault) → first_line_fault 1 (lines_in_context bytes) ≡ o → option_or o (whole_mps_fault bytes) ≡ Some fault
         → IsFaultOfLine is_such bytes fault
@@ -553,29 +647,30 @@ in-words-by Holds keeps kind is_such early short legal such bytes fault first k 
 
 -- by what is known of names
 pub in-words : (kind : FaultKind) (is_such : List LineContent → LineContent → Bool) → is_of_whole kind ≡ false
-    → is_kind kind LineTooLong ≡ false → is_kind kind BadByte ≡ false → ((before : List LineContent) (earlier : Draft) (item : LineContent)
-    → Stated before earlier → IsFirst kind before earlier item → is_such before item ≡ true) → IsInWords kind is_such
-in-words = in-words-by Stated (record { none = none-stated; kept = λ before earlier item good _ stated. stated-kept before earlier item good stated })
+    → is_kind kind LineTooLong ≡ false → is_kind kind BadByte ≡ false →
+    ((before : List LineContent) (earlier : Draft) (item : LineContent) → Stated before earlier →
+    IsFirst kind before earlier item → is_such before item ≡ true) → IsInWords kind is_such
+in-words = in-words-by Stated (record
+    { none = none-stated; kept = λ before earlier item good _ stated. stated-kept before earlier item good stated })
 
 -- ---- tests of other kinds
 
 abbrev pub is_among : List FaultKind → FaultKind → Bool
 is_among kinds kind = list_any (is_kind kind) kinds
 
-pub same-rank : (kind other : FaultKind) → is_kind kind other ≡ true → kind_rank kind ≡ kind_rank other
-same-rank = grind arith
-
 alike : (kinds : List FaultKind) (kind other : FaultKind) → is_kind kind other ≡ true → is_among kinds other ≡ is_among kinds kind
 alike = grind arith
 
 -- if the kinds of the tests are among these, none is of another kind
-pub none-holds : (ks : List FaultKind) (kind : FaultKind) (tests : FaultTests) → list_all (λ test. is_among ks test.1) tests ≡ true
-    → is_among ks kind ≡ false → holds_of kind tests ≡ false
+pub none-holds : (ks : List FaultKind) (kind : FaultKind) (tests : FaultTests) →
+    list_all (λ test. is_among ks test.1) tests ≡ true → is_among ks kind ≡ false → holds_of kind tests ≡ false
 none-holds ks kind [] h k = refl
 none-holds ks kind ((held, other) ∷ more) h k =
-    by (none-holds ks kind more (second_so (is_among ks other) (list_all (λ test. is_among ks test.1) more) h) k) (is_kind kind other) refl
+    by (none-holds ks kind more (second_so (is_among ks other) (list_all (λ test. is_among ks test.1) more) h) k)
+    (is_kind kind other) refl
   where
-    by : holds_of kind more ≡ false → (b : Bool) → is_kind kind other ≡ b → cond b (held || holds_of kind more) (holds_of kind more) ≡ false
+    by : holds_of kind more ≡ false → (b : Bool) → is_kind kind other ≡ b →
+        cond b (held || holds_of kind more) (holds_of kind more) ≡ false
     by = grind arith
 
 abbrev refusal_kinds : List FaultKind
@@ -585,14 +680,17 @@ refusal_kinds = kinds.UnknownRow ∷ kinds.UnknownColumn ∷ kinds.DuplicateRow 
 refusal-among : (fault : BuildFault) → is_among refusal_kinds (kind_of_build_fault fault) ≡ true
 refusal-among = grind arith
 
-pub none-refused : (kind : FaultKind) (tests : List (Bool × BuildFault)) → is_among refusal_kinds kind ≡ false → refused_as kind tests ≡ false
+pub none-refused : (kind : FaultKind) (tests : List (Bool × BuildFault)) → is_among refusal_kinds kind ≡ false →
+    refused_as kind tests ≡ false
 none-refused kind [] k = refl
 none-refused kind ((held, other) ∷ more) k = grind (arith, refused_as, never, refusal-among, alike, none-refused kind more k)
 
 -- a kind that only the form of a line has
-form-only : (kind : FaultKind) → is_among refusal_kinds kind ≡ false → (ds : Declarations) (earlier : Draft) → refuses kind earlier ds ≡ false
+form-only : (kind : FaultKind) → is_among refusal_kinds kind ≡ false → (ds : Declarations) (earlier : Draft) →
+    refuses kind earlier ds ≡ false
 form-only kind k [] earlier = refl
-form-only kind k (d ∷ ds) earlier = grind (arith, with_declaration, none-refused, form-only kind k ds (with_declaration earlier d))
+form-only kind k (d ∷ ds) earlier =
+    grind (arith, with_declaration, none-refused, form-only kind k ds (with_declaration earlier d))
 
 pub left_only : (a b : Bool) → b ≡ false → (a || b) ≡ true → a ≡ true
 left_only = grind arith
@@ -607,7 +705,8 @@ header_kinds = kinds.Quadratic ∷ kinds.Sos ∷ kinds.Indicator ∷ kinds.Unkno
     ∷ kinds.FieldCount ∷ kinds.BadType ∷ kinds.UnknownRow ∷ []
 
 abbrev pub number_kinds : List FaultKind
-number_kinds = kinds.FieldCount ∷ kinds.BadType ∷ kinds.BadNumber ∷ kinds.LongNumber ∷ kinds.TooManyDigits ∷ kinds.ExponentRange ∷ kinds.SecondSet ∷ []
+number_kinds = kinds.FieldCount ∷ kinds.BadType ∷ kinds.BadNumber ∷ kinds.LongNumber ∷ kinds.TooManyDigits ∷
+    kinds.ExponentRange ∷ kinds.SecondSet ∷ []
 
 abbrev pub column_kinds : List FaultKind
 column_kinds = kinds.FieldCount ∷ kinds.NameLength ∷ kinds.NameByte ∷ kinds.NameMarker ∷ kinds.BadNumber ∷ kinds.LongNumber
@@ -625,10 +724,6 @@ kinds_in _ = kinds.SectionOrder ∷ kinds.FieldCount ∷ kinds.BadType ∷ []
 abbrev pub AreAmong : List FaultKind → FaultTests → Type 0
 AreAmong ks tests = list_all (λ test. is_among ks test.1) tests ≡ true
 
-judged-among : {X : Type 0} (ks : List FaultKind) (tests : X → FaultTests) (o : Option X) → is_among ks kinds.FieldCount ≡ true
-    → ((x : X) → AreAmong ks (tests x)) → AreAmong ks (judged_by tests o)
-judged-among = grind arith
-
 abbrev pub unknown_kinds : List FaultKind
 unknown_kinds = kinds.Quadratic ∷ kinds.Sos ∷ kinds.Indicator ∷ kinds.UnknownSection ∷ []
 
@@ -644,7 +739,8 @@ pub column-among : (context : Context) (earlier : Draft) (fields : Fields)
     → AreAmong column_kinds (judged_by (column_tests context earlier) (column_shape fields))
 column-among = grind arith
 
-pub data-among : (context : Context) (earlier : Draft) (fields : Fields) (o : Option Section) → AreAmong (kinds_in o) (data_tests context earlier fields o)
+pub data-among : (context : Context) (earlier : Draft) (fields : Fields) (o : Option Section) →
+    AreAmong (kinds_in o) (data_tests context earlier fields o)
 data-among context earlier fields o = grind arith
 
 pub header-among : (context : Context) (earlier : Draft) (keyword : List ℕ) (more : Fields) (o : Option Section)
@@ -657,14 +753,17 @@ pub no-data : {X : Type 0} (kind : FaultKind) (context : Context) (earlier : Dra
 no-data kind context earlier fields o k h = absurd (never _ h (none-holds _ kind _ (data-among context earlier fields o) k))
 
 pub no-header : {X : Type 0} (kind : FaultKind) (context : Context) (earlier : Draft) (keyword : List ℕ) (more : Fields)
-    (o : Option Section) → is_among header_kinds kind ≡ false → holds_of kind (header_tests context earlier keyword more o) ≡ true → X
-no-header kind context earlier keyword more o k h = absurd (never _ h (none-holds header_kinds kind _ (header-among context earlier keyword more o) k))
+    (o : Option Section) → is_among header_kinds kind ≡ false →
+    holds_of kind (header_tests context earlier keyword more o) ≡ true → X
+no-header kind context earlier keyword more o k h =
+    absurd (never _ h (none-holds header_kinds kind _ (header-among context earlier keyword more o) k))
 
 -- what is left of the tests of a line, if the kind is not one of a rejected declaration
 pub by-form : (kind : FaultKind) (is_such : List LineContent → LineContent → Bool) → is_among refusal_kinds kind ≡ false
     → ((before : List LineContent) (earlier : Draft) (item : LineContent) → Stated before earlier
-    → holds_of kind (item_tests (context_of before) earlier item) ≡ true → is_such before item ≡ true) → (before : List LineContent)
-    (earlier : Draft) (item : LineContent) → Stated before earlier → IsFirst kind before earlier item → is_such before item ≡ true
+    → holds_of kind (item_tests (context_of before) earlier item) ≡ true → is_such before item ≡ true) →
+    (before : List LineContent) (earlier : Draft) (item : LineContent) → Stated before earlier →
+    IsFirst kind before earlier item → is_such before item ≡ true
 by-form = grind (arith, left_only, holds_of, refuses, form-only)
 
 -- and if it is none of those of the form of a line, one of its declarations is rejected
@@ -672,12 +771,14 @@ pub by-declaration-of-data : (kind : FaultKind) (before : List LineContent) (ear
     → ((o : Option Section) → is_among (kinds_in o) kind ≡ false) → IsFirst kind before earlier (data_line fields)
     → refuses kind earlier (data_declared (context_of before) earlier fields (current_section before)) ≡ true
 by-declaration-of-data kind before earlier fields lines first =
-    right_only _ _ (none-holds _ kind _ (data-among (context_of before) earlier fields _) (lines (current_section before))) first.stated
+    right_only _ _ (none-holds _ kind _ (data-among (context_of before) earlier fields _)
+    (lines (current_section before))) first.stated
 
 pub by-declaration : (kind : FaultKind) (before : List LineContent) (earlier : Draft) (item : LineContent)
-    → is_among header_kinds kind ≡ false → ((o : Option Section) → is_among (kinds_in o) kind ≡ false) → IsFirst kind before earlier item
-    → refuses kind earlier (line_declares (context_of before) earlier item) ≡ true
+    → is_among header_kinds kind ≡ false → ((o : Option Section) → is_among (kinds_in o) kind ≡ false) →
+    IsFirst kind before earlier item → refuses kind earlier (line_declares (context_of before) earlier item) ≡ true
 by-declaration kind before earlier skipped heads lines first = first.stated
 by-declaration kind before earlier (header keyword more) heads lines first = right_only
-    _ _ (none-holds header_kinds kind _ (header-among (context_of before) earlier keyword more (section_named keyword)) heads) first.stated
+    _ _ (none-holds header_kinds kind _ (header-among (context_of before) earlier keyword more (section_named keyword))
+    heads) first.stated
 by-declaration kind before earlier (data_line fields) heads lines first = grind (arith, data_line, by-declaration-of-data)

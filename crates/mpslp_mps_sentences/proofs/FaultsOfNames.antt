@@ -35,14 +35,17 @@ use Rattle.mpslp_types.specs.declared.faults.FaultKind.TheVariants as kinds
 
 pub form-good : (kind : FaultKind) (before : List LineContent) (earlier : Draft) (item : LineContent)
     → is_below kind kinds.LineTooLong ≡ true → is_below kind kinds.BadByte ≡ true → list_all (is_below kind) header_kinds ≡ true
-    → ((o : Option Section) → list_all (is_below kind) (kinds_in o) ≡ true) → IsFirst kind before earlier item → IsGood before earlier item
+    → ((o : Option Section) → list_all (is_below kind) (kinds_in o) ≡ true) → IsFirst kind before earlier item →
+    IsGood before earlier item
 form-good kind before earlier item long byte heads lines first = first.late long byte (by item)
   where
-    member : (ks : List FaultKind) (k : FaultKind) → list_all (is_below kind) ks ≡ true → is_among ks k ≡ true → is_below kind k ≡ true
+    member : (ks : List FaultKind) (k : FaultKind) → list_all (is_below kind) ks ≡ true → is_among ks k ≡ true →
+        is_below kind k ≡ true
     member [] k h e = cc
     member (x ∷ ks) k h e = of (is_kind k x) refl e (λ f. member ks k (second_so _ _ h) f)
       where
-        of : (b : Bool) → is_kind k x ≡ b → (b || is_among ks k) ≡ true → (is_among ks k ≡ true → is_below kind k ≡ true) → is_below kind k ≡ true
+        of : (b : Bool) → is_kind k x ≡ b → (b || is_among ks k) ≡ true →
+            (is_among ks k ≡ true → is_below kind k ≡ true) → is_below kind k ≡ true
         of = grind arith
 
     each : (ks : List FaultKind) (tests : FaultTests) → list_all (is_below kind) ks ≡ true
@@ -58,11 +61,13 @@ form-good kind before earlier item long byte heads lines first = first.late long
 
 -- ---- lists
 
-pub some : {X : Type 0} (p q : X → Bool) (xs : List X) → ((x : X) → p x ≡ true → q x ≡ true) → list_any p xs ≡ true → list_any q xs ≡ true
+pub some : {X : Type 0} (p q : X → Bool) (xs : List X) → ((x : X) → p x ≡ true → q x ≡ true) → list_any p xs ≡ true →
+    list_any q xs ≡ true
 some p q [] h k = k
 some p q (x ∷ xs) h k = by (λ e. some p q xs h e) (p x) refl k
   where
-    by : (list_any p xs ≡ true → list_any q xs ≡ true) → (b : Bool) → p x ≡ b → (b || list_any p xs) ≡ true → (q x || list_any q xs) ≡ true
+    by : (list_any p xs ≡ true → list_any q xs ≡ true) → (b : Bool) → p x ≡ b → (b || list_any p xs) ≡ true →
+        (q x || list_any q xs) ≡ true
     by = grind arith
 
 -- what does not exist is not named
@@ -79,7 +84,13 @@ bounds-unknown = grind arith
 cells-known : (column : List ℕ) (pairs : List Pair) (all : Draft) → has_column all column ≡ true
     → refuses kinds.UnknownColumn all (flat_map (coefficient_declared column) pairs) ≡ false
 cells-known column [] all h = refl
-cells-known column (pair ∷ pairs) all h = grind (arith, refuses, cells-known column pairs (with_declaration all (declare_coefficient (record { row = pair.row; column = column }) (value_of pair.literal))) h)
+cells-known column (pair ∷ pairs) all h =
+    grind (
+      arith,
+      refuses,
+      cells-known column pairs
+          (with_declaration all (declare_coefficient (record { row = pair.row; column = column }) (value_of pair.literal))) h,
+    )
 
 column-known : (context : Context) (earlier : Draft) (fields : Fields)
     → refuses kinds.UnknownColumn earlier (columns_line_declared context fields) ≡ false
@@ -92,12 +103,14 @@ column-known context earlier fields = by (is_marker_line fields)
     of : (o : Option ValuesLine) → refuses kinds.UnknownColumn earlier (declared_if_some (column_declared context) o) ≡ false
     of = grind (arith, line)
 
-    by : (b : Bool) → refuses kinds.UnknownColumn earlier (cond b [] (declared_if_some (column_declared context) (column_shape fields))) ≡ false
+    by : (b : Bool) → refuses kinds.UnknownColumn earlier
+        (cond b [] (declared_if_some (column_declared context) (column_shape fields))) ≡ false
     by = grind (arith, of, column_shape)
 
 unknown-column : (before : List LineContent) (earlier : Draft) (item : LineContent) → Stated before earlier
     → IsFirst kinds.UnknownColumn before earlier item → names_unknown_column before item ≡ true
-unknown-column before earlier item stated first = by item (by-declaration kinds.UnknownColumn before earlier item refl (λ o. grind arith) first)
+unknown-column before earlier item stated first =
+    by item (by-declaration kinds.UnknownColumn before earlier item refl (λ o. grind arith) first)
   where
     bound : (fs : Fields) → refuses kinds.UnknownColumn earlier (bound_line_declared fs) ≡ true
         → option_map_or (λ name. not (names_column before name)) (bound_column fs) false ≡ true
@@ -106,10 +119,12 @@ unknown-column before earlier item stated first = by item (by-declaration kinds.
       where
         shape : (type : BoundType) (o : Option BoundLine) → refuses kinds.UnknownColumn earlier
             (declared_if_some (λ (line : BoundLine). bound_declared type line.column (bound_value line)) o) ≡ true
-            → option_map_or (λ name. not (names_column before name)) (option_map (λ (line : BoundLine). line.column) o) false ≡ true
+            → option_map_or (λ name. not (names_column before name)) (option_map (λ (line : BoundLine). line.column) o)
+            false ≡ true
         shape = grind (arith, unnamed, bounds-unknown)
 
-        typed : (o : Option BoundType) → refuses kinds.UnknownColumn earlier (declared_if_some (λ (type : BoundType). declared_if_some
+        typed : (o : Option BoundType) →
+            refuses kinds.UnknownColumn earlier (declared_if_some (λ (type : BoundType). declared_if_some
             (λ (line : BoundLine). bound_declared type line.column (bound_value line)) (bound_shape type more)) o) ≡ true
             → option_map_or (λ name. not (names_column before name))
             (option_map_or (λ type. option_map (λ (line : BoundLine). line.column) (bound_shape type more)) o None) false ≡ true
@@ -119,7 +134,8 @@ unknown-column before earlier item stated first = by item (by-declaration kinds.
         → refuses kinds.UnknownColumn earlier (data_declared (context_of before) earlier fields (Some s)) ≡ true → false ≡ true
     other = grind arith
 
-    data_in : (fields : Fields) (o : Option Section) → refuses kinds.UnknownColumn earlier (data_declared (context_of before) earlier fields o) ≡ true
+    data_in : (fields : Fields) (o : Option Section) →
+        refuses kinds.UnknownColumn earlier (data_declared (context_of before) earlier fields o) ≡ true
         → (is_section Bounds o && option_map_or (λ name. not (names_column before name)) (bound_column fields) false) ≡ true
     data_in = grind (arith, other, never, refuses, columns_line_declared, context_of, column-known, bound)
 
@@ -135,8 +151,8 @@ unknown-columns = grind (arith, in-words, names_unknown_column, unknown-column)
 -- ---- UnknownRow
 
 -- a row of `TextInWords` exists
-row-there : (before : List LineContent) (earlier : Draft) (name : List ℕ) → Stated before earlier → has_section before Columns ≡ true
-    → is_row before name ≡ true → has_row earlier name ≡ true
+row-there : (before : List LineContent) (earlier : Draft) (name : List ℕ) → Stated before earlier →
+    has_section before Columns ≡ true → is_row before name ≡ true → has_row earlier name ≡ true
 row-there before earlier name stated begun h = by (names_row before name) refl h
   where
     by : (b : Bool) → names_row before name ≡ b → (b || (has_default_objective before && same_bytes name (codes "obj"))) ≡ true
@@ -144,8 +160,9 @@ row-there before earlier name stated begun h = by (names_row before name) refl h
     by = search (rules, has_row, same_name, second_so, first_so, has_default_objective, same_bytes, codes)
 
 -- rows that do not exist are not named
-rows-unnamed : (before : List LineContent) (earlier : Draft) (pairs : List Pair) → Stated before earlier → has_section before Columns ≡ true
-    → list_any (λ pair. not (has_row earlier pair.row)) pairs ≡ true → list_any (λ pair. not (is_row before pair.row)) pairs ≡ true
+rows-unnamed : (before : List LineContent) (earlier : Draft) (pairs : List Pair) → Stated before earlier →
+    has_section before Columns ≡ true → list_any (λ pair. not (has_row earlier pair.row)) pairs ≡ true →
+    list_any (λ pair. not (is_row before pair.row)) pairs ≡ true
 rows-unnamed = grind (arith, some, unnamed, row-there)
 
 either-pair : (a c d : Bool) → (c ≡ true → d ≡ true) → ((a || false) || c) ≡ true → (a || d) ≡ true
@@ -159,15 +176,16 @@ cells-unknown column (pair ∷ pairs) all h =
     either-pair _ _ _ (cells-unknown column pairs next) h
 
 sides-unknown : (earlier : Draft) (pairs : List Pair) (all : Draft)
-    → refuses kinds.UnknownRow all (flat_map (λ (pair : Pair). rhs_declared earlier pair.row (value_of pair.literal)) pairs) ≡ true
-    → list_any (λ pair. not (has_row all pair.row)) pairs ≡ true
+    → refuses kinds.UnknownRow all (flat_map (λ (pair : Pair). rhs_declared earlier pair.row (value_of pair.literal))
+    pairs) ≡ true → list_any (λ pair. not (has_row all pair.row)) pairs ≡ true
 sides-unknown earlier [] all h = cc
 sides-unknown earlier (pair ∷ pairs) all h = by (is_free_row earlier pair.row) (λ next e. sides-unknown earlier pairs next e) h
   where
     by : (b : Bool) → ((next : Draft) → refuses kinds.UnknownRow next (flat_map (λ (pair : Pair). rhs_declared earlier pair.row
-        (value_of pair.literal)) pairs) ≡ true → list_any (λ pair. not (has_row next pair.row)) pairs ≡ true) → refuses kinds.UnknownRow all
-        (cond b [] (declare_rhs pair.row (value_of pair.literal) ∷ []) ++ flat_map (λ (pair : Pair). rhs_declared earlier pair.row
-        (value_of pair.literal)) pairs) ≡ true → (not (has_row all pair.row) || list_any (λ p. not (has_row all p.row)) pairs) ≡ true
+        (value_of pair.literal)) pairs) ≡ true → list_any (λ pair. not (has_row next pair.row)) pairs ≡ true) →
+        refuses kinds.UnknownRow all (cond b [] (declare_rhs pair.row (value_of pair.literal) ∷ []) ++ flat_map
+        (λ (pair : Pair). rhs_declared earlier pair.row (value_of pair.literal)) pairs) ≡ true →
+        (not (has_row all pair.row) || list_any (λ p. not (has_row all p.row)) pairs) ≡ true
     by = grind (arith, or_right, either-pair, refuses)
 
 ranges-unknown : (pairs : List Pair) (all : Draft)
@@ -178,8 +196,9 @@ ranges-unknown (pair ∷ pairs) all h = let next = with_declaration all (declare
     either-pair _ _ _ (ranges-unknown pairs next) h
 
 -- the word of OBJNAME is not the name of an N row
-word-unnamed : (test : List ℕ → Bool) (words : List Fields) (stated : List ℕ) → head_of (filter_map word_shape words) ≡ Some stated
-    → test stated ≡ false → list_all test (flat_map (λ fields. fields) words) ≡ false
+word-unnamed : (test : List ℕ → Bool) (words : List Fields) (stated : List ℕ) →
+    head_of (filter_map word_shape words) ≡ Some stated → test stated ≡ false →
+    list_all test (flat_map (λ fields. fields) words) ≡ false
 word-unnamed test [] stated h k = cc
 word-unnamed test ([] ∷ more) stated h k = word-unnamed test more stated h k
 word-unnamed test ((word ∷ []) ∷ more) stated h k = grind (arith, list_all, flat_map)
@@ -205,7 +224,8 @@ unknown-row : (before : List LineContent) (earlier : Draft) (item : LineContent)
 unknown-row before earlier skipped stated h = grind (arith, skipped)
 unknown-row before earlier (header keyword more) stated h = by (section_named keyword) h.stated
   where
-    apart : (s : Option Section) → list_all (λ d. not (may_refuse kinds.UnknownRow d)) (header_declared (context_of before) earlier more s) ≡ true
+    apart : (s : Option Section) →
+        list_all (λ d. not (may_refuse kinds.UnknownRow d)) (header_declared (context_of before) earlier more s) ≡ true
     apart = grind (arith, sense-passes)
 
     form : (o : Option Section) → (holds_of kinds.UnknownRow (header_tests (context_of before) earlier keyword more o)
@@ -213,7 +233,8 @@ unknown-row before earlier (header keyword more) stated h = by (section_named ke
         → holds_of kinds.UnknownRow (header_tests (context_of before) earlier keyword more o) ≡ true
     form = grind (arith, left_only, holds_of, refuses, none-refuse, apart)
 
-    sense : (fs : Fields) → holds_of kinds.UnknownRow (section_tests (context_of before) earlier ObjSense fs) ≡ true → false ≡ true
+    sense : (fs : Fields) → holds_of kinds.UnknownRow (section_tests (context_of before) earlier ObjSense fs) ≡ true →
+        false ≡ true
     sense = grind arith
 
     of : (s : Section) → holds_of kinds.UnknownRow (section_tests (context_of before) earlier s more) ≡ true
@@ -238,11 +259,13 @@ unknown-row before earlier (data_line fields) stated h =
 
     column : has_section before Columns ≡ true → (b : Bool) → refuses kinds.UnknownRow earlier
         (cond b [] (declared_if_some (column_declared (context_of before)) (column_shape fields))) ≡ true → list_any (λ pair. not
-        (is_row before pair.row)) (option_map_or (λ (line : ValuesLine). line.pairs) (cond b None (column_shape fields)) []) ≡ true
+        (is_row before pair.row)) (option_map_or (λ (line : ValuesLine). line.pairs) (cond b None (column_shape fields))
+        []) ≡ true
     column begun true k = k
     column begun false k = of (column_shape fields) k
       where
-        of : (o : Option ValuesLine) → refuses kinds.UnknownRow earlier (declared_if_some (column_declared (context_of before)) o) ≡ true
+        of : (o : Option ValuesLine) →
+            refuses kinds.UnknownRow earlier (declared_if_some (column_declared (context_of before)) o) ≡ true
             → list_any (λ pair. not (is_row before pair.row)) (option_map_or (λ (line : ValuesLine). line.pairs) o []) ≡ true
         of = grind (arith, rows-unnamed, marks, context_of)
 
@@ -251,15 +274,18 @@ unknown-row before earlier (data_line fields) stated h =
         → list_any (λ pair. not (is_row before pair.row)) (option_map_or (λ (line : ValuesLine). line.pairs) o []) ≡ true
     sides = grind (arith, rows-unnamed, sides-unknown)
 
-    ranges : has_section before Columns ≡ true → (o : Option ValuesLine) → refuses kinds.UnknownRow earlier (declared_if_some ranges_declared o)
-        ≡ true → list_any (λ pair. not (is_row before pair.row)) (option_map_or (λ (line : ValuesLine). line.pairs) o []) ≡ true
+    ranges : has_section before Columns ≡ true → (o : Option ValuesLine) →
+        refuses kinds.UnknownRow earlier (declared_if_some ranges_declared o) ≡ true →
+        list_any (λ pair. not (is_row before pair.row)) (option_map_or (λ (line : ValuesLine). line.pairs) o []) ≡ true
     ranges = grind (arith, rows-unnamed, ranges-unknown)
 
-    begun_in : (s : Section) → nat_le 3 (section_rank s) ≡ true → current_section before ≡ Some s → has_section before Columns ≡ true
+    begun_in : (s : Section) → nat_le 3 (section_rank s) ≡ true → current_section before ≡ Some s →
+        has_section before Columns ≡ true
     begun_in = grind (arith, columns-begun)
 
-    by : (o : Option Section) → current_section before ≡ o → refuses kinds.UnknownRow earlier (data_declared (context_of before) earlier
-        fields o) ≡ true → list_any (λ pair. not (is_row before pair.row)) (pairs_in o fields) ≡ true
+    by : (o : Option Section) → current_section before ≡ o →
+        refuses kinds.UnknownRow earlier (data_declared (context_of before) earlier fields o) ≡ true →
+        list_any (λ pair. not (is_row before pair.row)) (pairs_in o fields) ≡ true
     by (Some ObjSense) e k = grind (arith, other)
     by (Some Rows) e k = other Rows refl k
     by (Some Columns) e k = column (begun_in Columns refl e) (is_marker_line fields) k
@@ -274,26 +300,42 @@ unknown-rows = grind (arith, in-words, names_unknown_row, unknown-row)
 -- ---- DuplicateRow
 
 -- up to the header of COLUMNS, each row that exists has a line of ROWS
-row-named : (before : List LineContent) (earlier : Draft) (name : List ℕ) → Stated before earlier → has_section before Columns ≡ false
-    → has_row earlier name ≡ true → names_row before name ≡ true
+row-named : (before : List LineContent) (earlier : Draft) (name : List ℕ) → Stated before earlier →
+    has_section before Columns ≡ false → has_row earlier name ≡ true → names_row before name ≡ true
 row-named = grind arith
 
 -- in ROWS the header of COLUMNS has not come yet
-pub last-place : (sections_seen : List Section) (s : Section) → in_order sections_seen ≡ true → last_or None sections_seen ≡ Some s
-    → list_all (λ (x : Section). nat_le (section_rank x) (section_rank s)) sections_seen ≡ true
+pub last-place : (sections_seen : List Section) (s : Section) → in_order sections_seen ≡ true →
+    last_or None sections_seen ≡ Some s →
+    list_all (λ (x : Section). nat_le (section_rank x) (section_rank s)) sections_seen ≡ true
 last-place [] s h k = refl
 last-place (x ∷ []) s h k = grind (arith, both_so, arith, nat_tests)
 last-place (x ∷ y ∷ sections_seen) s h k =
-    grind (arith, both_so, arith, nat_tests, last-place (y ∷ sections_seen) s (second_so (list_all (λ other. nat_le (section_rank x) (section_rank other)) (y ∷ sections_seen)) (in_order (y ∷ sections_seen)) h) k)
+    grind (
+      arith,
+      both_so,
+      arith,
+      nat_tests,
+      last-place (y ∷ sections_seen) s
+          (second_so (list_all (λ other. nat_le (section_rank x) (section_rank other)) (y ∷ sections_seen))
+          (in_order (y ∷ sections_seen)) h) k,
+    )
 
 pub columns-out : (sections_seen : List Section) → list_all (λ (x : Section). nat_le (section_rank x) 2) sections_seen ≡ true
     → has sections_seen Columns ≡ false
 columns-out [] h = refl
-columns-out (x ∷ sections_seen) h = grind (arith, both_false, columns-out sections_seen (second_so (nat_le (section_rank x) 2) (list_all (λ (y : Section). nat_le (section_rank y) 2) sections_seen) h))
+columns-out (x ∷ sections_seen) h =
+    grind (
+      arith,
+      both_false,
+      columns-out sections_seen
+          (second_so (nat_le (section_rank x) 2) (list_all (λ (y : Section). nat_le (section_rank y) 2) sections_seen) h),
+    )
 
 pub below-all : (kind : FaultKind) → list_all (is_below kind) (kinds_in None) ≡ true
     → list_all (is_below kind) (kinds_in (Some Rows)) ≡ true → list_all (is_below kind) (kinds_in (Some Columns)) ≡ true
-    → list_all (is_below kind) (kinds_in (Some Bounds)) ≡ true → (o : Option Section) → list_all (is_below kind) (kinds_in o) ≡ true
+    → list_all (is_below kind) (kinds_in (Some Bounds)) ≡ true → (o : Option Section) →
+    list_all (is_below kind) (kinds_in o) ≡ true
 below-all = grind arith
 
 -- no test of a well-formed line fails
@@ -306,8 +348,9 @@ good-none kind ((held, other) ∷ more) h = by held h (λ e. good-none kind more
     by = grind arith
 
 -- so one of its declarations is rejected
-pub good-refused : (kind : FaultKind) (before : List LineContent) (earlier : Draft) (item : LineContent) → IsGood before earlier item
-    → IsFirst kind before earlier item → refuses kind earlier (line_declares (context_of before) earlier item) ≡ true
+pub good-refused : (kind : FaultKind) (before : List LineContent) (earlier : Draft) (item : LineContent) →
+    IsGood before earlier item → IsFirst kind before earlier item →
+    refuses kind earlier (line_declares (context_of before) earlier item) ≡ true
 good-refused = grind (arith, right_only, holds_of, refuses, good-none)
 
 -- if there is no objective, and OBJNAME gives no name, no row is of type N, and OBJNAME has no word
@@ -318,11 +361,13 @@ default-in_words = grind (arith, both_so, so_not, never, missing, without_word, 
 repeated-row : (before : List LineContent) (earlier : Draft) (item : LineContent) → Stated before earlier
     → IsFirst kinds.DuplicateRow before earlier item → repeats_row before item ≡ true
 repeated-row before earlier item stated first =
-    let good = form-good kinds.DuplicateRow before earlier item refl refl refl (below-all kinds.DuplicateRow refl refl refl refl) first in
+    let good = form-good kinds.DuplicateRow before earlier item refl refl refl
+    (below-all kinds.DuplicateRow refl refl refl refl) first in
     by item good (good-refused kinds.DuplicateRow before earlier item good first)
   where
-    head : (keyword : List ℕ) (more : Fields) (o : Option Section) → those_of (header_tests (context_of before) earlier keyword more o) ≡ []
-        → refuses kinds.DuplicateRow earlier (header_declared (context_of before) earlier more o) ≡ true
+    head : (keyword : List ℕ) (more : Fields) (o : Option Section) →
+        those_of (header_tests (context_of before) earlier keyword more o) ≡ [] →
+        refuses kinds.DuplicateRow earlier (header_declared (context_of before) earlier more o) ≡ true
         → (is_section Columns o && (has_default_objective before && names_row before (codes "obj"))) ≡ true
     head = grind (arith, no-one, sense-passes, may_refuse, header-fresh, refuses, both_so, default-in_words, row-named, left_only)
 
@@ -330,7 +375,8 @@ repeated-row before earlier item stated first =
         → refuses kinds.DuplicateRow earlier (data_declared (context_of before) earlier fields (Some s)) ≡ true → false ≡ true
     other = search (rules, unrefused, context_of)
 
-    typed : (name : List ℕ) (type : RowType) → refuses kinds.DuplicateRow earlier (row_of_type (context_of before) earlier name type) ≡ true
+    typed : (name : List ℕ) (type : RowType) →
+        refuses kinds.DuplicateRow earlier (row_of_type (context_of before) earlier name type) ≡ true
         → has_row earlier name ≡ true
     typed = grind (arith, refuses)
 
@@ -338,11 +384,25 @@ repeated-row before earlier item stated first =
         → refuses kinds.DuplicateRow earlier (declared_if_some (row_declared (context_of before) earlier) o) ≡ true
         → option_map_or (names_row before) (option_map (λ (line : RowLine). line.name) o) false ≡ true
     row None out k = cc
-    row (Some line) out k = grind (arith, row_type, refuses, declared_if_some, row_of_type, context_of, names_row, row-named, typed)
+    row (Some line) out k = grind (
+      arith,
+      row_type,
+      refuses,
+      declared_if_some,
+      row_of_type,
+      context_of,
+      names_row,
+      row-named,
+      typed,
+    )
 
-    data_in : (fields : Fields) (o : Option Section) → current_section before ≡ o → refuses kinds.DuplicateRow earlier (data_declared (context_of before) earlier fields o) ≡ true → (is_section Rows o && option_map_or (names_row before) (row_name fields) false) ≡ true
+    data_in : (fields : Fields) (o : Option Section) → current_section before ≡ o →
+        refuses kinds.DuplicateRow earlier (data_declared (context_of before) earlier fields o) ≡ true →
+        (is_section Rows o && option_map_or (names_row before) (row_name fields) false) ≡ true
     data_in fields (Some ObjSense) e k = grind (arith, other)
-    data_in fields (Some Rows) e k = row (row_shape fields) (columns-out (seen_sections before) (last-place (seen_sections before) Rows stated.known.words.ordered.order e)) k
+    data_in fields (Some Rows) e k =
+        row (row_shape fields) (columns-out (seen_sections before)
+        (last-place (seen_sections before) Rows stated.known.words.ordered.order e)) k
     data_in fields (Some Columns) e k = grind (arith, other)
     data_in fields (Some Rhs) e k = grind (arith, other)
     data_in fields (Some Ranges) e k = grind (arith, other)
@@ -375,12 +435,14 @@ cells-repeat column (pair ∷ pairs) all h = by (has_coefficient all (key pair))
     next : Draft
     next = with_declaration all (declare_coefficient (record { row = pair.row; column = column }) (value_of pair.literal))
 
-    now : list_any (λ p. has_coefficient next (record { row = p.row; column = column })) pairs ≡ (list_any (λ other. same_bytes other.row
-        pair.row && same_bytes column column) pairs || list_any (λ p. has_coefficient all (record { row = p.row; column = column })) pairs)
+    now : list_any (λ p. has_coefficient next (record { row = p.row; column = column }))
+        pairs ≡ (list_any (λ other. same_bytes other.row pair.row && same_bytes column column) pairs || list_any
+        (λ p. has_coefficient all (record { row = p.row; column = column })) pairs)
     now = same-any pairs ∙ some-either _ _ pairs
       where
-        same-any : (ps : List Pair) → list_any (λ p. has_coefficient next (record { row = p.row; column = column })) ps ≡ list_any (λ p.
-            (same_bytes p.row pair.row && same_bytes column column) || has_coefficient all (record { row = p.row; column = column })) ps
+        same-any : (ps : List Pair) → list_any (λ p. has_coefficient next (record { row = p.row; column = column }))
+            ps ≡ list_any (λ p. (same_bytes p.row pair.row && same_bytes column column) || has_coefficient all
+            (record { row = p.row; column = column })) ps
         same-any [] = refl
         same-any (p ∷ ps) = grind (arith, list_any, has_coefficient, has-put_key, same_bytes, same-any ps)
 
@@ -410,13 +472,16 @@ sense-once : (fields : Fields) (all : Draft) → is_some all.sense ≡ false
 sense-once = grind arith
 
 -- nor a second objective
-objective-once : (all : Draft) (name : List ℕ) → is_none all.objective ≡ true → refuses kinds.DuplicateEntry all (declare_objective name ∷ []) ≡ false
+objective-once : (all : Draft) (name : List ℕ) → is_none all.objective ≡ true →
+    refuses kinds.DuplicateEntry all (declare_objective name ∷ []) ≡ false
 objective-once = grind arith
 
 repeated-entry : (before : List LineContent) (earlier : Draft) (item : LineContent) → Stated before earlier
     → IsFirst kinds.DuplicateEntry before earlier item → repeats_entry before item ≡ true
-repeated-entry before earlier item stated first = let good = form-good kinds.DuplicateEntry before earlier item refl refl refl (below-all
-    kinds.DuplicateEntry refl refl refl refl) first in by item good (good-refused kinds.DuplicateEntry before earlier item good first)
+repeated-entry before earlier item stated first = let good =
+    form-good kinds.DuplicateEntry before earlier item refl refl refl
+    (below-all kinds.DuplicateEntry refl refl refl refl) first in
+    by item good (good-refused kinds.DuplicateEntry before earlier item good first)
   where
     not_begun : has_section before ObjSense ≡ false → is_some earlier.sense ≡ false
     not_begun = grind (arith, missing, fresh-sense, without_word, never, with_word)
@@ -424,29 +489,35 @@ repeated-entry before earlier item stated first = let good = form-good kinds.Dup
     no_word : current_section before ≡ Some ObjSense → is_some (word_due before) ≡ true → is_some earlier.sense ≡ false
     no_word = grind (arith, missing, fresh-sense, without_word, with_word, never)
 
-    head : (keyword : List ℕ) (more : Fields) (o : Option Section) → those_of (header_tests (context_of before) earlier keyword more o) ≡ []
-        → refuses kinds.DuplicateEntry earlier (header_declared (context_of before) earlier more o) ≡ true → false ≡ true
+    head : (keyword : List ℕ) (more : Fields) (o : Option Section) →
+        those_of (header_tests (context_of before) earlier keyword more o) ≡ [] →
+        refuses kinds.DuplicateEntry earlier (header_declared (context_of before) earlier more o) ≡ true → false ≡ true
     head = grind (arith, never, refuses, sense-once, header-fresh, objective-once, not_begun)
 
     other : (fields : Fields) (s : Section) → list_any (same_section s) (Name ∷ ObjSense ∷ Rows ∷ Columns ∷ []) ≡ false
         → refuses kinds.DuplicateEntry earlier (data_declared (context_of before) earlier fields (Some s)) ≡ true → false ≡ true
     other = grind arith
 
-    row : (name : List ℕ) (type : RowType) → refuses kinds.DuplicateEntry earlier (row_of_type (context_of before) earlier name type) ≡ true
+    row : (name : List ℕ) (type : RowType) →
+        refuses kinds.DuplicateEntry earlier (row_of_type (context_of before) earlier name type) ≡ true
         → false ≡ true
     row = grind (arith, refuses, never, objective-once)
 
     rows : (o : Option RowLine)
-        → refuses kinds.DuplicateEntry earlier (declared_if_some (row_declared (context_of before) earlier) o) ≡ true → false ≡ true
+        → refuses kinds.DuplicateEntry earlier (declared_if_some (row_declared (context_of before) earlier) o) ≡ true →
+        false ≡ true
     rows = grind (arith, refuses, row)
 
     -- each coefficient that exists has a line
-    lines : (line : ValuesLine) (all : Draft) → ((key : CoefficientKey) → has_coefficient all key ≡ has_coefficient earlier key) → refuses
-        kinds.DuplicateEntry all (flat_map (coefficient_declared line.name) line.pairs) ≡ true → repeats_entry_of before line ≡ true
+    lines : (line : ValuesLine) (all : Draft) →
+        ((key : CoefficientKey) → has_coefficient all key ≡ has_coefficient earlier key) →
+        refuses kinds.DuplicateEntry all (flat_map (coefficient_declared line.name) line.pairs) ≡ true →
+        repeats_entry_of before line ≡ true
     lines line all same k = of (has_row_twice line.pairs) (cells-repeat line.name line.pairs all k)
       where
-        of : (b : Bool) → (b || list_any (λ pair. has_coefficient all (record { row = pair.row; column = line.name })) line.pairs) ≡ true
-            → (b || list_any (λ pair. list_any (has_entry_of line.name pair.row) (data_lines Columns before)) line.pairs) ≡ true
+        of : (b : Bool) → (b || list_any (λ pair. has_coefficient all (record { row = pair.row; column = line.name }))
+            line.pairs) ≡ true → (b || list_any
+            (λ pair. list_any (has_entry_of line.name pair.row) (data_lines Columns before)) line.pairs) ≡ true
         of = grind (arith, some, row)
 
     marks : (line : ValuesLine) (b : Bool) → refuses kinds.DuplicateEntry (with_declaration earlier (declare_column line.name))
@@ -455,21 +526,42 @@ repeated-entry before earlier item stated first = let good = form-good kinds.Dup
     marks = grind (arith, lines, with_declaration, declare_column, declare_marked)
 
     column : (fields : Fields) (b : Bool)
-        → refuses kinds.DuplicateEntry earlier (cond b [] (declared_if_some (column_declared (context_of before)) (column_shape fields)))
+        → refuses kinds.DuplicateEntry earlier
+        (cond b [] (declared_if_some (column_declared (context_of before)) (column_shape fields)))
         ≡ true → option_map_or (repeats_entry_of before) (cond b None (column_shape fields)) false ≡ true
     column fields true k = k
     column fields false k = of (column_shape fields) k
       where
-        of : (o : Option ValuesLine) → refuses kinds.DuplicateEntry earlier (declared_if_some (column_declared (context_of before)) o)
+        of : (o : Option ValuesLine) →
+            refuses kinds.DuplicateEntry earlier (declared_if_some (column_declared (context_of before)) o)
             ≡ true → option_map_or (repeats_entry_of before) o false ≡ true
         of = grind (arith, marks, context_of)
 
-    data_in : (fields : Fields) (o : Option Section) → current_section before ≡ o → those_of (data_tests (context_of before) earlier fields o) ≡ [] → refuses kinds.DuplicateEntry earlier (data_declared (context_of before) earlier fields o) ≡ true
+    data_in : (fields : Fields) (o : Option Section) → current_section before ≡ o →
+        those_of (data_tests (context_of before) earlier fields o) ≡ [] →
+        refuses kinds.DuplicateEntry earlier (data_declared (context_of before) earlier fields o) ≡ true
         → (is_section Columns o && option_map_or (repeats_entry_of before) (column_line fields) false) ≡ true
-    data_in = grind (arith, never, refuses, declared_if_some, sense_declared, word_shape, sense-once, no_word, sense-word, context_of, rows, row_shape, column, is_marker_line, other)
+    data_in = grind (
+      arith,
+      never,
+      refuses,
+      declared_if_some,
+      sense_declared,
+      word_shape,
+      sense-once,
+      no_word,
+      sense-word,
+      context_of,
+      rows,
+      row_shape,
+      column,
+      is_marker_line,
+      other,
+    )
 
     by : (x : LineContent) → IsGood before earlier x
-        → refuses kinds.DuplicateEntry earlier (line_declares (context_of before) earlier x) ≡ true → repeats_entry before x ≡ true
+        → refuses kinds.DuplicateEntry earlier (line_declares (context_of before) earlier x) ≡ true →
+        repeats_entry before x ≡ true
     by = grind (arith, skipped, header, head, data_line, data_in, current_section)
 
 pub repeated-entries : IsInWords kinds.DuplicateEntry repeats_entry
@@ -490,7 +582,8 @@ repeated before earlier (header keyword more) known h = by (section_named keywor
 repeated before earlier (data_line fields) known h = grind (arith, holds_of, no-data)
 
 pub section-repeated : IsInWords kinds.SectionRepeated repeats_section
-section-repeated = in-words kinds.SectionRepeated repeats_section refl refl refl (by-form kinds.SectionRepeated repeats_section refl repeated)
+section-repeated = in-words kinds.SectionRepeated repeats_section refl refl refl
+    (by-form kinds.SectionRepeated repeats_section refl repeated)
 
 -- ---- BadMarker
 
@@ -507,7 +600,8 @@ wrong-marker before earlier (data_line fields) known h = by (current_section bef
     due : List ℕ
     due = cond (context_of before).in_integer_part closing_word opening_word
 
-    of : (word : List ℕ) → not (same_bytes word due) ≡ true → (b : Bool) → alternate opening_word closing_word (words ++ word ∷ []) ≡ b → not b ≡ true
+    of : (word : List ℕ) → not (same_bytes word due) ≡ true → (b : Bool) →
+        alternate opening_word closing_word (words ++ word ∷ []) ≡ b → not b ≡ true
     of word k true e = absurd (turn (same_bytes word due) k (marker-follows words None word [] false refl e))
       where
         turn : (b : Bool) → not b ≡ true → b ≡ true → ⊥
@@ -531,7 +625,8 @@ bad-marker = in-words kinds.BadMarker is_wrong_marker refl refl refl (by-form ki
 split : (before : List LineContent) (earlier : Draft) (item : LineContent) → Stated before earlier
     → holds_of kinds.ColumnSplit (item_tests (context_of before) earlier item) ≡ true → splits_column before item ≡ true
 split before earlier skipped known h = absurd (false≢true h)
-split before earlier (header keyword more) known h = no-header kinds.ColumnSplit (context_of before) earlier keyword more (section_named keyword) refl h
+split before earlier (header keyword more) known h =
+    no-header kinds.ColumnSplit (context_of before) earlier keyword more (section_named keyword) refl h
 split before earlier (data_line fields) known h = by (current_section before) h
   where
     of : (name : List ℕ) → is_split (context_of before) earlier name ≡ true → (b : Bool)
@@ -540,11 +635,13 @@ split before earlier (data_line fields) known h = by (current_section before) h
 
     line : (b : Bool) → holds_of kinds.ColumnSplit (cond b (marker_tests (context_of before) fields)
         (judged_by (column_tests (context_of before) earlier) (column_shape fields))) ≡ true
-        → not (are_together (columns_of before ++ cond b None (option_map (λ (l : ValuesLine). l.name) (column_shape fields)) ∷ [])) ≡ true
+        → not (are_together (columns_of before ++ cond b None
+        (option_map (λ (l : ValuesLine). l.name) (column_shape fields)) ∷ [])) ≡ true
     line = grind (arith, holds_of, columns_of, false≢true, left_only, of)
 
     by : (o : Option Section) → holds_of kinds.ColumnSplit (data_tests (context_of before) earlier fields o) ≡ true
-        → (is_section Columns o && not (are_together (map line_column (data_lines Columns before) ++ line_column fields ∷ []))) ≡ true
+        → (is_section Columns o && not
+        (are_together (map line_column (data_lines Columns before) ++ line_column fields ∷ []))) ≡ true
     by = grind (arith, no-data, line)
 
 pub column-split : IsInWords kinds.ColumnSplit splits_column
@@ -553,25 +650,28 @@ column-split = in-words kinds.ColumnSplit splits_column refl refl refl (by-form 
 -- ---- SecondSet
 
 -- a name other than the first one
-other-first : (sets : List (List ℕ)) (set : List ℕ) → option_map_or (λ name. not (same_bytes name set)) (head_of sets) false ≡ true
-    → differs_from sets set ≡ true
+other-first : (sets : List (List ℕ)) (set : List ℕ) →
+    option_map_or (λ name. not (same_bytes name set)) (head_of sets) false ≡ true → differs_from sets set ≡ true
 other-first = grind arith
 
 second : (before : List LineContent) (earlier : Draft) (item : LineContent) → Stated before earlier
     → holds_of kinds.SecondSet (item_tests (context_of before) earlier item) ≡ true → is_of_second_set before item ≡ true
 second before earlier skipped known h = absurd (false≢true h)
-second before earlier (header keyword more) known h = no-header kinds.SecondSet (context_of before) earlier keyword more (section_named keyword) refl h
+second before earlier (header keyword more) known h =
+    no-header kinds.SecondSet (context_of before) earlier keyword more (section_named keyword) refl h
 second before earlier (data_line fields) known h = by (current_section before) h
   where
-    vector : (sets : List (List ℕ)) (o : Option ValuesLine) → holds_of kinds.SecondSet (judged_by (vector_tests (head_of sets)) o) ≡ true
-        → option_map_or (differs_from sets) (option_map (λ (l : ValuesLine). l.name) o) false ≡ true
+    vector : (sets : List (List ℕ)) (o : Option ValuesLine) →
+        holds_of kinds.SecondSet (judged_by (vector_tests (head_of sets)) o) ≡ true →
+        option_map_or (differs_from sets) (option_map (λ (l : ValuesLine). l.name) o) false ≡ true
     vector = grind arith
 
     sets_before : List (List ℕ)
     sets_before = filter_map bound_set (data_lines Bounds before)
 
-    literal : (line : BoundLine) (o : Option (List ℕ)) → holds_of kinds.SecondSet (option_map_or (λ literal. number_tests (literal ∷ [])) o
-        [] ++ set_tests (context_of before).bounds_set line.set) ≡ true → differs_from sets_before line.set ≡ true
+    literal : (line : BoundLine) (o : Option (List ℕ)) →
+        holds_of kinds.SecondSet (option_map_or (λ literal. number_tests (literal ∷ [])) o [] ++ set_tests
+        (context_of before).bounds_set line.set) ≡ true → differs_from sets_before line.set ≡ true
     literal = grind (arith, other-first, left_only)
 
     shape : (o : Option BoundLine) → holds_of kinds.SecondSet (judged_by (bound_tests (context_of before)) o) ≡ true
@@ -609,8 +709,8 @@ later-place : (p q : Section → Bool) (sections_seen : List Section) → ((x : 
 later-place p q [] h k = k
 later-place p q (x ∷ sections_seen) h k = by (λ e. later-place p q sections_seen h e) (p x) refl k
   where
-    by : (list_any p sections_seen ≡ true → list_any q sections_seen ≡ true) → (b : Bool) → p x ≡ b → (b || list_any p sections_seen) ≡ true
-        → (q x || list_any q sections_seen) ≡ true
+    by : (list_any p sections_seen ≡ true → list_any q sections_seen ≡ true) → (b : Bool) → p x ≡ b →
+        (b || list_any p sections_seen) ≡ true → (q x || list_any q sections_seen) ≡ true
     by = grind arith
 
 rows-later : (x : Section) → is_section Rows (Some x) ≡ true → nat_lt 1 (section_rank x) ≡ true
@@ -649,12 +749,14 @@ out-of-place before earlier (header keyword more) known h = by (section_named ke
     idle : Bool
     idle = option_map_or (is_without_word before) (current_section before) false
 
-    of : (s : Section) (w f g : Bool) → is_some (word_due before) ≡ w → has_section before s ≡ f → may_begin (context_of before) s ≡ g
-        → (w || not (f || g)) ≡ true → (idle || (not (has_section before s) && (comes_early before s || comes_late before s))) ≡ true
+    of : (s : Section) (w f g : Bool) → is_some (word_due before) ≡ w → has_section before s ≡ f →
+        may_begin (context_of before) s ≡ g → (w || not (f || g)) ≡ true →
+        (idle || (not (has_section before s) && (comes_early before s || comes_late before s))) ≡ true
     of = grind (arith, or_left, false≢true, or_right, both_so, so_not, misplaced, idle, word_due_after)
 
     by : (o : Option Section) → holds_of kinds.SectionOrder (header_tests (context_of before) earlier keyword more o) ≡ true
-        → (idle || option_map_or (λ section. not (has_section before section) && (comes_early before section || comes_late before section)) o false) ≡ true
+        → (idle || option_map_or (λ section. not (has_section before section) &&
+        (comes_early before section || comes_late before section)) o false) ≡ true
     by = grind (arith, never, holds_of, none-holds, unknown_kinds, unknown-among, left_only, section-among, of)
 out-of-place before earlier (data_line fields) known h = by (current_section before) refl h
   where
@@ -662,9 +764,11 @@ out-of-place before earlier (data_line fields) known h = by (current_section bef
         → current_section before ≡ Some s → is_closed before s ≡ true
     occurs = grind (arith, with-its_word, holds_of, false≢true, no-data)
 
-    by : (o : Option Section) → current_section before ≡ o → holds_of kinds.SectionOrder (data_tests (context_of before) earlier fields o)
-        ≡ true → option_map_or (is_closed before) o true ≡ true
+    by : (o : Option Section) → current_section before ≡ o →
+        holds_of kinds.SectionOrder (data_tests (context_of before) earlier fields o) ≡ true →
+        option_map_or (is_closed before) o true ≡ true
     by = grind arith
 
 pub section-order : IsInWords kinds.SectionOrder occurs_out_of_order
-section-order = in-words kinds.SectionOrder occurs_out_of_order refl refl refl (by-form kinds.SectionOrder occurs_out_of_order refl out-of-place)
+section-order = in-words kinds.SectionOrder occurs_out_of_order refl refl refl
+    (by-form kinds.SectionOrder occurs_out_of_order refl out-of-place)

@@ -40,7 +40,8 @@ pub use Rattle.mpslp_mps_fields.specs.declared.{bound_types.BoundType.BoundType,
 pub use Rattle.mpslp_mps_fields.specs.declared.sections.Section.TheVariants.{Name, ObjSense, ObjName, Rows, Rhs, Ranges, Bounds, EndData}
 pub use Rattle.mpslp_mps.proofs.{FedLemmas.{objname-push, word_due-push, up_to_end, up_to_end-last, up_to_end-more}, OrderLemmas.item-form}
 pub use Rattle.mpslp_mps.proofs.OrderLemmas.{form_faults, are_well_formed, lines-good, no_faults, items-good, declares_column, no_columns}
-pub use Rattle.mpslp_mps.proofs.OrderLemmas.{column-after, declares-itself, columns-kept, each-flat, IsGood, never, sense-passes, no_rows, rows-kept, header-fresh}
+pub use Rattle.mpslp_mps.proofs.OrderLemmas.{column-after, declares-itself, columns-kept, each-flat, IsGood, never}
+pub use Rattle.mpslp_mps.proofs.OrderLemmas.{sense-passes, no_rows, rows-kept, header-fresh}
 pub use Rattle.mpslp_mps.proofs.OrderLemmas.{header-begins, header-complete, header-ordered, data_lines-push, has_section-push}
 pub use Rattle.mpslp_mps.proofs.{OrderLemmas.{said_after-push, current_section-push}, ModelOrFault.{no-rows-data, good-first, good-rest}}
 pub use Rattle.mpslp_mps.proofs.WorkedFiles.{small, ranges, semi_columns, maximized, integer_bounds, text, Passes, binary_bound}

@@ -38,8 +38,9 @@ pub record IsOfOneWord (section : Section) (test : List ℕ → Bool) : Type 0 w
   pub takes : takes_word section ≡ true
   pub on_header : (context : Context) (earlier : Draft) (keyword : List ℕ) (more : Fields)
       → those_of (header_tests context earlier keyword more (Some section)) ≡ [] → fits_word test more ≡ true
-  pub on_line : (context : Context) (earlier : Draft) (fields : Fields) → those_of (data_tests context earlier fields (Some section)) ≡ []
-      → (is_some context.word_due ≡ true) × (is_single test fields ≡ true)
+  pub on_line : (context : Context) (earlier : Draft) (fields : Fields) →
+      those_of (data_tests context earlier fields (Some section)) ≡ [] →
+      (is_some context.word_due ≡ true) × (is_single test fields ≡ true)
   pub itself : is_section section (Some section) ≡ true
 
 something : {X : Type 0} (o : Option X) → is_none o ≡ false → is_some o ≡ true
@@ -71,7 +72,8 @@ abbrev pub IsSome : Section → (List ℕ → Bool) → List Fields → Bool →
 IsSome section test words begun current due = (stage : Stage) × IsAt section test stage words begun current due
 
 abbrev pub IsUnderway : Section → (List ℕ → Bool) → List LineContent → Type 0
-IsUnderway section test before = IsSome section test (words_in section before) (has_section before section) (current_section before) (word_due before)
+IsUnderway section test before =
+    IsSome section test (words_in section before) (has_section before section) (current_section before) (word_due before)
 
 -- replaces parts by equal ones
 carried : (section : Section) (test : List ℕ → Bool) (words words2 : List Fields) (begun begun2 : Bool)
@@ -108,13 +110,16 @@ elsewhere : (section : Section) (test : List ℕ → Bool) (words : List Fields)
     → IsSome section test (words ++ []) (begun || false) current None
 elsewhere = grind arith
 
-pub word-kept : (section : Section) (test : List ℕ → Bool) → IsOfOneWord section test → (before : List LineContent) (earlier : Draft)
-    (item : LineContent) → IsGood before earlier item → IsUnderway section test before → IsUnderway section test (before ++ item ∷ [])
+pub word-kept : (section : Section) (test : List ℕ → Bool) → IsOfOneWord section test →
+    (before : List LineContent) (earlier : Draft) (item : LineContent) → IsGood before earlier item →
+    IsUnderway section test before → IsUnderway section test (before ++ item ∷ [])
 word-kept section test one before earlier item good h =
-    carried section test (words ++ word_fields section current item) (words_in section (before ++ item ∷ [])) (begun || begins section item)
-    (has_section (before ++ item ∷ []) section) (option_or (section_of_header item) current) (current_section (before ++ item ∷ []))
-    (cond (is_read item) (word_due_after item) (word_due before)) (word_due (before ++ item ∷ [])) (said_after-push (word_fields section)
-    None before item) (has_section-push section before item) (current_section-push before item) (word_due-push before item) (by item good)
+    carried section test (words ++ word_fields section current item) (words_in section (before ++ item ∷ []))
+    (begun || begins section item) (has_section (before ++ item ∷ []) section)
+    (option_or (section_of_header item) current) (current_section (before ++ item ∷ []))
+    (cond (is_read item) (word_due_after item) (word_due before)) (word_due (before ++ item ∷ []))
+    (said_after-push (word_fields section) None before item) (has_section-push section before item)
+    (current_section-push before item) (word_due-push before item) (by item good)
   where
     words : List Fields
     words = words_in section before
@@ -127,16 +132,21 @@ word-kept section test one before earlier item good h =
 
     -- a header of this section, or of another
     of_header : (keyword : List ℕ) (more : Fields) (s : Option Section)
-        → those_of (header_tests (context_of before) earlier keyword more s) ≡ [] → (b : Bool) → is_section section s ≡ b → IsSome section
-        test (words ++ when b more) (begun || b) (option_or s current) (option_map_or (λ (t : Section). section_of_word_due t more) s None)
+        → those_of (header_tests (context_of before) earlier keyword more s) ≡ [] → (b : Bool) →
+        is_section section s ≡ b → IsSome section test (words ++ when b more) (begun || b) (option_or s current)
+        (option_map_or (λ (t : Section). section_of_word_due t more) s None)
     of_header keyword more None g b e = cc
     of_header keyword more (Some t) g true e =
-        let g2 = subst (λ o. those_of (header_tests (context_of before) earlier keyword more o) ≡ []) (section-is section (Some t) e) g in
-        subst (λ o. IsSome section test (words ++ more ∷ []) (begun || true) (option_or o current) (option_map_or (λ (u : Section). section_of_word_due u more) o None))
-        (sym (section-is section (Some t) e)) (begun-now section test one words begun current (word_due before) more h
-        (header-fresh (context_of before) earlier keyword more section g2) (one.on_header (context_of before) earlier keyword more g2))
-    of_header keyword more (Some t) g false e = passed section test words begun current (word_due before) (Some t) (section_of_word_due t
-        more) h (nor (is_some (word_due before)) (not (has (seen_sections before) t || may_begin (context_of before) t))
+        let g2 = subst (λ o. those_of (header_tests (context_of before) earlier keyword more o) ≡ [])
+        (section-is section (Some t) e) g in
+        subst (λ o. IsSome section test (words ++ more ∷ []) (begun || true) (option_or o current)
+        (option_map_or (λ (u : Section). section_of_word_due u more) o None)) (sym (section-is section (Some t) e))
+        (begun-now section test one words begun current (word_due before) more h
+        (header-fresh (context_of before) earlier keyword more section g2)
+        (one.on_header (context_of before) earlier keyword more g2))
+    of_header keyword more (Some t) g false e =
+        passed section test words begun current (word_due before) (Some t) (section_of_word_due t more) h
+        (nor (is_some (word_due before)) (not (has (seen_sections before) t || may_begin (context_of before) t))
         (header-ordered (context_of before) earlier keyword more t g)).0 e
 
     of_data : (fields : Fields) → those_of (data_tests (context_of before) earlier fields current) ≡ [] → (b : Bool)
@@ -145,9 +155,11 @@ word-kept section test one before earlier item good h =
     of_data fields g false e = grind (arith, elsewhere, word_due)
 
     by : (x : LineContent) → IsGood before earlier x → IsSome section test (words ++ word_fields section current x)
-        (begun || begins section x) (option_or (section_of_header x) current) (cond (is_read x) (word_due_after x) (word_due before))
+        (begun || begins section x) (option_or (section_of_header x) current)
+        (cond (is_read x) (word_due_after x) (word_due before))
     by skipped g = grind (arith, skipped, word_due, append-nil, or_false)
-    by (header keyword more) g = of_header keyword more (section_named keyword) g (is_section section (section_named keyword)) refl
+    by (header keyword more) g = of_header keyword more (section_named keyword) g
+        (is_section section (section_named keyword)) refl
     by (data_line fields) g = grind (arith, data_line, of_data, is_section)
 
 -- ---- at the end
@@ -162,15 +174,23 @@ word-at_end = grind arith
 abbrev pub are_unnamed : Declarations → Bool
 are_unnamed ds = list_all (λ d. not (declares_objective d)) ds
 
-objective-same : (all : Draft) (d : Declaration) → not (declares_objective d) ≡ true → (with_declaration all d).objective ≡ all.objective
+objective-same : (all : Draft) (d : Declaration) → not (declares_objective d) ≡ true →
+    (with_declaration all d).objective ≡ all.objective
 objective-same = grind arith
 
-pub objective-kept : (ds : Declarations) (all : Draft) → are_unnamed ds ≡ true → (with_declarations all ds).objective ≡ all.objective
+pub objective-kept : (ds : Declarations) (all : Draft) → are_unnamed ds ≡ true →
+    (with_declarations all ds).objective ≡ all.objective
 objective-kept [] all h = refl
 objective-kept (d ∷ ds) all h =
-    grind (arith, objective-same, objective-kept ds (with_declaration all d) (second_so (not (declares_objective d)) (are_unnamed ds) h))
+    grind (
+      arith,
+      objective-same,
+      objective-kept ds (with_declaration all d)
+          (second_so (not (declares_objective d)) (are_unnamed ds) h),
+    )
 
-pub data-unnamed : (context : Context) (earlier : Draft) (fields : Fields) (o : Option Section) → is_section Rows o ≡ false → are_unnamed (data_declared context earlier fields o) ≡ true
+pub data-unnamed : (context : Context) (earlier : Draft) (fields : Fields) (o : Option Section) →
+    is_section Rows o ≡ false → are_unnamed (data_declared context earlier fields o) ≡ true
 data-unnamed context earlier fields o h = grind arith
 
 pub header-unnamed : (context : Context) (earlier : Draft) (more : Fields) (o : Option Section) → is_section Columns o ≡ false
@@ -183,15 +203,16 @@ header-unnamed = grind arith
 abbrev pub IsWantedEarly : List LineContent → Type 0
 IsWantedEarly before = is_some (word_due before) ≡ true → has_section before Rows ≡ false
 
-pub none-word_due : (section : Section) (more : Fields) → takes_word section ≡ false → is_some (section_of_word_due section more) ≡ true → ⊥
+pub none-word_due : (section : Section) (more : Fields) → takes_word section ≡ false →
+    is_some (section_of_word_due section more) ≡ true → ⊥
 none-word_due = grind arith
 
 pub wanted_early-kept : (before : List LineContent) (earlier : Draft) (item : LineContent) → IsGood before earlier item
     → IsWantedEarly before → IsWantedEarly (before ++ item ∷ [])
 wanted_early-kept = grind (arith, has_section-push, word_due-push, none-word_due, not_so, header-begins)
 
-no-later-name : (before : List LineContent) (earlier : Draft) (item : LineContent) → IsGood before earlier item → IsWantedEarly before
-    → has_section before Rows ≡ true → objname_word (current_section before) item ≡ None
+no-later-name : (before : List LineContent) (earlier : Draft) (item : LineContent) → IsGood before earlier item →
+    IsWantedEarly before → has_section before Rows ≡ true → objname_word (current_section before) item ≡ None
 no-later-name before earlier item good early begun = grind arith
 
 -- ---- the name that OBJNAME gives is that of an N row
@@ -203,8 +224,8 @@ free_row-kept : (before : List LineContent) (item : LineContent) (name : List �
     → has_free_row (before ++ item ∷ []) name ≡ true
 free_row-kept = grind (arith, data_lines-push, list_any-append, or_left)
 
-pub same-name : (before : List LineContent) (earlier : Draft) (item : LineContent) → IsGood before earlier item → IsWantedEarly before
-    → has_section before Rows ≡ true → objname (before ++ item ∷ []) ≡ objname before
+pub same-name : (before : List LineContent) (earlier : Draft) (item : LineContent) → IsGood before earlier item →
+    IsWantedEarly before → has_section before Rows ≡ true → objname (before ++ item ∷ []) ≡ objname before
 same-name = grind (arith, objname-push, no-later-name)
 
 row-kept : (before : List LineContent) (earlier : Draft) (item : LineContent) → IsGood before earlier item → IsWantedEarly before
@@ -222,12 +243,14 @@ pub section-begun : (section : Section) (sections_seen : List Section) → is_se
 section-begun section [] h = cc
 section-begun section (x ∷ sections_seen) h = by x sections_seen h
   where
-    by : (y : Section) (ys : List Section) → is_section section (last_or (Some y) ys) ≡ true → (is_section section (Some y) || has ys section) ≡ true
+    by : (y : Section) (ys : List Section) → is_section section (last_or (Some y) ys) ≡ true →
+        (is_section section (Some y) || has ys section) ≡ true
     by y [] k = or_left _ _ k
     by y (z ∷ ys) k = or_right _ _ (by z ys k)
 
-pub named-kept : (before : List LineContent) (earlier : Draft) (item : LineContent) → IsGood before earlier item → AreOrdered (seen_sections before)
-    → IsWantedEarly before → IsNamedSo before earlier → IsNamedSo (before ++ item ∷ []) (next_draft before earlier item)
+pub named-kept : (before : List LineContent) (earlier : Draft) (item : LineContent) → IsGood before earlier item →
+    AreOrdered (seen_sections before) → IsWantedEarly before → IsNamedSo before earlier →
+    IsNamedSo (before ++ item ∷ []) (next_draft before earlier item)
 named-kept before earlier item good ordered early n = record {
   none = λ h.
       let parts = nor (has_section before Rows) (begins Rows item) (sym (has_section-push Rows before item) ∙ h) in
@@ -257,25 +280,41 @@ named-kept before earlier item good ordered early n = record {
     begun : is_some earlier.objective ≡ true → has_section before Rows ≡ true
     begun h = grind (arith, never)
 
-    kept : (x : LineContent) → IsGood before earlier x → is_some earlier.objective ≡ true → has_named_row (before ++ x ∷ []) ≡ true
+    kept : (x : LineContent) → IsGood before earlier x → is_some earlier.objective ≡ true →
+        has_named_row (before ++ x ∷ []) ≡ true
     kept = grind (arith, row-kept, begun)
 
     -- the row is a new objective
     new_row : (fields : Fields) → IsGood before earlier (data_line fields) → is_section Rows (current_section before) ≡ true
         → (name : List ℕ) → ((stated : List ℕ) → same_bytes name stated ≡ true → is_free_row_named stated fields ≡ true)
         → option_map_or (same_bytes name) (objname before) true ≡ true → has_named_row (before ++ data_line fields ∷ []) ≡ true
-    new_row fields g here name is_it h = ap (λ (o : Option (List ℕ)). option_map_or (has_free_row (before ++ data_line fields ∷ [])) o true)
+    new_row fields g here name is_it h =
+        ap (λ (o : Option (List ℕ)). option_map_or (has_free_row (before ++ data_line fields ∷ [])) o true)
         (same-name before earlier (data_line fields) g early (rows_begun here)) ∙ by (objname before) h
       where
         by : (o : Option (List ℕ)) → option_map_or (same_bytes name) o true ≡ true
             → option_map_or (has_free_row (before ++ data_line fields ∷ [])) o true ≡ true
-        by = grind (arith, list_any, is_free_row_named, data_lines-push, data_line, data_lines, when, list_any-append, or_right, has_free_row, or_left)
+        by = grind (
+          arith,
+          list_any,
+          is_free_row_named,
+          data_lines-push,
+          data_line,
+          data_lines,
+          when,
+          list_any-append,
+          or_right,
+          has_free_row,
+          or_left,
+        )
 
     at_columns : (keyword : List ℕ) (more : Fields) → IsGood before earlier (header keyword more)
         → is_section Columns (section_named keyword) ≡ true → has_named_row (before ++ header keyword more ∷ []) ≡ true
     at_columns keyword more g e = row-kept before earlier (header keyword more) g early (columns_after_rows keyword more g e)
-        (by (objname before) refl (is_some earlier.objective) refl (header-complete (context_of before) earlier keyword more (subst
-        (λ o. those_of (header_tests (context_of before) earlier keyword more o) ≡ []) (section-is Columns (section_named keyword) e) g)))
+        (by (objname before) refl (is_some earlier.objective) refl
+        (header-complete (context_of before) earlier keyword more
+        (subst (λ o. those_of (header_tests (context_of before) earlier keyword more o) ≡ [])
+        (section-is Columns (section_named keyword) e) g)))
       where
         some : (o : Option (List ℕ)) → is_some o ≡ false → is_none o ≡ true
         some = grind arith
@@ -288,26 +327,47 @@ named-kept before earlier item good ordered early n = record {
         → is_some (next (data_line fields)).objective ≡ true → has_named_row (before ++ data_line fields ∷ []) ≡ true
     in_rows fields g here h = grind (arith, section-is, both_so, new_row, kept)
 
-    later : (x : LineContent) → IsGood before earlier x → is_some (next x).objective ≡ true → has_named_row (before ++ x ∷ []) ≡ true
-    later = grind (arith, skipped, kept, header, is_section, section_named, at_columns, unnamed, header-unnamed, context_of, data_line, current_section, in_rows, data-unnamed)
+    later : (x : LineContent) → IsGood before earlier x → is_some (next x).objective ≡ true →
+        has_named_row (before ++ x ∷ []) ≡ true
+    later = grind (
+      arith,
+      skipped,
+      kept,
+      header,
+      is_section,
+      section_named,
+      at_columns,
+      unnamed,
+      header-unnamed,
+      context_of,
+      data_line,
+      current_section,
+      in_rows,
+      data-unnamed,
+    )
 
-    begins_columns : (x : LineContent) → IsGood before earlier x → begins Columns x ≡ true → has_named_row (before ++ x ∷ []) ≡ true
+    begins_columns : (x : LineContent) → IsGood before earlier x → begins Columns x ≡ true →
+        has_named_row (before ++ x ∷ []) ≡ true
     begins_columns x g e = grind (arith, at_columns)
 
-    whole : (b : Bool) → has_section before Columns ≡ b → (b || begins Columns item) ≡ true → has_named_row (before ++ item ∷ []) ≡ true
+    whole : (b : Bool) → has_section before Columns ≡ b → (b || begins Columns item) ≡ true →
+        has_named_row (before ++ item ∷ []) ≡ true
     whole = grind (arith, row-kept, rows-there, seen_sections, begins_columns)
 
 -- ---- the name, in terms of the section
 
-pub stated-words : (current : Option Section) (items : List LineContent) → filter_map word_shape (said_after (word_fields ObjName) current
-    items) ≡ said_after (λ (c : Option Section) (item : LineContent). cons_option (objname_word c item) []) current items
+pub stated-words : (current : Option Section) (items : List LineContent) →
+    filter_map word_shape (said_after (word_fields ObjName) current items) ≡ said_after
+    (λ (c : Option Section) (item : LineContent). cons_option (objname_word c item) []) current items
 stated-words current [] = refl
 stated-words current (item ∷ items) = let next = option_or (section_of_header item) current in
     filter_map-append word_shape (word_fields ObjName current item) (said_after (word_fields ObjName) next items)
     ∙ ap (λ (more : List _). filter_map word_shape (word_fields ObjName current item) ++ more) (stated-words next items)
-    ∙ ap (λ (here : List _). here ++ said_after (λ (c : Option Section) (x : LineContent). cons_option (objname_word c x) []) next items) (by item)
+    ∙ ap (λ (here : List _). here ++ said_after
+    (λ (c : Option Section) (x : LineContent). cons_option (objname_word c x) []) next items) (by item)
   where
-    when_so : (fields : Fields) (b : Bool) → filter_map word_shape (when b fields) ≡ cons_option (cond b (word_shape fields) None) []
+    when_so : (fields : Fields) (b : Bool) →
+        filter_map word_shape (when b fields) ≡ cons_option (cond b (word_shape fields) None) []
     when_so = grind arith
 
     by : (x : LineContent) → filter_map word_shape (word_fields ObjName current x) ≡ cons_option (objname_word current x) []
@@ -327,7 +387,8 @@ abbrev pub IsWantedThere : List LineContent → Type 0
 IsWantedThere before = is_some (word_due before) ≡ true
     → (is_section ObjSense (current_section before) || is_section ObjName (current_section before)) ≡ true
 
-pub wanted_there-kept : (before : List LineContent) (item : LineContent) → IsWantedThere before → IsWantedThere (before ++ item ∷ [])
+pub wanted_there-kept : (before : List LineContent) (item : LineContent) → IsWantedThere before →
+    IsWantedThere (before ++ item ∷ [])
 wanted_there-kept = grind (arith, current_section-push, word_due-push, none-word_due)
 
 -- ---- what the whole text implies for one line
@@ -361,8 +422,9 @@ no-more-words section current (item ∷ items) h k = by item k (λ c e f. no-mor
     by = grind (arith, of)
 
 -- no header comes before the missing word of a section
-pub not-left : (section : Section) (test : List ℕ → Bool) (before : List LineContent) → IsUnderway section test before → is_section section
-    (current_section before) ≡ true → is_some (word_due before) ≡ true → has_word_at_most test (words_in section before) ≡ true → ⊥
+pub not-left : (section : Section) (test : List ℕ → Bool) (before : List LineContent) → IsUnderway section test before →
+    is_section section (current_section before) ≡ true → is_some (word_due before) ≡ true →
+    has_word_at_most test (words_in section before) ≡ true → ⊥
 not-left = grind arith
 
 -- a section that has not begun, or is complete, has no more lines
@@ -372,33 +434,36 @@ no-more-lines section current [] h k = refl
 no-more-lines section current (item ∷ items) h k = by item k (λ c e f. no-more-lines section c items e f)
   where
     of : (o : Option Section) → has (cons_option o (seen_sections items)) section ≡ false
-        → ((c : Option Section) → is_section section c ≡ false → has_section items section ≡ false → data_lines_after section c items ≡ [])
-        → data_lines_after section (option_or o current) items ≡ []
+        → ((c : Option Section) → is_section section c ≡ false → has_section items section ≡ false →
+        data_lines_after section c items ≡ []) → data_lines_after section (option_or o current) items ≡ []
     of = grind (arith, nor)
 
     by : (x : LineContent) → has_section (x ∷ items) section ≡ false
-        → ((c : Option Section) → is_section section c ≡ false → has_section items section ≡ false → data_lines_after section c items ≡ [])
-        → fields_under section current x ++ data_lines_after section (option_or (section_of_header x) current) items ≡ []
+        → ((c : Option Section) → is_section section c ≡ false → has_section items section ≡ false →
+        data_lines_after section c items ≡ []) →
+        fields_under section current x ++ data_lines_after section (option_or (section_of_header x) current) items ≡ []
     by = grind (arith, of)
 
 -- an N row with the name of OBJNAME is the objective
 abbrev pub IsDeclared : List LineContent → Draft → Type 0
-IsDeclared before earlier = (stated : List ℕ) → objname before ≡ Some stated → has_free_row before stated ≡ true → is_some earlier.objective ≡ true
+IsDeclared before earlier = (stated : List ℕ) → objname before ≡ Some stated → has_free_row before stated ≡ true →
+    is_some earlier.objective ≡ true
 
 rows_begun : (before : List LineContent) (stated : List ℕ) → has_free_row before stated ≡ true → has_section before Rows ≡ true
 rows_begun = grind (arith, no-more-lines)
 
-pub declared-kept : (before : List LineContent) (earlier : Draft) (item : LineContent) → IsGood before earlier item → IsWantedEarly before
-    → IsDeclared before earlier → IsDeclared (before ++ item ∷ []) (next_draft before earlier item)
+pub declared-kept : (before : List LineContent) (earlier : Draft) (item : LineContent) → IsGood before earlier item →
+    IsWantedEarly before → IsDeclared before earlier → IsDeclared (before ++ item ∷ []) (next_draft before earlier item)
 declared-kept before earlier item good early there stated name row =
     by item good name (sym (ap (list_any (is_free_row_named stated)) (data_lines-push Rows before item)
-    ∙ list_any-append (is_free_row_named stated) (data_lines Rows before) (fields_under Rows (current_section before) item)) ∙ row)
+    ∙ list_any-append (is_free_row_named stated) (data_lines Rows before)
+    (fields_under Rows (current_section before) item)) ∙ row)
   where
     next : LineContent → Draft
     next x = with_declarations earlier (line_declares (context_of before) earlier x)
 
-    old : (x : LineContent) → IsGood before earlier x → objname (before ++ x ∷ []) ≡ Some stated → has_free_row before stated ≡ true
-        → is_some (next x).objective ≡ true
+    old : (x : LineContent) → IsGood before earlier x → objname (before ++ x ∷ []) ≡ Some stated →
+        has_free_row before stated ≡ true → is_some (next x).objective ≡ true
     old = grind (arith, named-after, same-name, rows_begun)
 
     only : (b : Bool) → (b || false) ≡ true → b ≡ true
@@ -410,8 +475,9 @@ declared-kept before earlier item good early there stated name row =
         → is_some (with_declarations earlier (row_declared (context_of before) earlier line)).objective ≡ true
     new_row = grind (arith, named-after)
 
-    of_type : (line : RowLine) → objname before ≡ Some stated → (o : Option RowType) → row_type line.letter ≡ o → (is_free o && same_bytes
-        line.name stated) ≡ true → is_some (with_declarations earlier (row_declared (context_of before) earlier line)).objective ≡ true
+    of_type : (line : RowLine) → objname before ≡ Some stated → (o : Option RowType) → row_type line.letter ≡ o →
+        (is_free o && same_bytes line.name stated) ≡ true →
+        is_some (with_declarations earlier (row_declared (context_of before) earlier line)).objective ≡ true
     of_type = grind (arith, new_row)
 
     of_row : (o : Option RowLine) → objname before ≡ Some stated
@@ -419,9 +485,10 @@ declared-kept before earlier item good early there stated name row =
         → is_some (with_declarations earlier (declared_if_some (row_declared (context_of before) earlier) o)).objective ≡ true
     of_row = grind arith
 
-    in_rows : (fields : Fields) → IsGood before earlier (data_line fields) → objname (before ++ data_line fields ∷ []) ≡ Some stated
-        → is_section Rows (current_section before) ≡ true → (b : Bool) → has_free_row before stated ≡ b
-        → (b || (is_free_row_named stated fields || false)) ≡ true → is_some (next (data_line fields)).objective ≡ true
+    in_rows : (fields : Fields) → IsGood before earlier (data_line fields) →
+        objname (before ++ data_line fields ∷ []) ≡ Some stated → is_section Rows (current_section before) ≡ true →
+        (b : Bool) → has_free_row before stated ≡ b → (b || (is_free_row_named stated fields || false)) ≡ true →
+        is_some (next (data_line fields)).objective ≡ true
     in_rows = grind (arith, section-is, same-name, section-begun, old, of_row, only)
 
     none_new : (x : LineContent) → IsGood before earlier x → objname (before ++ x ∷ []) ≡ Some stated
@@ -434,7 +501,8 @@ declared-kept before earlier item good early there stated name row =
     under = grind (arith, in_rows, has_free_row, none_new, data_line)
 
     by : (x : LineContent) → IsGood before earlier x → objname (before ++ x ∷ []) ≡ Some stated → (has_free_row before stated
-        || list_any (is_free_row_named stated) (fields_under Rows (current_section before) x)) ≡ true → is_some (next x).objective ≡ true
+        || list_any (is_free_row_named stated) (fields_under Rows (current_section before) x)) ≡ true →
+        is_some (next x).objective ≡ true
     by = grind (arith, none_new, under)
 
 -- ---- what the data lines of a section are together, if each of them is well-formed: their fields, their sets, their
@@ -446,9 +514,11 @@ abbrev pub IsGoodUnder : Section → List LineContent → Draft → Fields → T
 IsGoodUnder section before earlier fields = those_of (data_tests (context_of before) earlier fields (Some section)) ≡ []
 
 -- a test of the data lines of a section still holds after one more line, if each well-formed data line keeps it
-pub section-kept : (section : Section) (test : List Fields → Bool) (before : List LineContent) (earlier : Draft) (item : LineContent)
-    → ((fields : Fields) → IsGoodUnder section before earlier fields → test (data_lines section before ++ fields ∷ []) ≡ true)
-    → IsGood before earlier item → test (data_lines section before) ≡ true → test (data_lines section (before ++ item ∷ [])) ≡ true
+pub section-kept : (section : Section) (test : List Fields →
+    Bool) (before : List LineContent) (earlier : Draft) (item : LineContent) →
+    ((fields : Fields) → IsGoodUnder section before earlier fields → test (data_lines section before ++ fields ∷ []) ≡ true)
+    → IsGood before earlier item → test (data_lines section before) ≡ true →
+    test (data_lines section (before ++ item ∷ [])) ≡ true
 section-kept = grind (arith, data_lines-push, append-nil, section-is)
 
 -- each line passes a test
@@ -464,12 +534,14 @@ set-more : (sets : List (List ℕ)) (set : List ℕ) → is_other_set (head_of s
     → is_one_set (sets ++ set ∷ []) ≡ true
 set-more = grind (arith, list_all-append, both_so)
 
-pub set-kept : (section : Section) (set_of : Fields → Option (List ℕ)) (before : List LineContent) (earlier : Draft) (item : LineContent)
-    → ((fields : Fields) → IsGoodUnder section before earlier fields → (set : List ℕ) → set_of fields ≡ Some set → is_other_set
-    (head_of (filter_map set_of (data_lines section before))) set ≡ false) → IsGood before earlier item → is_one_set (filter_map set_of
-    (data_lines section before)) ≡ true → is_one_set (filter_map set_of (data_lines section (before ++ item ∷ []))) ≡ true
-set-kept section set_of before earlier item fits good h = section-kept section (λ lines. is_one_set (filter_map set_of lines)) before
-    earlier item (λ fields g. ap is_one_set (filter_map-append set_of _ (fields ∷ [])) ∙ by (set_of fields) (fits fields g)) good h
+pub set-kept : (section : Section) (set_of : Fields → Option (List ℕ)) (before : List LineContent) (earlier : Draft)
+    (item : LineContent) → ((fields : Fields) → IsGoodUnder section before earlier fields → (set : List ℕ) →
+    set_of fields ≡ Some set → is_other_set (head_of (filter_map set_of (data_lines section before))) set ≡ false) →
+    IsGood before earlier item → is_one_set (filter_map set_of (data_lines section before)) ≡ true →
+    is_one_set (filter_map set_of (data_lines section (before ++ item ∷ []))) ≡ true
+set-kept section set_of before earlier item fits good h =
+    section-kept section (λ lines. is_one_set (filter_map set_of lines)) before earlier item
+    (λ fields g. ap is_one_set (filter_map-append set_of _ (fields ∷ [])) ∙ by (set_of fields) (fits fields g)) good h
   where
     sets : List (List ℕ)
     sets = filter_map set_of (data_lines section before)
@@ -501,8 +573,9 @@ alternate-more (first ∷ words) last word false e h k = let here = first_so _ _
 
 pub markers-kept : (section : Section) (before : List LineContent) (earlier : Draft) (item : LineContent)
     → ((fields : Fields) → IsGoodUnder section before earlier fields → (word : List ℕ) → marker_word fields ≡ Some word
-    → same_bytes word (cond (opens (last_or None (filter_map marker_word (data_lines section before)))) closing_word opening_word) ≡ true)
-    → IsGood before earlier item → alternate opening_word closing_word (filter_map marker_word (data_lines section before)) ≡ true
+    → same_bytes word (cond (opens (last_or None (filter_map marker_word (data_lines section before)))) closing_word
+    opening_word) ≡ true) → IsGood before earlier item →
+    alternate opening_word closing_word (filter_map marker_word (data_lines section before)) ≡ true
     → alternate opening_word closing_word (filter_map marker_word (data_lines section (before ++ item ∷ []))) ≡ true
 markers-kept section before earlier item fits good h = section-kept section (λ lines. alternate opening_word closing_word
     (filter_map marker_word lines)) before earlier item (λ fields g. ap (alternate opening_word closing_word)
@@ -546,7 +619,8 @@ none-last : (c d : Column) (columns : List Column) → list_any (same_column c) 
 none-last c d [] h k = grind (arith, or_left)
 none-last c d (next ∷ columns) h k = none-last c next columns (more (same_column c d) h) k
   where
-    more : (b : Bool) → (b || list_any (same_column c) (next ∷ columns)) ≡ false → list_any (same_column c) (next ∷ columns) ≡ false
+    more : (b : Bool) → (b || list_any (same_column c) (next ∷ columns)) ≡ false →
+        list_any (same_column c) (next ∷ columns) ≡ false
     more = grind arith
 
 -- if no line of a column comes after its first lines, and the last line is one of them, all lines are
@@ -570,7 +644,8 @@ fewer = grind arith
 pub together-more : (x : Column) (columns : List Column) → are_together columns ≡ true → comes_again x columns ≡ false
     → are_together (columns ++ x ∷ []) ≡ true
 together-more x [] h k = refl
-together-more x (c ∷ columns) h k = both_so _ _ (so_not _ (after-more c x columns ∙ ap (λ b. b || (is_nonempty (entries_after c columns)
+together-more x (c ∷ columns) h k =
+    both_so _ _ (so_not _ (after-more c x columns ∙ ap (λ b. b || (is_nonempty (entries_after c columns)
     && same_column c x)) none ∙ last (same_column c x) refl)) (together-more x columns (second_so _ _ h) (later columns k))
   where
     none : list_any (same_column c) (entries_after c columns) ≡ false
@@ -597,10 +672,22 @@ columns_of before = map line_column (data_lines Columns before)
 
 -- each of them exists
 abbrev pub AreThere : List LineContent → Draft → Type 0
-AreThere before earlier = (name : List ℕ) → list_any (same_column (Some name)) (columns_of before) ≡ true → has_column earlier name ≡ true
+AreThere before earlier = (name : List ℕ) → list_any (same_column (Some name)) (columns_of before) ≡ true →
+    has_column earlier name ≡ true
 
 pub there-push : Keeps AreThere
-there-push before earlier item there name h = search (rules, data_lines-push, column-after, append-nil, map-append, list_any-append, declares-itself, one_column, section-is)
+there-push before earlier item there name h =
+    search (
+      rules,
+      data_lines-push,
+      column-after,
+      append-nil,
+      map-append,
+      list_any-append,
+      declares-itself,
+      one_column,
+      section-is,
+    )
 
 -- ---- all together
 
@@ -611,9 +698,11 @@ last-line (fields ∷ lines) o = last-line lines (Some fields)
 
 pub together-kept : (before : List LineContent) (earlier : Draft) (item : LineContent) → IsGood before earlier item
     → AreThere before earlier → are_together (columns_of before) ≡ true → are_together (columns_of (before ++ item ∷ [])) ≡ true
-together-kept before earlier item good there h = section-kept Columns (λ lines. are_together (map line_column lines)) before earlier item
-    (λ fields g. ap are_together (map-append line_column (data_lines Columns before) (fields ∷ [])) ∙ together-more (line_column fields)
-    (columns_of before) h (by (line_column fields) (λ name e. column-continues_column (context_of before) earlier fields g name e))) good h
+together-kept before earlier item good there h =
+    section-kept Columns (λ lines. are_together (map line_column lines)) before earlier item
+    (λ fields g. ap are_together (map-append line_column (data_lines Columns before) (fields ∷ []))
+    ∙ together-more (line_column fields) (columns_of before) h
+    (by (line_column fields) (λ name e. column-continues_column (context_of before) earlier fields g name e))) good h
   where
     last : last_column before ≡ last_of None (columns_of before)
     last = grind (arith, last-line, data_lines)
@@ -625,8 +714,9 @@ together-kept before earlier item good there h = section-kept Columns (λ lines.
     same_test : (name : List ℕ) (o : Column) → option_map_or (same_bytes name) o false ≡ same_column (Some name) o
     same_test = grind arith
 
-    apart : (name : List ℕ) (b : Bool) → list_any (same_column (Some name)) (columns_of before) ≡ b → is_split (context_of before) earlier
-        name ≡ false → (b && not (same_column (Some name) (last_of None (columns_of before)))) ≡ false
+    apart : (name : List ℕ) (b : Bool) → list_any (same_column (Some name)) (columns_of before) ≡ b →
+        is_split (context_of before) earlier name ≡ false →
+        (b && not (same_column (Some name) (last_of None (columns_of before)))) ≡ false
     apart = grind (arith, last, same_test)
 
     by : (x : Column) → ((name : List ℕ) → x ≡ Some name → is_split (context_of before) earlier name ≡ false)
@@ -639,30 +729,37 @@ pub section_after-more : (current : Option Section) (item : LineContent) (items 
     → section_after current (item ∷ items) ≡ section_after (option_or (section_of_header item) current) items
 section_after-more = grind arith
 
-pub said_after-append : {X : Type 0} (says : Option Section → LineContent → List X) (current : Option Section) (before items : List LineContent)
-    → said_after says current (before ++ items) ≡ said_after says current before ++ said_after says (section_after current before) items
+pub said_after-append : {X : Type 0} (says : Option Section → LineContent →
+    List X) (current : Option Section) (before items : List LineContent) →
+    said_after says current (before ++ items) ≡ said_after says current before ++ said_after says
+    (section_after current before) items
 said_after-append says current [] items = refl
 said_after-append {X} says current (item ∷ before) items = let next = option_or (section_of_header item) current in
-    ap (λ more. says current item ++ more) (said_after-append says next before items ∙ ap (λ c. said_after says next before ++ said_after
-    says c items) (sym (section_after-more current item before))) ∙ sym (append_assoc (says current item) (said_after says next before) _)
+    ap (λ more. says current item ++ more) (said_after-append says next before items
+    ∙ ap (λ c. said_after says next before ++ said_after says c items)
+    (sym (section_after-more current item before)))
+    ∙ sym (append_assoc (says current item) (said_after says next before) _)
 
 -- a data line of the section is between those before it and those after it
-pub data-occurs : (section : Section) (before : List LineContent) (fields : Fields) (rest : List LineContent) → is_section section (current_section before) ≡ true
-    → data_lines section (before ++ data_line fields ∷ rest) ≡ data_lines section before ++ fields
+pub data-occurs : (section : Section) (before : List LineContent) (fields : Fields) (rest : List LineContent) →
+    is_section section (current_section before) ≡ true →
+    data_lines section (before ++ data_line fields ∷ rest) ≡ data_lines section before ++ fields
     ∷ said_after (fields_under section) (current_section before) rest
 data-occurs = grind (arith, said_after-append, fields_under, data_line, data_lines, when, said_after, current_section)
 
 -- ---- what the whole text implies for one line
 
-pub passes-all : {X : Type 0} (test : X → Bool) (xs : List X) (x : X) (more : List X) → list_all test (xs ++ x ∷ more) ≡ true → test x ≡ true
+pub passes-all : {X : Type 0} (test : X → Bool) (xs : List X) (x : X) (more : List X) →
+    list_all test (xs ++ x ∷ more) ≡ true → test x ≡ true
 passes-all = grind (arith, first_so, second_so, list_all-append)
 
 pub set-fits : (sets : List (List ℕ)) (set : List ℕ) (more : List (List ℕ)) → is_one_set (sets ++ set ∷ more) ≡ true
     → is_other_set (head_of sets) set ≡ false
 set-fits = grind (arith, passes-all)
 
-pub marker-follows : (words : List (List ℕ)) (last : Option (List ℕ)) (word : List ℕ) (more : List (List ℕ)) (b : Bool) → opens last ≡ b
-    → alternate (next_word b) (next_word (not b)) (words ++ word ∷ more) ≡ true → same_bytes word (next_word (opens (last_or last words))) ≡ true
+pub marker-follows : (words : List (List ℕ)) (last : Option (List ℕ)) (word : List ℕ) (more : List (List ℕ)) (b : Bool)
+    → opens last ≡ b → alternate (next_word b) (next_word (not b)) (words ++ word ∷ more) ≡ true →
+    same_bytes word (next_word (opens (last_or last words))) ≡ true
 marker-follows [] last word more b e h = grind (arith, same_bytes, first_so)
 marker-follows (first ∷ words) last word more true e h = let here = first_so _ _ h in
     marker-follows words _ word more false (opens-next true first here) (second_so _ _ h)
@@ -670,7 +767,8 @@ marker-follows (first ∷ words) last word more false e h = let here = first_so 
     marker-follows words _ word more true (opens-next false first here) (second_so _ _ h)
 
 -- a column that has ended and has a later line
-found-later : (c x d : Column) (columns more : List Column) → same_column c x ≡ true → list_any (same_column c) (d ∷ (columns ++ x ∷ more)) ≡ true
+found-later : (c x d : Column) (columns more : List Column) → same_column c x ≡ true →
+    list_any (same_column c) (d ∷ (columns ++ x ∷ more)) ≡ true
 found-later = grind (arith, list_any-append, or_right, or_left)
 
 comes-later : (c x d : Column) (columns more : List Column) → same_column c x ≡ true → same_column c (last_of d columns) ≡ false
@@ -678,11 +776,13 @@ comes-later : (c x d : Column) (columns more : List Column) → same_column c x 
 comes-later c x d [] more h k = grind (arith, found-later)
 comes-later c x d (e ∷ columns) more h k = grind (arith, found-later, comes-later c x e columns more h k)
 
-pub together-apart : (x : Column) (columns more : List Column) → are_together (columns ++ x ∷ more) ≡ true → comes_again x columns ≡ false
+pub together-apart : (x : Column) (columns more : List Column) → are_together (columns ++ x ∷ more) ≡ true →
+    comes_again x columns ≡ false
 together-apart x [] more h = refl
 together-apart x (c ∷ []) more h = grind (arith)
 together-apart x (c ∷ d ∷ columns) more h = by (same_column x c) refl (together-apart x (d ∷ columns) more
-    (second_so (not (list_any (same_column c) (entries_after c (d ∷ (columns ++ x ∷ more))))) (are_together (d ∷ (columns ++ x ∷ more))) h))
+    (second_so (not (list_any (same_column c) (entries_after c (d ∷ (columns ++ x ∷ more)))))
+    (are_together (d ∷ (columns ++ x ∷ more))) h))
   where
     none : list_any (same_column c) (entries_after c (d ∷ (columns ++ x ∷ more))) ≡ false
     none = grind arith

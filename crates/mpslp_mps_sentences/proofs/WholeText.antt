@@ -69,31 +69,36 @@ one-more before earlier item good h = record {
   early = wanted_early-kept before earlier item good h.early;
   named = named-kept before earlier item good h.ordered h.early h.named;
   rows = fields-kept Rows is_row_line before earlier item (λ fields g. row-fields fields g) good h.rows;
-  columns = fields-kept Columns is_columns_line before earlier item (λ fields g. columns-fields (context_of before) earlier fields g) good
-      h.columns;
-  right_sides = fields-kept Rhs is_vector_line before earlier item (λ fields g. vector-fields (context_of before).rhs_set fields g) good
-      h.right_sides;
-  ranges = fields-kept Ranges is_vector_line before earlier item (λ fields g. vector-fields (context_of before).ranges_set fields g) good
-      h.ranges;
-  bounds = fields-kept Bounds is_bound_line before earlier item (λ fields g. bound-fields (context_of before) fields g) good h.bounds;
+  columns = fields-kept Columns is_columns_line before earlier item
+      (λ fields g. columns-fields (context_of before) earlier fields g) good h.columns;
+  right_sides = fields-kept Rhs is_vector_line before earlier item
+      (λ fields g. vector-fields (context_of before).rhs_set fields g) good h.right_sides;
+  ranges = fields-kept Ranges is_vector_line before earlier item
+      (λ fields g. vector-fields (context_of before).ranges_set fields g) good h.ranges;
+  bounds = fields-kept Bounds is_bound_line before earlier item (λ fields g. bound-fields (context_of before) fields g)
+      good h.bounds;
   markers =
-      markers-kept Columns before earlier item (λ fields g word e. marker-fits (context_of before) earlier fields g word e) good h.markers;
+      markers-kept Columns before earlier item (λ fields g word e. marker-fits (context_of before) earlier fields g word
+      e) good h.markers;
   there = there-push before earlier item h.there;
   together = together-kept before earlier item good h.there h.together;
-  right_side_set = set-kept Rhs vector_set before earlier item (λ fields g set e. vector-set (context_of before).rhs_set fields g set e)
-      good h.right_side_set;
-  range_set = set-kept Ranges vector_set before earlier item (λ fields g set e. vector-set (context_of before).ranges_set fields g set e)
-      good h.range_set;
+  right_side_set = set-kept Rhs vector_set before earlier item
+      (λ fields g set e. vector-set (context_of before).rhs_set fields g set e) good h.right_side_set;
+  range_set = set-kept Ranges vector_set before earlier item
+      (λ fields g set e. vector-set (context_of before).ranges_set fields g set e) good h.range_set;
   bound_sets =
-      set-kept Bounds bound_set before earlier item (λ fields g set e. bound-set (context_of before) fields g set e) good h.bound_sets;
+      set-kept Bounds bound_set before earlier item (λ fields g set e. bound-set (context_of before) fields g set e)
+      good h.bound_sets;
 }
 
-more-lines : (items before : List LineContent) (earlier : Draft) → are_well_formed before earlier items ≡ true → AreInWords before earlier
-    → (all : Draft) × AreInWords (before ++ items) all
+more-lines : (items before : List LineContent) (earlier : Draft) → are_well_formed before earlier items ≡ true →
+    AreInWords before earlier → (all : Draft) × AreInWords (before ++ items) all
 more-lines [] before earlier good h = (earlier, subst (λ xs. AreInWords xs earlier) (sym (append-nil before)) h)
-more-lines (item ∷ items) before earlier good h = let next = with_declarations earlier (line_declares (context_of before) earlier item) in
-    let more = more-lines items (before ++ item ∷ []) next (good-rest before earlier item items good) (one-more before earlier item
-    (good-first before earlier item items good) h) in (more.0, subst (λ xs. AreInWords xs more.0) (append_assoc before _ items) more.1)
+more-lines (item ∷ items) before earlier good h = let next =
+    with_declarations earlier (line_declares (context_of before) earlier item) in
+    let more = more-lines items (before ++ item ∷ []) next (good-rest before earlier item items good)
+    (one-more before earlier item (good-first before earlier item items good) h) in
+    (more.0, subst (λ xs. AreInWords xs more.0) (append_assoc before _ items) more.1)
 
 -- ---- at the end
 
@@ -110,9 +115,10 @@ ends-last (line ∷ ls) current h = by (λ c k. ends-last ls c k) (is_end line) 
         → section_after (option_or o current) items ≡ last_or current (cons_option o (seen_sections items))
     passed = grind arith
 
-    by : ((c : Option Section) → list_any is_end ls ≡ true → is_section EndData (section_after c (map content_of (up_to_end ls))) ≡ true)
-        → (b : Bool) → is_end line ≡ b → (b || list_any is_end ls) ≡ true
-        → is_section EndData (section_after current (map content_of (up_to_end (line ∷ ls)))) ≡ true
+    by : ((c : Option Section) → list_any is_end ls ≡ true →
+        is_section EndData (section_after c (map content_of (up_to_end ls))) ≡ true) → (b : Bool) → is_end line ≡ b →
+        (b || list_any is_end ls) ≡ true →
+        is_section EndData (section_after current (map content_of (up_to_end (line ∷ ls)))) ≡ true
     by = grind (arith, up_to_end-last, up_to_end-more, up_to_end, last, passed)
 
 legal-lines : (ls : List (List ℕ)) (before : List LineContent) (earlier : Draft)
@@ -122,8 +128,10 @@ legal-lines (line ∷ ls) before earlier h = let item = content_of line in
     let next = with_declarations earlier (line_declares (context_of before) earlier item) in
     let forms = those_of (line_tests (context_of before) earlier line) in
     let more = list_all is_well_formed (lines_in_context_after (before ++ item ∷ []) next ls) in
-    let tests = item_tests (context_of before) earlier item in let bytes = not (list_all is_legal_byte (outside_comment line)) in
-    let rest : FaultTests = (bytes, BadByte) ∷ tests in let none = no_faults forms (first_so _ _ h) in
+    let tests = item_tests (context_of before) earlier item in
+    let bytes = not (list_all is_legal_byte (outside_comment line)) in
+    let rest : FaultTests = (bytes, BadByte) ∷ tests in
+    let none = no_faults forms (first_so _ _ h) in
     both_so _ _ (both_so _ _ (fine (has_legal_length line) (first_test _ LineTooLong rest none))
     (fine (list_all is_legal_byte (outside_comment line)) (first_test bytes BadByte tests (later_tests _ LineTooLong rest none))))
     (legal-lines ls (before ++ item ∷ []) next (second_so _ _ h))
@@ -132,28 +140,32 @@ legal-lines (line ∷ ls) before earlier h = let item = content_of line in
     fine = grind arith
 
 -- items that end at ENDATA
-together-at_end : (items : List LineContent) (all : Draft) → AreInWords items all → is_section EndData (current_section items) ≡ true
-    → are_good_together items ≡ true
+together-at_end : (items : List LineContent) (all : Draft) → AreInWords items all →
+    is_section EndData (current_section items) ≡ true → are_good_together items ≡ true
 together-at_end = grind (arith, both_so, named-in_words, section-is, columns-there, section-begun, word-at_end, rows-there)
 
 pub text-in_words : (bytes : List ℕ) → is_mps_text bytes ≡ true → is_text_in_words bytes ≡ true
 text-in_words bytes text = let ended = first_so _ (list_all is_well_formed (lines_in_context bytes)) text in
-    let good = second_so (has_end bytes) _ text in let items = map content_of (read_lines bytes) in
-    let all = more-lines items [] empty_draft (items-good [] empty_draft (read_lines bytes) good) none-yet in both_so _ _ ended (both_so
-    _ _ (legal-lines (read_lines bytes) [] empty_draft good) (together-at_end items all.0 all.1 (ends-last (lines bytes) None ended)))
+    let good = second_so (has_end bytes) _ text in
+    let items = map content_of (read_lines bytes) in
+    let all = more-lines items [] empty_draft (items-good [] empty_draft (read_lines bytes) good) none-yet in
+    both_so _ _ ended (both_so _ _ (legal-lines (read_lines bytes) [] empty_draft good)
+    (together-at_end items all.0 all.1 (ends-last (lines bytes) None ended)))
 
 -- ---- the columns of a draft
 
 -- each column that exists has a line
 abbrev pub HaveLines : List LineContent → Draft → Type 0
-HaveLines before earlier = (name : List ℕ) → has_column earlier name ≡ true → list_any (same_column (Some name)) (columns_of before) ≡ true
+HaveLines before earlier = (name : List ℕ) → has_column earlier name ≡ true →
+    list_any (same_column (Some name)) (columns_of before) ≡ true
 
 cells-none : (line : ValuesLine) (b : Bool)
     → no_columns (cond b (declare_marked line.name ∷ []) [] ++ flat_map (coefficient_declared line.name) line.pairs) ≡ true
 cells-none = grind (arith, each-flat, declares_column)
 
 own-or-old : (context : Context) (earlier : Draft) (fields : Fields) (name : List ℕ) → has_column (with_declarations earlier
-    (columns_line_declared context fields)) name ≡ true → (same_column (Some name) (line_column fields) || has_column earlier name) ≡ true
+    (columns_line_declared context fields)) name ≡ true →
+    (same_column (Some name) (line_column fields) || has_column earlier name) ≡ true
 own-or-old = grind (arith, columns-kept, cells-none, has-put)
 
 no-columns-header : (context : Context) (earlier : Draft) (more : Fields) (o : Option Section)
@@ -165,7 +177,22 @@ no-columns-data : (context : Context) (earlier : Draft) (fields : Fields) (o : O
 no-columns-data = grind arith
 
 pub lines-push : Keeps HaveLines
-lines-push before earlier item have name h = grind (arith, data_lines-push, map-append, list_any-append, columns_of, no_columns, columns-kept, or_right, or_left, own-or-old, section-is, no-columns-data, no-columns-header)
+lines-push before earlier item have name h =
+    grind (
+      arith,
+      data_lines-push,
+      map-append,
+      list_any-append,
+      columns_of,
+      no_columns,
+      columns-kept,
+      or_right,
+      or_left,
+      own-or-old,
+      section-is,
+      no-columns-data,
+      no-columns-header,
+    )
 
 pub not-split : (before : List LineContent) (earlier : Draft) (name : List ℕ) → HaveLines before earlier
     → comes_again (Some name) (columns_of before) ≡ false → is_split (context_of before) earlier name ≡ false
@@ -189,7 +216,8 @@ pub record AreGoodLines (items : List LineContent) : Type 0 where
   pub range_set : is_one_set (filter_map vector_set (data_lines Ranges items)) ≡ true
   pub bound_sets : is_one_set (filter_map bound_set (data_lines Bounds items)) ≡ true
 
-none-strays : (xs : List Fields) (b : Bool) (fields : Fields) (ys : List Fields) → not (is_nonempty (xs ++ (when b fields ++ ys))) ≡ true → b ≡ false
+none-strays : (xs : List Fields) (b : Bool) (fields : Fields) (ys : List Fields) →
+    not (is_nonempty (xs ++ (when b fields ++ ys))) ≡ true → b ≡ false
 none-strays (x ∷ xs) b fields ys h = cc
 none-strays [] true fields ys h = cc
 none-strays [] false fields ys h = refl
@@ -199,7 +227,8 @@ sets-fit : (set_of : Fields → Option (List ℕ)) (lines : List Fields) (fields
     → is_other_set (head_of (filter_map set_of lines)) set ≡ false
 sets-fit = grind (arith, set-fits, filter_map-append)
 
-pub data-good : (before : List LineContent) (earlier : Draft) (fields : Fields) (rest : List LineContent) → IsUnderway ObjSense is_sense before → IsUnderway ObjName (λ _. true) before → HaveLines before earlier
+pub data-good : (before : List LineContent) (earlier : Draft) (fields : Fields) (rest : List LineContent) →
+    IsUnderway ObjSense is_sense before → IsUnderway ObjName (λ _. true) before → HaveLines before earlier
     → AreGoodLines (before ++ data_line fields ∷ rest) → IsGood before earlier (data_line fields)
 data-good before earlier fields rest sense name have h = by (current_section before) refl
   where
@@ -227,15 +256,17 @@ data-good before earlier fields rest sense name have h = by (current_section bef
         → same_bytes word (cond (context_of before).in_integer_part closing_word opening_word) ≡ true
     marker_fits e word m = marker-follows (filter_map marker_word (data_lines Columns before)) None word (filter_map marker_word
         (later Columns)) false refl (sym (ap (alternate opening_word closing_word) (ap (filter_map marker_word) (occurs Columns e)
-        ∙ filter_map-append marker_word (data_lines Columns before) (fields ∷ later Columns) ∙ ap (λ (o : Option (List ℕ)). filter_map
-        marker_word (data_lines Columns before) ++ cons_option o (filter_map marker_word (later Columns))) m)) ∙ h.markers)
+        ∙ filter_map-append marker_word (data_lines Columns before) (fields ∷ later Columns)
+        ∙ ap (λ (o : Option (List ℕ)). filter_map marker_word (data_lines Columns before) ++ cons_option o
+        (filter_map marker_word (later Columns))) m)) ∙ h.markers)
 
     continues_column : is_section Columns (current_section before) ≡ true → (column : List ℕ) → line_column fields ≡ Some column
         → is_split (context_of before) earlier column ≡ false
     continues_column e column c = grind (arith, not-split, together-apart, columns_of, map-append, later, occurs)
 
-    single : (section : Section) (test : List ℕ → Bool) → IsUnderway section test before → is_section section (current_section before)
-        ≡ true → has_word_at_most test (words_in section full) ≡ true → (is_some (word_due before) ≡ true) × (is_single test fields ≡ true)
+    single : (section : Section) (test : List ℕ → Bool) → IsUnderway section test before →
+        is_section section (current_section before) ≡ true → has_word_at_most test (words_in section full) ≡ true →
+        (is_some (word_due before) ≡ true) × (is_single test fields ≡ true)
     single section test under e k = grind (arith, line-single, said_after-append)
 
     stray : (o : Option Section) → current_section before ≡ o → not (option_map_or takes_data o false) ≡ false
@@ -258,16 +289,20 @@ data-good before earlier fields rest sense name have h = by (current_section bef
     good_at (Some ObjSense) e = grind (arith, single, is_sense, is_section, sense_good)
     good_at (Some ObjName) e = grind (arith, single, is_section, name_good)
     good_at (Some Rows) e = grind (arith, row-good, fits, is_row_line, is_section)
-    good_at (Some Columns) e = columns-good (context_of before) earlier fields (fits Columns is_columns_line (ap (is_section Columns) e)
-        h.columns) (marker_fits (ap (is_section Columns) e)) (continues_column (ap (is_section Columns) e))
-    good_at (Some Rhs) e = vector-good (context_of before).rhs_set fields (fits Rhs is_vector_line (ap (is_section Rhs) e) h.right_sides)
+    good_at (Some Columns) e = columns-good (context_of before) earlier fields
+        (fits Columns is_columns_line (ap (is_section Columns) e) h.columns) (marker_fits (ap (is_section Columns) e))
+        (continues_column (ap (is_section Columns) e))
+    good_at (Some Rhs) e = vector-good (context_of before).rhs_set fields
+        (fits Rhs is_vector_line (ap (is_section Rhs) e) h.right_sides)
         (set_fits Rhs vector_set (ap (is_section Rhs) e) h.right_side_set)
     good_at (Some Ranges) e = vector-good (context_of before).ranges_set fields
-        (fits Ranges is_vector_line (ap (is_section Ranges) e) h.ranges) (set_fits Ranges vector_set (ap (is_section Ranges) e) h.range_set)
+        (fits Ranges is_vector_line (ap (is_section Ranges) e) h.ranges)
+        (set_fits Ranges vector_set (ap (is_section Ranges) e) h.range_set)
     good_at (Some Bounds) e = grind (arith, bound-good, context_of, fits, is_bound_line, is_section, set_fits, bound_set)
     good_at (Some EndData) e = strayed (Some EndData) e refl
 
-    by : (o : Option Section) → current_section before ≡ o → those_of (data_tests (context_of before) earlier fields (current_section before)) ≡ []
+    by : (o : Option Section) → current_section before ≡ o →
+        those_of (data_tests (context_of before) earlier fields (current_section before)) ≡ []
     by = grind (arith, those_of, data_tests, context_of, good_at)
 
 -- no section after this one is one of those before it
@@ -275,17 +310,21 @@ distinct-after : (s : Section) (sections_seen : List Section) (t : Section) (lat
     → are_distinct same_section (sections_seen ++ t ∷ later) ≡ true → has later s ≡ false
 distinct-after s [] t later h k = cc
 distinct-after s (x ∷ sections_seen) t later h k = by (is_section s (Some x)) refl h (not_so _ (first_so _ _ k))
-    (λ e. distinct-after s sections_seen t later e (second_so (not all) (are_distinct same_section (sections_seen ++ t ∷ later)) k))
+    (λ e. distinct-after s sections_seen t later e
+    (second_so (not all) (are_distinct same_section (sections_seen ++ t ∷ later)) k))
   where
     all : Bool
     all = list_any (λ l. same_section l x) (sections_seen ++ t ∷ later)
 
-    alike : (l : Section) → is_section s (Some x) ≡ true → same_section l x ≡ false → (b : Bool) → is_section s (Some l) ≡ b → b ≡ false
+    alike : (l : Section) → is_section s (Some x) ≡ true → same_section l x ≡ false → (b : Bool) →
+        is_section s (Some l) ≡ b → b ≡ false
     alike = grind (arith, section-is)
 
-    none : is_section s (Some x) ≡ true → (ls : List Section) → list_any (λ (l : Section). same_section l x) ls ≡ false → has ls s ≡ false
+    none : is_section s (Some x) ≡ true → (ls : List Section) →
+        list_any (λ (l : Section). same_section l x) ls ≡ false → has ls s ≡ false
     none e [] f = refl
-    none e (l ∷ ls) f = let parts = nor _ _ f in both_false _ _ (alike l e parts.0 (is_section s (Some l)) refl) (none e ls parts.1)
+    none e (l ∷ ls) f = let parts = nor _ _ f in
+        both_false _ _ (alike l e parts.0 (is_section s (Some l)) refl) (none e ls parts.1)
 
     following : (xs : List Section) → list_any (λ (l : Section). same_section l x) (xs ++ t ∷ later) ≡ false
         → list_any (λ (l : Section). same_section l x) later ≡ false
@@ -310,8 +349,9 @@ first-stays : {X : Type 0} (xs ys : List X) (x : X) → head_of xs ≡ Some x �
 first-stays = grind arith
 
 pub keyword-good : (before : List LineContent) (earlier : Draft) (keyword : List ℕ) (more : Fields) (rest : List LineContent)
-    → IsUnderway ObjSense is_sense before → IsUnderway ObjName (λ _. true) before → IsWantedThere before → IsDeclared before earlier
-    → AreGoodHeaders (before ++ header keyword more ∷ rest) → IsGood before earlier (header keyword more)
+    → IsUnderway ObjSense is_sense before → IsUnderway ObjName (λ _. true) before → IsWantedThere before →
+    IsDeclared before earlier → AreGoodHeaders (before ++ header keyword more ∷ rest) →
+    IsGood before earlier (header keyword more)
 keyword-good before earlier keyword more rest sense name there stated h =
     by (section_named keyword) refl (passes-all is_good_header before (header keyword more) rest h.each)
   where
@@ -344,33 +384,39 @@ keyword-good before earlier keyword more rest sense name there stated h =
         → words_in s full ≡ words_in s before ++ (when (is_section s (Some t)) more ++ said_after (word_fields s) (Some t) rest)
     words s t e = grind (arith, said_after-append)
 
-    fits : (s : Section) (test : List ℕ → Bool) → section_named keyword ≡ Some s → is_section s (Some s) ≡ true → IsUnderway s test before
-        → has_word_at_most test (words_in s full) ≡ true → fits_word test more ≡ true
+    fits : (s : Section) (test : List ℕ → Bool) → section_named keyword ≡ Some s → is_section s (Some s) ≡ true →
+        IsUnderway s test before → has_word_at_most test (words_in s full) ≡ true → fits_word test more ≡ true
     fits s test e itself under k = grind (arith, header-fits, fresh, words)
 
     idle : (t : Section) → section_named keyword ≡ Some t → is_some (word_due before) ≡ false
     idle t e = of (is_some (word_due before)) refl
       where
         other : (s : Section) → is_section s (current_section before) ≡ true → (b : Bool) → is_section s (Some t) ≡ b → b ≡ false
-        other s here true f = let same : Some t ≡ Some s = section-is s (Some t) f in absurd (never (has sections_seen s) (section-begun s
-            sections_seen here) (sym (ap (λ (o : Option Section). option_map_or (has sections_seen) o false) same) ∙ fresh t e))
+        other s here true f = let same : Some t ≡ Some s = section-is s (Some t) f in
+            absurd (never (has sections_seen s) (section-begun s sections_seen here)
+            (sym (ap (λ (o : Option Section). option_map_or (has sections_seen) o false) same) ∙ fresh t e))
         other s here false f = refl
 
         left : (s : Section) (test : List ℕ → Bool) → IsUnderway s test before → is_some (word_due before) ≡ true
             → is_section s (current_section before) ≡ true → has_word_at_most test (words_in s full) ≡ true → ⊥
-        left s test under w here k = let out = other s here (is_section s (Some t)) refl in let none = no-more-words s (Some t) rest out
-            (distinct-after s sections_seen t later (section-begun s sections_seen here) (distinct t e)) in not-left s test before under
-            here w (sym (ap (has_word_at_most test) (words s t e ∙ ap (λ (b : Bool). words_in s before ++ (when b more ++ said_after (word_fields s) (Some t) rest)) out
+        left s test under w here k = let out = other s here (is_section s (Some t)) refl in
+            let none = no-more-words s (Some t) rest out
+            (distinct-after s sections_seen t later (section-begun s sections_seen here) (distinct t e)) in
+            not-left s test before under here w
+            (sym (ap (has_word_at_most test)
+            (words s t e ∙ ap (λ (b : Bool). words_in s
+            before ++ (when b more ++ said_after (word_fields s) (Some t) rest)) out
             ∙ ap (λ (ws : List Fields). words_in s before ++ ws) none ∙ append-nil (words_in s before))) ∙ k)
 
-        which : (b : Bool) → is_section ObjSense (current_section before) ≡ b → (b || is_section ObjName (current_section before)) ≡ true
-            → is_some (word_due before) ≡ true → ⊥
+        which : (b : Bool) → is_section ObjSense (current_section before) ≡ b →
+            (b || is_section ObjName (current_section before)) ≡ true → is_some (word_due before) ≡ true → ⊥
         which = grind (arith, left, is_sense)
 
         of : (b : Bool) → is_some (word_due before) ≡ b → is_some (word_due before) ≡ false
         of = grind (arith, which, is_section, current_section)
 
-    follows : (t : Section) → section_named keyword ≡ Some t → (may_have_more t || not (is_nonempty more)) ≡ true → may_follow t more ≡ true
+    follows : (t : Section) → section_named keyword ≡ Some t → (may_have_more t || not (is_nonempty more)) ≡ true →
+        may_follow t more ≡ true
     follows = grind (arith, fits, is_sense, fits_word, may_follow)
 
     -- the N row with the name is before COLUMNS
@@ -381,14 +427,20 @@ keyword-good before earlier keyword more rest sense name there stated h =
         says current item = cons_option (objname_word current item) []
 
         row : (word : List ℕ) → objname before ≡ Some word → has_free_row before word ≡ true
-        row word f = let whole : objname full ≡ Some word = ap head_of (said_after-append says None before (header keyword more ∷ rest))
-            ∙ first-stays (said_after says None before) (said_after says (current_section before) (header keyword more ∷ rest)) word f in
-            let lines : data_lines Rows full ≡ data_lines Rows before = said_after-append (fields_under Rows) None before (header keyword more ∷ rest)
-            ∙ ap (λ (o : Option Section). data_lines Rows before ++ data_lines_after Rows (option_or o (current_section before)) rest) e
+        row word f = let whole : objname full ≡ Some word =
+            ap head_of (said_after-append says None before (header keyword more ∷ rest))
+            ∙ first-stays (said_after says None before)
+            (said_after says (current_section before) (header keyword more ∷ rest)) word f in
+            let lines : data_lines Rows full ≡ data_lines Rows before =
+            said_after-append (fields_under Rows) None before (header keyword more ∷ rest)
+            ∙ ap (λ (o : Option Section). data_lines Rows before ++ data_lines_after Rows
+            (option_or o (current_section before)) rest) e
             ∙ ap (λ (ls : List Fields). data_lines Rows before ++ ls) (no-more-lines Rows (Some Columns) rest refl
-            (distinct-after Rows sections_seen Columns later (may Columns e) (distinct Columns e))) ∙ append-nil (data_lines Rows before) in
+            (distinct-after Rows sections_seen Columns later (may Columns e) (distinct Columns e)))
+            ∙ append-nil (data_lines Rows before) in
             sym (ap (list_any (is_free_row_named word)) lines)
-            ∙ (sym (ap (λ (o : Option (List ℕ)). option_map_or (has_free_row full) o true) whole) ∙ (sym (named-in_words full h.name) ∙ h.named))
+            ∙ (sym (ap (λ (o : Option (List ℕ)). option_map_or (has_free_row full) o true) whole)
+            ∙ (sym (named-in_words full h.name) ∙ h.named))
 
         none_of : (o : Option (List ℕ)) (b : Bool) → is_some o ≡ true → (is_none o && b) ≡ false
         none_of = grind arith
@@ -403,10 +455,25 @@ keyword-good before earlier keyword more rest sense name there stated h =
     tests : (t : Section) → section_named keyword ≡ Some t → those_of (section_tests (context_of before) earlier t more) ≡ []
     tests = grind (arith, fits, is_sense, is_some, those_of, is_none, fits_word, section_tests, context_of, sense_of, complete)
 
-    by : (o : Option Section) → section_named keyword ≡ o → option_map_or (λ (t : Section). may_have_more t || not (is_nonempty more))
-        (section_named keyword) false ≡ true → those_of (header_tests (context_of before) earlier keyword more (section_named keyword)) ≡ []
+    by : (o : Option Section) → section_named keyword ≡ o →
+        option_map_or (λ (t : Section). may_have_more t || not (is_nonempty more)) (section_named keyword) false ≡ true
+        → those_of (header_tests (context_of before) earlier keyword more (section_named keyword)) ≡ []
     by None e k = grind (arith, option_map_or, may_have_more, is_nonempty)
-    by (Some t) e k = grind (arith, those_of, header_tests, context_of, header-good, idle, fresh, may, follows, option_map_or, may_have_more, is_nonempty, tests)
+    by (Some t) e k = grind (
+      arith,
+      those_of,
+      header_tests,
+      context_of,
+      header-good,
+      idle,
+      fresh,
+      may,
+      follows,
+      option_map_or,
+      may_have_more,
+      is_nonempty,
+      tests,
+    )
 
 both : (a b : Bool) → (a && b) ≡ true → (a ≡ true) × (b ≡ true)
 both = grind arith
@@ -428,10 +495,13 @@ all-good : (items before : List LineContent) (earlier : Draft) → Known before 
     → AreGoodHeaders (before ++ items) → are_well_formed before earlier items ≡ true
 all-good [] before earlier known lines headers = refl
 all-good (item ∷ items) before earlier known lines headers =
-    let next = with_declarations earlier (line_declares (context_of before) earlier item) in let good = here item lines headers in
+    let next = with_declarations earlier (line_declares (context_of before) earlier item) in
+    let good = here item lines headers in
     both_so (not (is_nonempty (form_faults (context_of before) earlier item))) (are_well_formed (before ++ item ∷ []) next items)
-    (ap (λ faults. not (is_nonempty faults)) good) (all-good items (before ++ item ∷ []) next (known-kept before earlier item good known)
-    (subst AreGoodLines (sym (append_assoc before (item ∷ []) items)) lines) (subst AreGoodHeaders (sym (append_assoc before (item ∷ []) items)) headers))
+    (ap (λ faults. not (is_nonempty faults)) good)
+    (all-good items (before ++ item ∷ []) next (known-kept before earlier item good known)
+    (subst AreGoodLines (sym (append_assoc before (item ∷ []) items)) lines)
+    (subst AreGoodHeaders (sym (append_assoc before (item ∷ []) items)) headers))
   where
     here : (x : LineContent) → AreGoodLines (before ++ x ∷ items) → AreGoodHeaders (before ++ x ∷ items) → IsGood before earlier x
     here x l h = grind (arith, keyword-good, data-good)

@@ -19,7 +19,8 @@ abbrev pub lines_of : String → List (List ℕ)
 lines_of s = lines (codes s)
 
 abbrev worked_files : List (List ℕ × Bool)
-worked_files = (small, true) ∷ (small_with_returns, true) ∷ (small_with_text_after_end, true) ∷ (small_maximized, true) ∷ (ranges, true) ∷ []
+worked_files = (small, true) ∷ (small_with_returns, true) ∷ (small_with_text_after_end, true) ∷
+    (small_maximized, true) ∷ (ranges, true) ∷ []
 
 pub worked_files-right : map (λ row. is_text_in_words row.0) worked_files ≡ map (λ row. row.1) worked_files
 unfolding trailing_zeros
@@ -28,7 +29,8 @@ worked_files-right = refl
 -- ---- changes of a file of 13 lines
 
 abbrev base : List (List ℕ)
-base = lines_of "NAME\nROWS\n N  C\n L  R\nCOLUMNS\n    X  C  1\n    X  R  1\n    Y  C  1\nRHS\n    A  R  1\nBOUNDS" ++ lines_of " UP  B  X  4\nENDATA"
+base = lines_of "NAME\nROWS\n N  C\n L  R\nCOLUMNS\n    X  C  1\n    X  R  1\n    Y  C  1\nRHS\n    A  R  1\nBOUNDS" ++
+    lines_of " UP  B  X  4\nENDATA"
 
 -- the line with this number, counted from 1, is replaced
 abbrev with_line : ℕ → String → List ℕ
@@ -43,7 +45,8 @@ changed_files = (text base, true) ∷ (with_line 12 " SC  B  X  4", true) ∷ (w
     ∷ (with_line_after 1 "OBJNAME R", false) ∷ (with_line_after 1 "OBJSENSE", false) ∷ (with_line_after 4 "OBJSENSE MAX", false)
     ∷ (with_line_after 12 "QUADOBJ", false) ∷ (with_line_after 12 "ROWS", false) ∷ (with_line_after 1 " N  C", false)
     ∷ (with_line 4 " X  R", false) ∷ (with_line 7 "    X  R  1x", false) ∷ (with_line 8 "    M  'MARKER'  'INTEND'", false)
-    ∷ (with_line 8 "    M  'MARKER'  'SOSORG'", false) ∷ (with_line_after 8 "    X  R  1", false) ∷ (with_line_after 6 "    M  'MARKER'  'INTORG'", false)
+    ∷ (with_line 8 "    M  'MARKER'  'SOSORG'", false) ∷ (with_line_after 8 "    X  R  1", false) ∷
+    (with_line_after 6 "    M  'MARKER'  'INTORG'", false)
     ∷ (with_line_after 10 "    A2  R  1", false) ∷ (with_line 12 " SC  B", false) ∷ (text (take 12 base), false) ∷ []
 
 pub changed_files-right : map (λ row. is_text_in_words row.0) changed_files ≡ map (λ row. row.1) changed_files
@@ -82,8 +85,10 @@ faulty_lines-found = refl
 
 abbrev is_any : List LineContent → LineContent → Bool
 is_any before item = repeats_section before item
-    || (occurs_out_of_order before item || (is_wrong_marker before item || (is_of_second_set before item || (splits_column before item
-    || (repeats_row before item || (names_unknown_row before item || (names_unknown_column before item || repeats_entry before item)))))))
+    || (occurs_out_of_order before item ||
+    (is_wrong_marker before item || (is_of_second_set before item || (splits_column before item
+    || (repeats_row before item ||
+    (names_unknown_row before item || (names_unknown_column before item || repeats_entry before item)))))))
 
 abbrev has_such : List LineContent → List LineContent → Bool
 has_such before [] = false
@@ -143,7 +148,8 @@ ranges_of_free_rows-right = refl
 
 abbrev repeated_ranges : List Case
 repeated_ranges = (front, "RANGES\n    G  R  1", "    G  R  1", true) ∷ (front, "RANGES\n    G  S  1  R  1", "    G  R  2", true)
-    ∷ (front, "RANGES", "    G  R  1  R  2", true) ∷ (front, "RANGES", "    G  F  1  F  2", true) ∷ (front, "RANGES\n    G  R  1", "    G  S  1", false)
+    ∷ (front, "RANGES", "    G  R  1  R  2", true) ∷ (front, "RANGES", "    G  F  1  F  2", true) ∷
+    (front, "RANGES\n    G  R  1", "    G  S  1", false)
     ∷ (front, "RHS\n    G  R  1\nRANGES", "    G  R  1", false) ∷ (front, "RANGES\n    G  R  1\nRHS", "    G  R  1", false) ∷ []
 
 pub repeated_ranges-right : judged repeats_range repeated_ranges ≡ map (λ row. row.3) repeated_ranges

@@ -45,8 +45,8 @@ module _ {S : Type 0} (holds : S → List ℕ → Type 0) (failed : S → Bool) 
   pub HasPut-sent : (first old new : S) (text header piece : List ℕ) (taken later : ℕ)
       → (waits : List ℕ) → HasPut holds failed count first old (buffer_state waits piece taken false) text header
       → Grows holds old new piece
-      → later ≡ min (taken + length piece) (2 ^ 64 - 1) → count new ≤ count old + length piece → (failed old ≡ true → failed new ≡ true)
-      → (0 < length piece → failed new ≡ false) → (length piece ≡ 0 → new ≡ old)
+      → later ≡ min (taken + length piece) (2 ^ 64 - 1) → count new ≤ count old + length piece →
+      (failed old ≡ true → failed new ≡ true) → (0 < length piece → failed new ≡ false) → (length piece ≡ 0 → new ≡ old)
       → HasPut holds failed count first new (buffer_state waits [] later false) text header
   HasPut-sent first old new text header piece taken later waits h grows is calls stays works same = record {
     under_way = λ _.
@@ -58,7 +58,8 @@ module _ {S : Type 0} (holds : S → List ℕ → Type 0) (failed : S → Bool) 
           header_is = was.header_is;
           sent = text;
           parts = sym (append-nil text);
-          sent_is = subst (Grows holds first new) (sym was.parts) (Grows-append holds first old new was.sent piece was.sent_is grows);
+          sent_is = subst (Grows holds first new) (sym was.parts)
+              (Grows-append holds first old new was.sent piece was.sent_is grows);
           taken_is = omega arith;
           calls = omega arith;
           stays = λ f. stays (was.stays f);
@@ -95,7 +96,8 @@ module _ {S : Type 0} (holds : S → List ℕ → Type 0) (failed : S → Bool) 
             count = length was.sent + took.count;
             within = omega arith;
             reported_is = omega arith;
-            holds_them = subst (Grows holds first new) (sym cut) (Grows-append holds first old new was.sent _ was.sent_is took.holds_them);
+            holds_them = subst (Grows holds first new) (sym cut)
+                (Grows-append holds first old new was.sent _ was.sent_is took.holds_them);
           };
           calls = omega arith;
         };

@@ -14,7 +14,8 @@ module _ {W L F : Type 0} {line_text : L → List ℕ} {k : SinkOf W}
   prints_first : {X : Type 0} (f : X → List L) (xs : List X) (count : ℕ)
       → ((i : ℕ) → i < count → (x y : Output W) → IsCall g put i x y → Prints line_text k x y (lines_at f xs i))
       → (n : ℕ) → n ≤ count → (a b : Output W) → AreCalls g put n a b → Prints line_text k a b (flat_map f (take n xs))
-  prints_first f xs count each zero within a b same = subst (λ (o : Output W). Prints line_text k a o []) (sym same) (prints_nothing a)
+  prints_first f xs count each zero within a b same =
+      subst (λ (o : Output W). Prints line_text k a o []) (sym same) (prints_nothing a)
   prints_first f xs count each (suc n) within a b calls =
       prints_same (sym (flat_map-more f xs n))
       (prints_then (prints_first f xs count each n (omega arith) a calls.0 calls.1) (each n (omega arith) calls.0 b calls.2))
@@ -33,8 +34,8 @@ module _ {W L F : Type 0} {line_text : L → List ℕ} {k : SinkOf W}
 
 -- ---- the same of texts
 
-module _ {W F : Type 0} {k : SinkOf W} {g : Shared F (ℕ × (MutBor (Output W) × Unit {0})) (Unit {0} × (MutBor (Output W) × Unit {0}))}
-    {put : F} where
+module _ {W F : Type 0} {k : SinkOf W}
+    {g : Shared F (ℕ × (MutBor (Output W) × Unit {0})) (Unit {0} × (MutBor (Output W) × Unit {0}))} {put : F} where
   puts_first : {X : Type 0} (f : X → List ℕ) (xs : List X) (count : ℕ)
       → ((i : ℕ) → i < count → (x y : Output W) → IsCall g put i x y → Puts k x y (lines_at f xs i))
       → (n : ℕ) → n ≤ count → (a b : Output W) → AreCalls g put n a b → Puts k a b (flat_map f (take n xs))

@@ -21,7 +21,8 @@ flat_map-all f [] (suc n) h = refl
 flat_map-all f (x ∷ xs) zero h = absurd (omega arith)
 flat_map-all f (x ∷ xs) (suc n) h = ap (λ (l : List _). f x ++ l) (flat_map-all f xs n (omega arith))
 
-pub flat_map-rest : {X L : Type 0} (f : X → List L) (xs : List X) (i : ℕ) → flat_map f (take i xs) ++ flat_map f (drop i xs) ≡ flat_map f xs
+pub flat_map-rest : {X L : Type 0} (f : X → List L) (xs : List X) (i : ℕ) →
+    flat_map f (take i xs) ++ flat_map f (drop i xs) ≡ flat_map f xs
 flat_map-rest f [] zero = refl
 flat_map-rest f [] (suc i) = refl
 flat_map-rest f (x ∷ xs) zero = refl
@@ -35,7 +36,8 @@ pub flat_map-filter : {X L : Type 0} (f : X → List L) (p : X → Bool) (xs : L
     → flat_map (λ x. cond (p x) (f x) []) xs ≡ flat_map f (filter p xs)
 flat_map-filter f p [] = refl
 flat_map-filter {X} f p (x ∷ xs) =
-    elim (p x) as (λ b. cond b (f x) [] ++ flat_map (λ x. cond (p x) (f x) []) xs ≡ flat_map f (cond b (x ∷ filter p xs) (filter p xs))) [
+    elim (p x) as (λ b. cond b (f x) [] ++ flat_map (λ x. cond (p x) (f x) []) xs ≡ flat_map f
+    (cond b (x ∷ filter p xs) (filter p xs))) [
       | true ↦ ap (λ (l : List _). f x ++ l) (flat_map-filter f p xs)
       | false ↦ flat_map-filter f p xs
     ]
@@ -66,14 +68,14 @@ flat_map-numbers {X} {L} f xs (suc n) =
 -- ---- an entry by its accessors
 
 -- what two accessors return of an entry, taken together
-pub both_seen : {X A B C : Type 0} (f : X → A) (g : X → B) (h : A → B → C) (o : Option X) (a : A) (b : B) → option_map f o ≡ Some a
-    → option_map g o ≡ Some b
+pub both_seen : {X A B C : Type 0} (f : X → A) (g : X → B) (h : A → B → C) (o : Option X) (a : A) (b : B) →
+    option_map f o ≡ Some a → option_map g o ≡ Some b
     → option_map (λ x. h (f x) (g x)) o ≡ Some (h a b)
 both_seen = grind arith
 
 -- the lines of an entry, by its name and what an accessor returns of it
-pub lines_seen : {X Y L : Type 0} (es : List (List ℕ × X)) (i : ℕ) (f : X → Y) (h : List ℕ → Y → List L) (name : List ℕ) (seen : Y)
-    → slice_get (map (λ e. e.0) es) i ≡ Some name
+pub lines_seen : {X Y L : Type 0} (es : List (List ℕ × X)) (i : ℕ) (f : X → Y) (h : List ℕ → Y →
+    List L) (name : List ℕ) (seen : Y) → slice_get (map (λ e. e.0) es) i ≡ Some name
     → option_map f (slice_get (map (λ e. e.1) es) i) ≡ Some seen → h name seen ≡ lines_at (λ e. h e.0 (f e.1)) es i
 lines_seen {X} {Y} = grind (arith, slice_get-map)
 

@@ -28,7 +28,8 @@ module _ {W : Type 0} {k : SinkOf W} where
   cut : (o : Output W) (back : List ℕ) → o.buffer.now.has_failed ≡ true → Puts k o o back
   cut o back fails = record {
     same = same_always;
-    puts = λ first text header g. HasPut-cut k.holds k.failed k.count first o.sink.now o.buffer.now text back header header fails g;
+    puts = λ first text header g. HasPut-cut k.holds k.failed k.count first o.sink.now o.buffer.now text back header
+        header fails g;
   }
 
   pub puts_cut : {a b : Output W} {front : List ℕ} (back : List ℕ) → b.buffer.now.has_failed ≡ true → Puts k a b front
@@ -50,7 +51,8 @@ module _ {W L : Type 0} {line_text : L → List ℕ} {k : SinkOf W} where
       → Prints line_text k a c (front ++ back)
   prints_then = grind (arith, same_then, put_same, append_assoc, text_under-append, header_left-append)
 
-  pub prints_same : {a b : Output W} {lines other : List L} → lines ≡ other → Prints line_text k a b lines → Prints line_text k a b other
+  pub prints_same : {a b : Output W} {lines other : List L} → lines ≡ other → Prints line_text k a b lines →
+      Prints line_text k a b other
   prints_same {a} {b} = grind arith
 
   -- pieces that are the text of a line, below the header
@@ -74,8 +76,8 @@ module _ {W L : Type 0} {line_text : L → List ℕ} {k : SinkOf W} where
   pub section_of : {a b : Output W} {lines : List L} → Prints line_text k a b lines → PrintsSection line_text k a b lines
   section_of = grind arith
 
-  pub section_then : {a b c : Output W} {front back : List L} → PrintsSection line_text k a b front → PrintsSection line_text k b c back
-      → PrintsSection line_text k a c (front ++ back)
+  pub section_then : {a b c : Output W} {front back : List L} → PrintsSection line_text k a b front →
+      PrintsSection line_text k b c back → PrintsSection line_text k a c (front ++ back)
   section_then = grind (arith, same_then, put_same, append_assoc, text_by-append)
 
   pub section_same : {a b : Output W} {lines other : List L} → lines ≡ other → PrintsSection line_text k a b lines
@@ -93,5 +95,6 @@ module _ {W L : Type 0} {line_text : L → List ℕ} {k : SinkOf W} where
       → HasHeader header a b → Prints line_text k b c lines → HasHeader [] c d → PrintsSection line_text k a d other
   section_under header same opens h closes = record {
     same = same_then opens.same (same_then h.same closes.same);
-    puts = λ first text g. put_under closes (ap (λ (l : List ℕ). text ++ l) same) (h.puts first text header (put_under opens refl g));
+    puts = λ first text g. put_under closes (ap (λ (l : List ℕ). text ++ l) same)
+        (h.puts first text header (put_under opens refl g));
   }

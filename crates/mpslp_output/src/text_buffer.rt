@@ -1,10 +1,10 @@
 //! A buffer between a text and a sink.
 
-ghost use Rattle.std.specs.Prelude.{◌≡◌, ◌+◌, ◌<◌, ◌≤◌, List, [], ◌++◌, ℕ, true, false, not, ◌&&◌, ◌==◌, length, IsOk};
-ghost use Rattle.mpslp_output.specs.TextBuffer.{BufferState, buffer_state, empty_buffer, with_waiting, with_header, HasPut, KeepsPut, Emits, PutsHeader, answer_of};
+ghost use Rattle.std.specs.Prelude.{◌≡◌, ◌+◌, ◌<◌, ◌≤◌, List, [], ◌++◌, ℕ, true, false, not, ◌&&◌, ◌==◌, length, take, IsOk};
+ghost use Rattle.mpslp_output.specs.TextBuffer.{BufferState, buffer_code, buffer_state, empty_buffer, with_waiting, with_header, HasPut, KeepsPut, Emits, PutsHeader, answer_of};
 ghost use Rattle.mpslp_model.specs.Formats.{IsTaken};
+ghost use Rattle.mpslp_output.specs.declared.text_buffer.TheConstants.{CAPACITY};
 
-use arrayvec::ArrayVec;
 use mpslp_model::{Sink, WriteFault, put_all};
 use std::marker::Model;
 
@@ -42,20 +42,22 @@ impl Sent {
 /// The header of a section that may be empty also waits here, and is put with the first line.
 #[derive(Drop)]
 pub struct Buffer {
-    bytes: ArrayVec<u8, CAPACITY>,
+    bytes: [u8; CAPACITY],
+    /// How many of them wait.
+    len: usize,
     sent: Sent,
     /// The header that waits for the first line of its section; empty if none waits.
     header: &'static [u8],
 }
 
 impl Model for Buffer {
-    ghost use Rattle.mpslp_output.specs.TextBuffer.{BufferState, buffer_code};
-
     ghost Value = { BufferState };
 
     ghost coded = { buffer_code };
 
-    ghost view = { λ b. record { waiting = b.bytes.items; taken = b.sent.taken; has_failed = b.sent.has_failed; header = b.header.now } };
+    ghost view = { λ b. record { waiting = take b.len b.bytes; taken = b.sent.taken; has_failed = b.sent.has_failed; header = b.header.now } };
+
+    ghost invariant = { λ b. (b.len ≤ CAPACITY) × (length b.bytes ≡ CAPACITY) };
 }
 
 impl Buffer {
@@ -64,7 +66,8 @@ impl Buffer {
         ensures { result ≡ empty_buffer }
     {
         Buffer {
-            bytes: ArrayVec::new(),
+            bytes: [0; CAPACITY],
+            len: 0,
             sent: Sent {
                 taken: 0,
                 has_failed: false,
@@ -157,7 +160,7 @@ impl Buffer {
         ensures is { result ≡ length self.now.waiting }
         ensures fits { result ≤ CAPACITY }
     {
-        self.bytes.len()
+        self.len
     }
 
     /// Appends a piece to the waiting bytes.
@@ -166,8 +169,9 @@ impl Buffer {
         requires { length self.old.waiting + length piece.now ≤ CAPACITY }
         ensures { self.new ≡ with_waiting (self.old.waiting ++ piece.now) self.old }
     {
-        let is_full = self.bytes.try_extend_from_slice(piece).is_err();
-        prove!(!is_full);
+        let end = self.len + piece.len();
+        self.bytes[self.len..end].copy_from_slice(piece);
+        self.len = end;
     }
 
     /// Sends the waiting bytes to the sink.
@@ -175,8 +179,8 @@ impl Buffer {
         ensures put { KeepsPut W.holds W.failed W.count sink.old sink.new self.old self.new }
         ensures emptied { self.new.waiting ≡ [] }
     {
-        self.sent.send(sink, self.bytes.as_slice());
-        self.bytes.clear();
+        self.sent.send(sink, &self.bytes[..self.len]);
+        self.len = 0;
     }
 
     /// Sends a piece to the sink, if no bytes wait.

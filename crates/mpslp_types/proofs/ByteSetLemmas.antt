@@ -20,7 +20,8 @@ all-dropped p zero xs h = h
 all-dropped p (suc n) [] h = refl
 all-dropped p (suc n) (x ∷ xs) h = all-dropped p n xs (second_so (p x) (list_all p xs) h)
 
-all-joined : {X : Type 0} (p : X → Bool) (xs ys : List X) → list_all p xs ≡ true → list_all p ys ≡ true → list_all p (xs ++ ys) ≡ true
+all-joined : {X : Type 0} (p : X → Bool) (xs ys : List X) → list_all p xs ≡ true → list_all p ys ≡ true →
+    list_all p (xs ++ ys) ≡ true
 all-joined = grind (arith, list_all-append)
 
 -- the bytes before a place, and the last ones from that place or an earlier one on
@@ -47,7 +48,16 @@ pub both-ends : (test : ℕ → Bool) (text : List ℕ) (n : ℕ) → n ≤ leng
     → list_all test (pick_l 0 (take n text ++ chunk (length text - n) n text) (range_with_len 0 (n + n))) ≡ true
     → list_all test text ≡ true
 both-ends test text n =
-    grind (arith, list_all-append, pick_l_whole, length-append, length-take-le, length-chunk, overlapping test text n (length text - n) n)
+    grind (
+      arith,
+      list_all-append,
+      pick_l_whole,
+      length-append,
+      length-take-le,
+      length-chunk,
+      overlapping test text n
+          (length text - n) n,
+    )
 
 -- the same, and once more
 pub both-ends-twice : (test : ℕ → Bool) (text : List ℕ) (n : ℕ) → n ≤ length text → length text ≤ n + n
@@ -60,7 +70,8 @@ both-ends-twice = grind (arith, list_all-append, both-ends)
 
 module _ (op : ℕ → ℕ → ℕ) (v : List ℕ) (y : ℕ) (long : length v ≡ 16) (small : Each1 (λ a. op a y < 16) v) where
   places-fit : SwzOk w8 16 16 0 (zip2 op v (replicate 16 y))
-  places-fit = SwzOk-from_below w8 16 1 16 0 (zip2 op v (replicate 16 y)) refl (omega (arith, length-zip2 op v (replicate 16 y) long))
+  places-fit = SwzOk-from_below w8 16 1 16 0 (zip2 op v (replicate 16 y)) refl
+      (omega (arith, length-zip2 op v (replicate 16 y) long))
       (Each1-zip2 op (λ j. j < 16) v (replicate 16 y) (Each2-splat (λ a b. op a b < 16) v 16 y small))
 
   looked-up : (table : List ℕ) → swz_l w8 16 table 0 (zip2 op v (replicate 16 y)) ≡ map (λ a. get_or table (op a y) 0) v
@@ -95,7 +106,8 @@ module _ (set : ByteSet) (v : List ℕ) (long : length v ≡ 16) (fits : Each1 (
   common a = bit_and (get_or set.low (bit_and a 15) 0) (get_or set.high (down a 4) 0)
 
   abbrev pub lanes : List ℕ
-  lanes = zip2 bit_and (swz_l w8 16 set.low 0 (zip2 bit_and v (replicate 16 15))) (swz_l w8 16 set.high 0 (zip2 down v (replicate 16 4)))
+  lanes = zip2 bit_and (swz_l w8 16 set.low 0 (zip2 bit_and v (replicate 16 15)))
+      (swz_l w8 16 set.high 0 (zip2 down v (replicate 16 4)))
 
   lanes-are : lanes ≡ map common v
   lanes-are =
@@ -106,7 +118,8 @@ module _ (set : ByteSet) (v : List ℕ) (long : length v ≡ 16) (fits : Each1 (
       → list_all (is_in set) v ≡ true
   in-lanes h =
       let some : length lanes ≡ 16 = ap length lanes-are ∙ length-map v common ∙ long in
-      let none : mask_l (map (λ x. eqb x 0) lanes) ≡ 0 = sym (bitmask_splat w8 eqb lanes 16 0 some (omega arith)) ∙ eqb-true _ _ h in
+      let none : mask_l (map (λ x. eqb x 0) lanes) ≡ 0 = sym (bitmask_splat w8 eqb lanes 16 0 some (omega arith))
+      ∙ eqb-true _ _ h in
       sym (list_all-map (λ x. not (eqb x 0)) common v)
       ∙ none-passes (λ x. eqb x 0) (map common v) (sym (ap (λ xs. mask_l (map (λ x. eqb x 0) xs)) lanes-are) ∙ none)
 

@@ -1,17 +1,13 @@
 -- A name is rejected if and only if it is not legal in MPS, and every name that is legal in LP is legal in MPS.
 use Rattle.std.{proofs.Common.{Bool, List, [], arith, not, refl, true, ℕ, ◌∷◌, ◌≡◌}, specs.{Cmp.{first_so, second_so}, List.list_all}}
-use Rattle.std.specs.{List.list_any, Prelude.{codes, is_none, ◌&&◌, ◌==◌, ◌||◌}}
+use Rattle.std.specs.{List.list_any, Prelude.{codes, ◌&&◌, ◌==◌, ◌||◌}}
 use Rattle.mpslp_decimal.specs.Literal.{is_digit}
 use Rattle.mpslp_types.{proofs.{BoolLemmas.both_so, EachLemmas.imp_all}, specs.Name.{begins_a_number, has_name_length, is_letter}}
 use Rattle.mpslp_types.specs.Name.{is_like_exponent, is_lp_byte, is_lp_name, is_mps_name, is_reserved, is_upper, is_visible, marker}
-use Rattle.mpslp_types.specs.{Name.same_bytes, NameTests.name_refusal}
+use Rattle.mpslp_types.specs.Name.{same_bytes}
 
--- bytes are rejected if and only if they are not a legal name
-pub is_none-name_refusal : (name : List ℕ) → is_none (name_refusal name) ≡ is_mps_name name
-is_none-name_refusal = grind arith
-
-visible_among : (symbols : List ℕ) (byte : ℕ) → list_all is_visible symbols ≡ true → list_any (λ symbol. symbol == byte) symbols ≡ true
-    → is_visible byte ≡ true
+visible_among : (symbols : List ℕ) (byte : ℕ) → list_all is_visible symbols ≡ true →
+    list_any (λ symbol. symbol == byte) symbols ≡ true → is_visible byte ≡ true
 visible_among [] byte all any = cc
 visible_among (symbol ∷ symbols) byte all any = grind (arith, visible_among symbols byte)
 

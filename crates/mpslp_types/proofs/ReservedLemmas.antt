@@ -29,8 +29,8 @@ abbrev begins_with : List (List ℕ) → List ℕ → Bool
 begins_with beginnings (first ∷ second ∷ _) = list_any (same_bytes (first ∷ second ∷ [])) beginnings
 begins_with beginnings _ = false
 
-none-begins : (words beginnings : List (List ℕ)) (first second : ℕ) (rest : List ℕ) → list_all (begins_with beginnings) words ≡ true
-    → list_any (same_bytes (first ∷ second ∷ [])) beginnings ≡ false
+none-begins : (words beginnings : List (List ℕ)) (first second : ℕ) (rest : List ℕ) →
+    list_all (begins_with beginnings) words ≡ true → list_any (same_bytes (first ∷ second ∷ [])) beginnings ≡ false
     → list_any (same_bytes (first ∷ second ∷ rest)) words ≡ false
 none-begins [] beginnings first second rest h none = refl
 none-begins (w ∷ words) beginnings first second rest h none = grind (arith, none-begins words beginnings first second rest)

@@ -22,15 +22,18 @@ spaced lexemes = flat_map (λ piece. codes " " ++ lexeme_text piece) lexemes
 after-spaced : (lexemes : List Lexeme) → spaced lexemes ++ 10 ∷ [] ≡ following lexemes
 after-spaced [] = refl
 after-spaced (piece ∷ lexemes) =
-    append_assoc (codes " " ++ lexeme_text piece) (spaced lexemes) (10 ∷ []) ∙ ap (λ (l : List ℕ). codes " " ++ (lexeme_text piece ++ l)) (after-spaced lexemes)
+    append_assoc (codes " " ++ lexeme_text piece) (spaced lexemes) (10 ∷ [])
+    ∙ ap (λ (l : List ℕ). codes " " ++ (lexeme_text piece ++ l)) (after-spaced lexemes)
 
 pub line-text : (indent : ℕ) (piece : Lexeme) (lexemes : List Lexeme)
-    → replicate indent 32 ++ (lexeme_text piece ++ following lexemes) ≡ text_by line_text (record { indent = indent; lexemes = piece ∷ lexemes } ∷ [])
+    → replicate indent 32 ++ (lexeme_text piece ++ following lexemes) ≡ text_by line_text
+    (record { indent = indent; lexemes = piece ∷ lexemes } ∷ [])
 line-text indent piece lexemes =
     let blanks = replicate indent 32 in
     sym (append-nil ((blanks ++ (lexeme_text piece ++ spaced lexemes)) ++ 10 ∷ [])
     ∙ append_assoc blanks (lexeme_text piece ++ spaced lexemes) (10 ∷ [])
-    ∙ ap (λ (l : List ℕ). blanks ++ l) (append_assoc (lexeme_text piece) (spaced lexemes) (10 ∷ []) ∙ ap (λ (l : List ℕ). lexeme_text piece ++ l) (after-spaced lexemes)))
+    ∙ ap (λ (l : List ℕ). blanks ++ l) (append_assoc (lexeme_text piece) (spaced lexemes) (10 ∷ [])
+    ∙ ap (λ (l : List ℕ). lexeme_text piece ++ l) (after-spaced lexemes)))
 
 pub label-text : (name : List ℕ) → codes " " ++ (name ++ codes ":\n") ≡ text_by line_text (label_line name ∷ [])
 label-text name = ap (λ (l : List ℕ). codes " " ++ l) (sym (append_assoc name (codes ":") (10 ∷ []))) ∙ line-text 1 (label name) []

@@ -21,7 +21,8 @@ then-equal = grind arith
 in-one-column : (row other column : List ℕ) → key_cmp (place_at row column) (place_at other column) ≡ bytes_cmp row other
 in-one-column = grind (arith, bytes_total, then-equal)
 
-as-rows : (column row : List ℕ) (key : CoefficientKey) → key.column ≡ column → key_cmp (place_at row column) key ≡ bytes_cmp row key.row
+as-rows : (column row : List ℕ) (key : CoefficientKey) → key.column ≡ column →
+    key_cmp (place_at row column) key ≡ bytes_cmp row key.row
 as-rows = grind (arith, place_at, in-one-column)
 
 as-places : (column : List ℕ) (a b : CoefficientKey) → a.column ≡ column → b.column ≡ column → key_cmp a b ≡ bytes_cmp a.row b.row
@@ -39,13 +40,25 @@ rows-below : (column : List ℕ) (key : CoefficientKey) (es : List (CoefficientK
     → Each (InColumn column) es → below_all key_cmp key es ≡ true → below_all bytes_cmp key.row (map by_row es) ≡ true
 rows-below column key [] here h below = refl
 rows-below column key (e ∷ es) here h below =
-    grind (arith, both_so, as-places, rows-below column key es here h.1 (second_so (is_lt (key_cmp key e.0)) (below_all key_cmp key es) below))
+    grind (
+      arith,
+      both_so,
+      as-places,
+      rows-below column key es here h.1
+          (second_so (is_lt (key_cmp key e.0)) (below_all key_cmp key es) below),
+    )
 
 rows-sorted : (column : List ℕ) (es : List (CoefficientKey × Number)) → Each (InColumn column) es → is_sorted key_cmp es ≡ true
     → is_sorted bytes_cmp (map by_row es) ≡ true
 rows-sorted column [] h sorted = refl
 rows-sorted column (e ∷ es) h sorted =
-    grind (arith, both_so, rows-below, rows-sorted column es h.1 (second_so (below_all key_cmp e.0 es) (is_sorted key_cmp es) sorted))
+    grind (
+      arith,
+      both_so,
+      rows-below,
+      rows-sorted column es h.1
+          (second_so (below_all key_cmp e.0 es) (is_sorted key_cmp es) sorted),
+    )
 
 rows-found : (column row : List ℕ) (es : List (CoefficientKey × Number)) → Each (InColumn column) es
     → find bytes_cmp row (map by_row es) ≡ find key_cmp (place_at row column) es
@@ -83,7 +96,8 @@ module _ (coefficients : List (CoefficientKey × Number)) (column : List ℕ) wh
   none-either : (b : Bool) → ◌≡◌ {A = Option Number} (cond b None None) None
   none-either = grind arith
 
-  cells-found : (row : List ℕ) (names : List (List ℕ)) → find bytes_cmp row (cells names) ≡ cond (is_one_of names row) (at row) None
+  cells-found : (row : List ℕ) (names : List (List ℕ)) →
+      find bytes_cmp row (cells names) ≡ cond (is_one_of names row) (at row) None
   cells-found row [] = refl
   cells-found row (name ∷ names) = by (same_bytes row name) refl (at name) refl (cells-found row names)
     where
@@ -97,9 +111,11 @@ module _ (coefficients : List (CoefficientKey × Number)) (column : List ℕ) wh
           let none : at row ≡ None = ap at (same_name row name is) ∙ there in
           grind (arith, same_name, none-either)
       by true is (Some v) there more =
-          ap (λ (b : Bool). cond b (Some v) (find bytes_cmp row (cells names))) (tie true is) ∙ sym (ap at (same_name row name is) ∙ there)
+          ap (λ (b : Bool). cond b (Some v) (find bytes_cmp row (cells names))) (tie true is)
+          ∙ sym (ap at (same_name row name is) ∙ there)
       by false is None there more = more
-      by false is (Some v) there more = ap (λ (b : Bool). cond b (Some v) (find bytes_cmp row (cells names))) (tie false is) ∙ more
+      by false is (Some v) there more =
+          ap (λ (b : Bool). cond b (Some v) (find bytes_cmp row (cells names))) (tie false is) ∙ more
 
 -- ---- both are equal
 
@@ -114,7 +130,8 @@ module _ (m : Listing) (h : IsSoundListing m) (column : List ℕ) where
   all-in =
       Each-filter (InColumn column) (λ entry. is_of m.objective column entry.0) m.coefficients
       (Each-all _ (λ entry passes. sym
-      (same_name column entry.0.column (second_so (not (same_bytes m.objective entry.0.row)) (same_bytes column entry.0.column) passes)))
+      (same_name column entry.0.column
+      (second_so (not (same_bytes m.objective entry.0.row)) (same_bytes column entry.0.column) passes)))
       m.coefficients)
 
   sorted-elements : is_sorted key_cmp elements ≡ true
@@ -164,12 +181,13 @@ module _ (m : Listing) (h : IsSoundListing m) (column : List ℕ) where
       (T_from (is_sorted bytes_cmp (cells m.coefficients column (names_in m.rows)))
       (cells-sorted m.coefficients column m.rows h.rows_sorted))
       (T_from (is_sorted bytes_cmp (map by_row elements)) (rows-sorted column elements all-in sorted-elements))
-      (λ row. cells-found m.coefficients column row (names_in m.rows) ∙ agree row (at m.coefficients column row) refl ∙ sym (found row)
-      ∙ sym (rows-found column row elements all-in))
+      (λ row. cells-found m.coefficients column row (names_in m.rows) ∙ agree row (at m.coefficients column row) refl
+      ∙ sym (found row) ∙ sym (rows-found column row elements all-in))
 
 -- the coefficient of the objective in a column, and those of rows
 pub column-cells : (m : LinearModel) → IsSound m → (column : List ℕ)
     → column_coefficients (listing_of m) column
     ≡ cons_option (cell_at (listing_of m).coefficients column m.objective) (map by_row (column_elements m column))
 column-cells m sound column =
-    ap (cons_option (cell_at (listing_of m).coefficients column m.objective)) (row-cells (listing_of m) (sound-listing m sound) column)
+    ap (cons_option (cell_at (listing_of m).coefficients column m.objective))
+    (row-cells (listing_of m) (sound-listing m sound) column)

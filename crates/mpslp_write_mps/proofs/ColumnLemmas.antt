@@ -52,8 +52,8 @@ pub coefficient-not_zero : (m : LinearModel) → IsSound m → (row column : Lis
 coefficient-not_zero m sound row column v is =
     let h = sound-listing m sound in
     let at =
-    found-each key_cmp key_total same_key (λ key value. is_sound_entry (listing_of m) (key, value) ≡ true) (listing_of m).coefficients
-    h.coefficients (place_at row column) v is in
+    found-each key_cmp key_total same_key (λ key value. is_sound_entry (listing_of m) (key, value) ≡ true)
+    (listing_of m).coefficients h.coefficients (place_at row column) v is in
     not_so (is_zero v) (first_so (not (is_zero v)) _ (second_so (is_decimal v) _ at))
 
 module _ (m : LinearModel) (sound : IsSound m) (column : List ℕ) where
@@ -92,8 +92,8 @@ element-seen = grind (arith, slice_get-map)
 pub row-within : (m : LinearModel) (row : List ℕ) (i : ℕ) → views.row_index m row ≡ Some i → i < views.num_rows m
 row-within = grind arith
 
-pub row-named : (m : LinearModel) (row name : List ℕ) (i : ℕ) → views.row_index m row ≡ Some i → slice_get (views.row_names m) i ≡ Some name
-    → name ≡ row
+pub row-named : (m : LinearModel) (row name : List ℕ) (i : ℕ) → views.row_index m row ≡ Some i →
+    slice_get (views.row_names m) i ≡ Some name → name ≡ row
 row-named m row name i is named =
     let passes = (position-Some (same_bytes row) (views.row_names m) i [] is).1 in
     let at = get_or_from_slice_get (views.row_names m) i name [] named in
@@ -109,8 +109,8 @@ bounds-seen : (es : Columns) (j : ℕ) (kind : Kind) (lower upper : Limit)
     ≡ Some (printed_bounds kind lower upper)
 bounds-seen = grind arith
 
-pub bounds-lines : (es : Columns) (j : ℕ) (name : List ℕ) (kind : Kind) (lower upper : Limit) → slice_get (map (λ e. e.0) es) j ≡ Some name
-    → option_map (λ column. column.kind) (slice_get (map (λ e. e.1) es) j) ≡ Some kind
+pub bounds-lines : (es : Columns) (j : ℕ) (name : List ℕ) (kind : Kind) (lower upper : Limit) →
+    slice_get (map (λ e. e.0) es) j ≡ Some name → option_map (λ column. column.kind) (slice_get (map (λ e. e.1) es) j) ≡ Some kind
     → option_map (λ column. column.lower) (slice_get (map (λ e. e.1) es) j) ≡ Some lower
     → option_map (λ column. column.upper) (slice_get (map (λ e. e.1) es) j) ≡ Some upper
     → map (bound_line name) (printed_bounds kind lower upper) ≡ lines_at column_bound_lines es j

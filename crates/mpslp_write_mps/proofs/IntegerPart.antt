@@ -33,12 +33,14 @@ no-marker e = cc
 
 -- between the markers
 between : (text : List ℕ) (lines : Lines)
-    → (text ++ (first_marker ++ text_of lines)) ++ last_marker ≡ text ++ (first_marker ++ text_of (lines ++ marker_line closing_word ∷ []))
+    → (text ++ (first_marker ++ text_of lines)) ++ last_marker ≡ text ++ (first_marker ++ text_of
+    (lines ++ marker_line closing_word ∷ []))
 between = grind (arith, append_assoc, text_by-append)
 
 module _ {W : Type 0} {k : SinkOf W} where
-  pub integer_some : {a b c d e : Output W} {lines : Lines} → HasHeader first_marker a b → Prints line_text k b c lines → HasHeader [] c d
-      → has_lines c.buffer.now ≡ true → Puts k d e last_marker → PrintsSection line_text k a e (integer_part lines)
+  pub integer_some : {a b c d e : Output W} {lines : Lines} → HasHeader first_marker a b →
+      Prints line_text k b c lines → HasHeader [] c d → has_lines c.buffer.now ≡ true → Puts k d e last_marker →
+      PrintsSection line_text k a e (integer_part lines)
   integer_some {c = c} {e = e} {lines} opens h closes some last = record {
     same = same_then opens.same (same_then h.same (same_then closes.same last.same));
     puts = λ first text g. by lines first text (h.puts first text first_marker (put_under opens refl g));
@@ -51,10 +53,11 @@ module _ {W : Type 0} {k : SinkOf W} where
           → Holds k first c (text ++ text_under line_text first_marker lines) (header_left first_marker lines)
           → Holds k first e (text ++ text_of (integer_part lines)) []
       by [] first text put = grind (arith, not_so, no-marker)
-      by (line ∷ lines) first text put = put_same (between text (line ∷ lines)) refl (last.puts first _ [] (put_under closes refl put))
+      by (line ∷ lines) first text put =
+          put_same (between text (line ∷ lines)) refl (last.puts first _ [] (put_under closes refl put))
 
-  pub integer_none : {a b c d : Output W} {lines : Lines} → HasHeader first_marker a b → Prints line_text k b c lines → HasHeader [] c d
-      → has_lines c.buffer.now ≡ false → PrintsSection line_text k a d (integer_part lines)
+  pub integer_none : {a b c d : Output W} {lines : Lines} → HasHeader first_marker a b → Prints line_text k b c lines →
+      HasHeader [] c d → has_lines c.buffer.now ≡ false → PrintsSection line_text k a d (integer_part lines)
   integer_none {c = c} {lines = lines} opens h closes none = record {
     same = same_then opens.same (same_then h.same closes.same);
     puts =

@@ -10,12 +10,12 @@ returns-clause-new c =
     let terms = c.args.others.now.entries in
     elim c.match-insert.branch [
       | in-Ok-None w ↦
-          subst (λ (r : Result Bool AllocError). IfOk r (λ is_new. list_any (λ term. same_bytes c.args.name term.0) terms ≡ not is_new))
-          (sym w.result-is)
+          subst (λ (r : Result Bool AllocError). IfOk r
+          (λ is_new. list_any (λ term. same_bytes c.args.name term.0) terms ≡ not is_new)) (sym w.result-is)
           (any-looked_up c.args.name terms ∙ ap is_some (sym w.in-Ok-None.ensures.old ∙ w.in-Ok-None.field-0-is))
       | in-Ok-Some w ↦
-          subst (λ (r : Result Bool AllocError). IfOk r (λ is_new. list_any (λ term. same_bytes c.args.name term.0) terms ≡ not is_new))
-          (sym w.result-is)
+          subst (λ (r : Result Bool AllocError). IfOk r
+          (λ is_new. list_any (λ term. same_bytes c.args.name term.0) terms ≡ not is_new)) (sym w.result-is)
           (any-looked_up c.args.name terms ∙ ap is_some (sym w.in-Ok-Some.ensures.old ∙ w.in-Ok-Some.field-0-is))
       | in-Err w ↦ subst (λ (r : Result Bool AllocError). IfOk r
           (λ is_new. list_any (λ term. same_bytes c.args.name term.0) terms ≡ not is_new)) (sym w.result-is) tt

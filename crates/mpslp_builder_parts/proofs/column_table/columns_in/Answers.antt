@@ -3,7 +3,8 @@ use Rattle.std.specs.List.{All}
 use Rattle.std.proofs.lemmas.List.{length-map, get_or_read, get_or-drop, drop-drop}
 use Rattle.mpslp_decimal.specs.Decimal.{Number}
 use Rattle.mpslp_model_core.specs.{ModelColumns.{IsWithin, span_bounds, span_cells}, Numbered.each_part}
-use Rattle.mpslp_builder_parts.specs.{Grouping.{AreGrouped, HasGroup}, Parts.{bounds_of, cells_of, moved_in}, StoredColumns.{IsWhole, parts_of}}
+use Rattle.mpslp_builder_parts.specs.{Grouping.{AreGrouped, HasGroup}, Parts.{bounds_of, cells_of, moved_in}}
+use Rattle.mpslp_builder_parts.specs.StoredColumns.{IsWhole, parts_of}
 use Rattle.mpslp_builder_parts.proofs.PassLemmas.{each_part-append, holds_first, holds_later, passed_on}
 use Rattle.mpslp_builder_parts.proofs.GroupLemmas.{place_within, place_apart}
 use Rattle.mpslp_builder_parts.proofs.RunLemmas.{group_moved, spans-short, drop-later, all_covered, are_grouped, within-next}
@@ -28,15 +29,16 @@ at_places-requires-clause-apart c i j before below same =
 pub renumbered-cells-requires : goal.renumbered-cells-requires
 renumbered-cells-requires c =
     let parts = c.into_parts-cells.ensures in
-    all_covered (λ cell. cell.0 < length c.args.ranks.now) c.args.log c.at_places.result.items c.args.columns.entries 0 c.in_ok-places.ends.items
-    (are_grouped c.args.log c.requires.log c.args.columns.entries _ c.at_places.result.items _ c.in_ok-places.places.items
-    c.in_ok-places.ends.items parts.cells parts.links c.in_ok-places.ensures c.at_places.ensures.len c.at_places.ensures.moved)
-    c.requires.known c.requires.within
+    all_covered (λ cell. cell.0 < length c.args.ranks.now) c.args.log c.at_places.result.items c.args.columns.entries 0
+    c.in_ok-places.ends.items (are_grouped c.args.log c.requires.log c.args.columns.entries _
+    c.at_places.result.items _ c.in_ok-places.places.items c.in_ok-places.ends.items parts.cells parts.links
+    c.in_ok-places.ensures c.at_places.ensures.len c.at_places.ensures.moved) c.requires.known c.requires.within
 
 pub loop-name-init : goal.loop-name-init
 loop-name-init c =
     let log = c.args.log in
-    let same : c.into_iter-name-iterator.result ≡ c.args.columns.entries = search (rules, c.into_iter-name-iterator.ensures.into_iter_gives) in
+    let same : c.into_iter-name-iterator.result ≡ c.args.columns.entries =
+    search (rules, c.into_iter-name-iterator.ensures.into_iter_gives) in
     let none = c.in_ok-made.ensures.items in
     let f : ℕ × Number → ℕ × Number = λ cell. (slice_index c.args.ranks.now cell.0, cell.1) in
     let parts = c.into_parts-cells.ensures in
@@ -45,21 +47,23 @@ loop-name-init c =
     let ends = c.in_ok-places.ensures.ends_len in
     record {
       bounds = λ i. each_part span_bounds (none i) ++ each_part bounds_of (each_part (parts_of log) (same i));
-      cells = λ i. each_part (span_cells c.renumbered-cells.result.items) (none i) ++ each_part (moved_in c.args.ranks.now) (each_part (parts_of log) (same i));
+      cells = λ i. each_part (span_cells c.renumbered-cells.result.items) (none i) ++ each_part
+          (moved_in c.args.ranks.now) (each_part (parts_of log) (same i));
       places = subst (All (λ column. IsWithin 0 column.1)) (sym none) (λ k d below. absurd (omega (arith, below)));
       partly = record {
         all = grouped;
         len = ap length c.renumbered-cells.ensures ∙ length-map grouped f;
         rest = c.renumbered-cells.ensures;
         groups = subst (AreGrouped log grouped 0 c.in_ok-places.ends.items) (sym same)
-            (are_grouped log c.requires.log c.args.columns.entries _ grouped _ c.in_ok-places.places.items c.in_ok-places.ends.items parts.cells
-            parts.links c.in_ok-places.ensures c.at_places.ensures.len c.at_places.ensures.moved);
+            (are_grouped log c.requires.log c.args.columns.entries _ grouped _ c.in_ok-places.places.items
+            c.in_ok-places.ends.items parts.cells parts.links c.in_ok-places.ensures c.at_places.ensures.len
+            c.at_places.ensures.moved);
         room = omega arith;
         whole = omega (arith, long, ends);
       };
       known = subst (All (λ column. IsWhole log column.1)) (sym same) c.requires.known;
-      within = subst (λ es. All (λ column. All (λ cell. cell.0 < length c.args.ranks.now) (cells_of column.1)) (each_part (parts_of log) es)) (sym same)
-          c.requires.within;
+      within = subst (λ es. All (λ column. All (λ cell. cell.0 < length c.args.ranks.now) (cells_of column.1))
+          (each_part (parts_of log) es)) (sym same) c.requires.within;
     }
 
 pub loop-name-preserved : goal.loop-name-preserved
@@ -99,9 +103,11 @@ loop-name-preserved c =
     let whole = holds_first (λ column. IsWhole log column.1) c.loop-name.name-iterator c.next.new.self (c.in-Some.name, column)
     c.in-Some.ensures.steps before.known in
     let own = group_moved log ranks c.requires.apart partly.all start end column.last kept group whole.once
-    (all_logged few log column whole (holds_first (λ column. All few (cells_of column.1)) (each_part (parts_of log) c.loop-name.name-iterator) left
+    (all_logged few log column whole
+    (holds_first (λ column. All few (cells_of column.1)) (each_part (parts_of log) c.loop-name.name-iterator) left
     (c.in-Some.name, parts) steps before.within)) cells grouped after partly.rest nonzero.kept sorted.permutation sorted.sorted in
-    let here : span_cells after span ≡ moved = (λ i. span_cells after (record span { start = places.start i; end = places.end i })) ∙ own in
+    let here : span_cells after span ≡ moved =
+    (λ i. span_cells after (record span { start = places.start i; end = places.end i })) ∙ own in
     record {
       bounds = passed_on (each_part span_bounds made) (each_part span_bounds c.push.new.self.items) (each_part bounds_of left)
           (each_part bounds_of all) (c.in-Some.name, bounds_of parts)
@@ -110,22 +116,26 @@ loop-name-preserved c =
           (ap (λ columns. each_part span_bounds made ++ each_part bounds_of columns) (sym steps) ∙ before.bounds);
       cells = passed_on (each_part (span_cells cells) made) (each_part (span_cells after) c.push.new.self.items)
           (each_part (moved_in ranks) left) (each_part (moved_in ranks) all) (c.in-Some.name, moved)
-          (ap (each_part (span_cells after)) c.in_ok-push.ensures.items ∙ each_part-append (span_cells after) made c.in-Some.name span
-          ∙ (λ i. spans-short after cells start (sorted.before ∙ nonzero.before) made before.places i ++ (c.in-Some.name, here i) ∷ []))
-          (ap (λ columns. each_part (span_cells cells) made ++ each_part (moved_in ranks) columns) (sym steps) ∙ before.cells);
+          (ap (each_part (span_cells after)) c.in_ok-push.ensures.items ∙ each_part-append (span_cells after) made
+          c.in-Some.name span ∙ (λ i. spans-short after cells start (sorted.before ∙ nonzero.before) made
+          before.places i ++ (c.in-Some.name, here i) ∷ []))
+          (ap (λ columns. each_part (span_cells cells) made ++ each_part (moved_in ranks) columns)
+          (sym steps) ∙ before.cells);
       places = within-next start kept end made c.push.new.self.items (c.in-Some.name, span) nonzero.within.0 nonzero.within.1
           c.in_ok-push.ensures.items places.start places.end before.places;
       partly = record {
         all = partly.all;
         len = sorted.len ∙ nonzero.len ∙ partly.len;
         rest = drop-later after grouped kept end sorted.after nonzero.within.1 ∙ nonzero.after
-            ∙ drop-later cells (map (λ (cell : ℕ × Number). (slice_index ranks cell.0, cell.1)) partly.all) start end partly.rest order;
-        groups = subst (λ (s : ℕ × List ℕ). AreGrouped log partly.all s.0 s.1 c.next.new.self) (λ i. (end_is i, drop-drop 1 number ends i)) first.1;
+            ∙ drop-later cells (map (λ (cell : ℕ × Number). (slice_index ranks cell.0, cell.1)) partly.all) start end
+            partly.rest order;
+        groups = subst (λ (s : ℕ × List ℕ). AreGrouped log partly.all s.0 s.1 c.next.new.self)
+            (λ i. (end_is i, drop-drop 1 number ends i)) first.1;
         room = group.room;
         whole = omega (arith, long, as_many);
       };
       known = holds_later (λ column. IsWhole log column.1) c.loop-name.name-iterator c.next.new.self (c.in-Some.name, column)
           c.in-Some.ensures.steps before.known;
-      within = holds_later (λ column. All few (cells_of column.1)) (each_part (parts_of log) c.loop-name.name-iterator) left (c.in-Some.name, parts)
-          steps before.within;
+      within = holds_later (λ column. All few (cells_of column.1)) (each_part (parts_of log) c.loop-name.name-iterator)
+          left (c.in-Some.name, parts) steps before.within;
     }

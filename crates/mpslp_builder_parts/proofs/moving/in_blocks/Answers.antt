@@ -5,19 +5,24 @@ use Rattle.mpslp_builder_parts.proofs.SwapLemmas.{none_swapped, first_held, held
 use Rattle.mpslp_builder_parts.proofs.moving.in_blocks.Goals as goal
 
 pub returns-then-not-need_blocks : goal.returns-then-not-need_blocks
-returns-then-not-need_blocks c = none_swapped c.args.cells.items c.args.places.items c.requires.len c.requires.within c.requires.apart
+returns-then-not-need_blocks c = none_swapped c.args.cells.items c.args.places.items c.requires.len c.requires.within
+    c.requires.apart
 
 pub loop-block-2-init : goal.loop-block-2-init
 loop-block-2-init c = none_swapped c.args.cells.items c.args.places.items c.requires.len c.requires.within c.requires.apart
 
 pub loop-init : goal.loop-init
 loop-init c = (
-  (let inside = c.loop-at-test.true in let least = c.min-end.ensures in let len = c.len-count.ensures in grind (arith, inside, least, len)),
-  subst (λ v. AreSwapped c.args.cells.items c.args.places.items 0 v (set c.loop-at.places.items c.loop-at.at c.index-place.result.now))
-      (sym (first_held c.loop-at.cells.items c.loop-at.at c.replace-held.new.dest c.replace-held.result (grind (arith, c.replace-held.ensures.value, c.index_mut.ensures.value))))
+  (let inside = c.loop-at-test.true in
+      let least = c.min-end.ensures in
+      let len = c.len-count.ensures in grind (arith, inside, least, len)),
+  subst (λ v. AreSwapped c.args.cells.items c.args.places.items 0 v
+      (set c.loop-at.places.items c.loop-at.at c.index-place.result.now))
+      (sym (first_held c.loop-at.cells.items c.loop-at.at c.replace-held.new.dest c.replace-held.result
+      (grind (arith, c.replace-held.ensures.value, c.index_mut.ensures.value))))
       (subst (λ v. AreSwapped c.args.cells.items c.args.places.items 0 c.loop-at.cells.items v)
-      (sym (ap (set c.loop-at.places.items c.loop-at.at) c.index-place.ensures ∙ set-get_or c.loop-at.places.items c.loop-at.at c.index-place.result.now))
-      c.loop-at.invariant),
+      (sym (ap (set c.loop-at.places.items c.loop-at.at) c.index-place.ensures ∙ set-get_or c.loop-at.places.items
+      c.loop-at.at c.index-place.result.now)) c.loop-at.invariant),
 )
 
 pub loop-preserved : goal.loop-preserved
@@ -38,4 +43,5 @@ loop-preserved c = (
     head = get_or c.loop.heads c.min-own.result 0
 
     below : head < length c.args.cells.items
-    below = let room = c.if-head-count.false in let len = c.len-count.ensures in omega (arith, room, len)
+    below = let room = c.if-head-count.false in
+        let len = c.len-count.ensures in omega (arith, room, len)

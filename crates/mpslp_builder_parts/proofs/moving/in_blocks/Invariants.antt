@@ -9,4 +9,5 @@ abbrev pub invariant-loop-at : goal.invariant-loop-at
 invariant-loop-at l = AreSwapped l.fn.cells.items l.fn.places.items 0 l.cells.items l.places.items
 
 abbrev pub invariant-loop : goal.invariant-loop
-invariant-loop l = (l.at < length l.fn.cells.items) × AreSwapped l.fn.cells.items l.fn.places.items 0 (set l.cells.items l.at l.held) (set l.places.items l.at l.place)
+invariant-loop l = (l.at < length l.fn.cells.items) × AreSwapped l.fn.cells.items l.fn.places.items 0
+    (set l.cells.items l.at l.held) (set l.places.items l.at l.place)

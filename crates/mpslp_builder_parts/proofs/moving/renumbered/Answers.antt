@@ -5,7 +5,8 @@ use Rattle.mpslp_builder_parts.proofs.moving.renumbered.Goals as goal
 
 -- the item at the next index gets its new value
 step : {X : Type 0} (f : X → X) (xs : List X) (i : ℕ) (d : X) → i < length xs
-    → set (map f (take i xs) ++ drop i xs) i (f (get_or (map f (take i xs) ++ drop i xs) i d)) ≡ map f (take (suc i) xs) ++ drop (suc i) xs
+    → set (map f (take i xs) ++ drop i xs) i (f (get_or (map f (take i xs) ++ drop i xs) i d)) ≡ map f
+    (take (suc i) xs) ++ drop (suc i) xs
 step f [] i d h = absurd (omega arith)
 step f (x ∷ xs) zero d h = refl
 step f (x ∷ xs) (suc i) d h = ap (◌∷◌ (f x)) (step f xs i d (omega arith))

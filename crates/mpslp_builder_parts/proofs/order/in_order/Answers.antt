@@ -9,8 +9,10 @@ loop-place-init g c =
     let order = c.args.order.now in
     let count : c.len.result ≡ length all = omega (arith, c.len.ensures) in
     let count_again : c.len-2.result ≡ length all = omega (arith, c.len-2.ensures) in
-    let numbers : c.in_ok-numbers.numbers.items ≡ range_with_len 0 (length all) = c.in_ok-numbers.ensures ∙ ap (range_with_len 0) count in
-    let places : c.in_ok-places.places.items ≡ range_with_len 0 (length all) = c.in_ok-places.ensures ∙ ap (range_with_len 0) count_again in
+    let numbers : c.in_ok-numbers.numbers.items ≡ range_with_len 0 (length all) =
+    c.in_ok-numbers.ensures ∙ ap (range_with_len 0) count in
+    let places : c.in_ok-places.places.items ≡ range_with_len 0 (length all) =
+    c.in_ok-places.ensures ∙ ap (range_with_len 0) count_again in
     subst (λ (ns : List ℕ). AreMoved all order 0 all ns c.in_ok-places.places.items) (sym numbers)
     (subst (λ (ps : List ℕ). AreMoved all order 0 all (range_with_len 0 (length all)) ps) (sym places) (none_moved all order))
 
@@ -24,8 +26,8 @@ index_mut-requires-in-loop-place g c =
     let before = c.loop-place.invariant in
     let below : place < length all = next_below all order c.requires.within c.requires.apart place c.loop-place-test.true
     c.loop-place.items.items numbers places before in
-    let number = next_numbered all order c.requires.within c.requires.apart place c.loop-place-test.true c.loop-place.items.items numbers
-    places before in
+    let number = next_numbered all order c.requires.within c.requires.apart place c.loop-place-test.true
+    c.loop-place.items.items numbers places before in
     let moved_is : c.index-moved.result.now ≡ get_or numbers place 0 =
     get_or_read numbers place c.index-moved.result.now (omega (arith, below, before.numbers_len)) c.index-moved.ensures 0 in
     omega (arith, moved_is, number.below, before.places_len)
@@ -48,8 +50,8 @@ loop-place-preserved g c =
     get_or_read numbers place c.index-moved.result.now (omega (arith, below, before.numbers_len)) c.index-moved.ensures 0 in
     let new_len : length c.swap.new.self.items ≡ length c.loop-place.items.items = ap length c.swap.ensures.items
     ∙ length-swap c.loop-place.items.items place c.index-from.result.now in
-    next_moved all order c.requires.within c.requires.apart place c.loop-place-test.true c.loop-place.items.items numbers places before
-    c.index-from.result.now c.index-moved.result.now c.swap.new.self.items
+    next_moved all order c.requires.within c.requires.apart place c.loop-place-test.true c.loop-place.items.items
+    numbers places before c.index-from.result.now c.index-moved.result.now c.swap.new.self.items
     from_is moved_is c.swap.ensures.by_index new_len
 
 pub returns : goal.returns

@@ -6,4 +6,5 @@ use Rattle.mpslp_builder_parts.proofs.order.is_in_order.Given as goal
 
 -- no name up to this one is below the one before it
 abbrev pub invariant-loop-number : goal.invariant-loop-number
-invariant-loop-number g l = (k : ℕ) → k + 1 < l.number → is_lt (bytes_cmp (name_at l.entries (k + 1)) (name_at l.entries k)) ≡ false
+invariant-loop-number g l = (k : ℕ) → k + 1 < l.number →
+    is_lt (bytes_cmp (name_at l.entries (k + 1)) (name_at l.entries k)) ≡ false

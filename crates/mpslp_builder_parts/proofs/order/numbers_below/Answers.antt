@@ -2,4 +2,5 @@ use Rattle.std.proofs.{Common.{arith, refl}, lemmas.Iterator.{YieldsList-from_ra
 use Rattle.mpslp_builder_parts.proofs.order.numbers_below.Goals as goal
 
 pub returns : goal.returns
-returns c = items_from_collect c.collect.result c.collect.ensures.ran (YieldsList-from_range 0 c.args.count c.args.count refl (omega arith))
+returns c = items_from_collect c.collect.result c.collect.ensures.ran
+    (YieldsList-from_range 0 c.args.count c.args.count refl (omega arith))

@@ -10,8 +10,8 @@ returns-clause-permutation g c =
     let all = range_with_len 0 (length c.args.entries.now) in
     if_ok c.numbers_of.result
     (λ order is. subst (IsPermutation all) (sym (is ∙ ap (λ (fs : List Front). map (λ f. f.number) fs) c.deref.ensures.value))
-    (numbers-permutation c.args.entries.now c.shared_len-shared.result all c.in_ok-fronts_of.field-0.items c.in_ok-fronts.fronts.items
-    c.in_ok-fronts_of.ensures.fronts c.in_ok-fronts.ensures.permutation))
+    (numbers-permutation c.args.entries.now c.shared_len-shared.result all c.in_ok-fronts_of.field-0.items
+    c.in_ok-fronts.fronts.items c.in_ok-fronts_of.ensures.fronts c.in_ok-fronts.ensures.permutation))
     c.numbers_of.ensures
 
 pub returns-clause-sorted : goal.returns-clause-sorted

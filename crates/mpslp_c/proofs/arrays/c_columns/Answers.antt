@@ -22,7 +22,13 @@ loop-j-preserved c =
     let pushed : c.push.new.self.items ≡ c.loop-j.columns.items ++ column ∷ [] = c.in_ok-push.ensures.items in
     record {
       count = omega (arith, ap length pushed, length_push c.loop-j.columns.items column);
-      elements = omega (arith, c.in_ok-put_elements.ensures.count, c.loop-j.invariant.elements, before_more m j (omega (arith, c.num_cols-j-end.ensures)));
+      elements = omega (
+        arith,
+        c.in_ok-put_elements.ensures.count,
+        c.loop-j.invariant.elements,
+        before_more m j
+            (omega (arith, c.num_cols-j-end.ensures)),
+      );
       keeps = keeps_then c.loop-j.invariant.keeps c.c_column.ensures.keeps;
       represents = subst (λ (columns : List MpslpColumn). RepresentsColumns m names elements columns) (sym pushed)
           (columns_more m c.loop-j.names.items names c.loop-j.elements.items elements c.loop-j.columns.items j column

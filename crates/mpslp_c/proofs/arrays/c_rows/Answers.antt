@@ -16,6 +16,6 @@ loop-i-preserved c =
       count = omega (arith, ap length pushed, length_push c.loop-i.rows.items c.in_ok-row.row);
       keeps = keeps_then c.loop-i.invariant.keeps c.c_row.ensures.keeps;
       represents = subst (λ (rows : List MpslpRow). RepresentsRows c.args.model.now names rows) (sym pushed)
-          (rows_more c.args.model.now c.loop-i.names.items names c.loop-i.rows.items c.loop-i.i c.in_ok-row.row c.loop-i.invariant.count
-          c.c_row.ensures.keeps c.loop-i.invariant.represents c.in_ok-row.ensures.represents);
+          (rows_more c.args.model.now c.loop-i.names.items names c.loop-i.rows.items c.loop-i.i c.in_ok-row.row
+          c.loop-i.invariant.count c.c_row.ensures.keeps c.loop-i.invariant.represents c.in_ok-row.ensures.represents);
     }

@@ -13,5 +13,6 @@ returns-in-Some c =
       number_is = refl;
       length_is = c.put_name.ensures.len ∙ ap length (sym named);
       name_is = c.put_name.ensures.bytes
-          ∙ (ap (λ rest. name ++ rest) (drop-replicate (length name) 256 0) ∙ ap (λ n. n ++ replicate (256 - length n) 0) (sym named));
+          ∙ (ap (λ rest. name ++ rest) (drop-replicate (length name) 256 0)
+          ∙ ap (λ n. n ++ replicate (256 - length n) 0) (sym named));
     }

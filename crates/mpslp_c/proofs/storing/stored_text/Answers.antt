@@ -15,7 +15,8 @@ returns-in-Ok-clause-cannot_express g c = λ m place defines found. let format =
     absurd (some_none (format.unfit m) place (ap format.unfit (sym same) ∙ c.in-Ok.ensures.0) found)
 
 pub returns-in-Err-NotLp-clause-answer : goal.returns-in-Err-NotLp-clause-answer
-returns-in-Err-NotLp-clause-answer g c = (c.in_ok-model.model, c.in_ok-model.ensures.answer, rw c.in-Err-NotLp.field-0-is at c.in-Err-NotLp.ensures)
+returns-in-Err-NotLp-clause-answer g c =
+    (c.in_ok-model.model, c.in_ok-model.ensures.answer, rw c.in-Err-NotLp.field-0-is at c.in-Err-NotLp.ensures)
 
 pub returns-in-Err-NotLp-clause-accepts : goal.returns-in-Err-NotLp-clause-accepts
 returns-in-Err-NotLp-clause-accepts g c = λ m defines fits. let format = g.B.Format in

@@ -22,7 +22,8 @@ pub returns-in-Mps-Lp-clause-refuses : goal.returns-in-Mps-Lp-clause-refuses
 returns-in-Mps-Lp-clause-refuses c = rw c.in-Mps-Lp.is-0 c.canonical_seeded-in-Mps-Lp.ensures.refuses
 
 pub returns-in-Mps-Lp-clause-cannot_express : goal.returns-in-Mps-Lp-clause-cannot_express
-returns-in-Mps-Lp-clause-cannot_express c = rw (c.in-Mps-Lp.is-0, c.in-Mps-Lp.is-1) c.canonical_seeded-in-Mps-Lp.ensures.cannot_express
+returns-in-Mps-Lp-clause-cannot_express c =
+    rw (c.in-Mps-Lp.is-0, c.in-Mps-Lp.is-1) c.canonical_seeded-in-Mps-Lp.ensures.cannot_express
 
 pub returns-in-Lp-Mps-clause-answer : goal.returns-in-Lp-Mps-clause-answer
 returns-in-Lp-Mps-clause-answer c = rw (c.in-Lp-Mps.is-0, c.in-Lp-Mps.is-1) c.canonical_seeded-in-Lp-Mps.ensures.answer
@@ -34,7 +35,8 @@ pub returns-in-Lp-Mps-clause-refuses : goal.returns-in-Lp-Mps-clause-refuses
 returns-in-Lp-Mps-clause-refuses c = rw c.in-Lp-Mps.is-0 c.canonical_seeded-in-Lp-Mps.ensures.refuses
 
 pub returns-in-Lp-Mps-clause-cannot_express : goal.returns-in-Lp-Mps-clause-cannot_express
-returns-in-Lp-Mps-clause-cannot_express c = rw (c.in-Lp-Mps.is-0, c.in-Lp-Mps.is-1) c.canonical_seeded-in-Lp-Mps.ensures.cannot_express
+returns-in-Lp-Mps-clause-cannot_express c =
+    rw (c.in-Lp-Mps.is-0, c.in-Lp-Mps.is-1) c.canonical_seeded-in-Lp-Mps.ensures.cannot_express
 
 pub returns-in-Lp-Lp-clause-answer : goal.returns-in-Lp-Lp-clause-answer
 returns-in-Lp-Lp-clause-answer c = rw (c.in-Lp-Lp.is-0, c.in-Lp-Lp.is-1) c.canonical_seeded-in-Lp-Lp.ensures.answer
@@ -46,4 +48,5 @@ pub returns-in-Lp-Lp-clause-refuses : goal.returns-in-Lp-Lp-clause-refuses
 returns-in-Lp-Lp-clause-refuses c = rw c.in-Lp-Lp.is-0 c.canonical_seeded-in-Lp-Lp.ensures.refuses
 
 pub returns-in-Lp-Lp-clause-cannot_express : goal.returns-in-Lp-Lp-clause-cannot_express
-returns-in-Lp-Lp-clause-cannot_express c = rw (c.in-Lp-Lp.is-0, c.in-Lp-Lp.is-1) c.canonical_seeded-in-Lp-Lp.ensures.cannot_express
+returns-in-Lp-Lp-clause-cannot_express c =
+    rw (c.in-Lp-Lp.is-0, c.in-Lp-Lp.is-1) c.canonical_seeded-in-Lp-Lp.ensures.cannot_express

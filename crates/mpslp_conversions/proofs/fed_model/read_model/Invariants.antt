@@ -7,7 +7,8 @@ invariant-reads g l =
     let device = g.R.Source in
     let reader = g.A.Reader.ModelReader in
     record {
-      feeding : Feeding device.left device.count reader.after reader.early_fault l.fn.source l.source l.reader l.fault l.room l.max_bytes;
+      feeding : Feeding device.left device.count reader.after reader.early_fault l.fn.source l.source l.reader l.fault
+          l.room l.max_bytes;
       full : length l.buffer ≡ PIECE;
       stays : device.failed l.fn.source ≡ true → device.failed l.source ≡ true;
     }

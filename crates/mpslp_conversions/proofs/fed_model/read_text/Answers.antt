@@ -6,8 +6,8 @@ pub returns-in-Ok-clause-answer : goal.returns-in-Ok-clause-answer
 returns-in-Ok-clause-answer g c =
     let read = c.in-Ok.ensures.answer in
     let limit = c.min-limit.ensures in
-    text-of g.A.Format.declares g.A.Format.first_fault _ _ _ c.min-limit.result c.args.max_bytes c.args.alloc read.0 (Ok c.in-Ok.model)
-    (omega (arith, limit, min-le_left c.args.max_bytes 9223372036854775807))
+    text-of g.A.Format.declares g.A.Format.first_fault _ _ _ c.min-limit.result c.args.max_bytes c.args.alloc read.0
+    (Ok c.in-Ok.model) (omega (arith, limit, min-le_left c.args.max_bytes 9223372036854775807))
     (omega (arith, limit, min-le_right c.args.max_bytes 9223372036854775807)) read.1 read.2
 
 pub returns-in-Err-File-clause-answer : goal.returns-in-Err-File-clause-answer

@@ -17,13 +17,13 @@ returns g c =
     puts_same ((λ i. line_of (codes "column")
     (decimal j ∷ name i ∷ kind i ∷ limit_text lower ∷ limit_text upper ∷ codes "objective" ∷ number_text value ∷ [])
     ++ entries_text m j (column_name m j))
-    ∙ column-seen m j _ _ lower upper value c.column_name.ensures c.column_kind.ensures c.col_lower-lower.ensures c.col_upper-upper.ensures
-    c.objective_coefficient.ensures)
+    ∙ column-seen m j _ _ lower upper value c.column_name.ensures c.column_kind.ensures c.col_lower-lower.ensures
+    c.col_upper-upper.ensures c.objective_coefficient.ensures)
     (puts_then
     (puts_then c.put.ensures
     (puts_then c.put_shown_count.ensures
     (puts_then c.put_shown_word.ensures
     (puts_then c.put_shown_word-2.ensures
     (puts_then c.put_shown_limit.ensures
-    (puts_then c.put_shown_limit-2.ensures (puts_then c.put-2.ensures (puts_then c.put_shown_number.ensures c.put-3.ensures))))))))
-    c.put_entries.ensures)
+    (puts_then c.put_shown_limit-2.ensures
+    (puts_then c.put-2.ensures (puts_then c.put_shown_number.ensures c.put-3.ensures)))))))) c.put_entries.ensures)

@@ -7,5 +7,5 @@ pub returns : goal.returns
 returns g c =
     let columns = entries c.args.model.now.columns in
     puts_each (column_text c.args.model.now) (enumerate_from 0 columns)
-    (λ n within. all-numbered (column_text c.args.model.now) columns n (omega (arith, within))) (λ i within x y call. search rules)
-    c.put_each.ensures
+    (λ n within. all-numbered (column_text c.args.model.now) columns n (omega (arith, within)))
+    (λ i within x y call. search rules) c.put_each.ensures

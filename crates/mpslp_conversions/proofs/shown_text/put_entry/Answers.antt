@@ -8,4 +8,5 @@ pub returns : goal.returns
 returns g c =
     puts_same (ap (λ (o : Option (Option ℕ × Number)). option_map_or (entry_text c.args.j) o []) (sym c.entry-i.ensures))
     (puts_then c.put.ensures
-    (puts_then c.put_shown_count.ensures (puts_then c.put_shown_count-2.ensures (puts_then c.put_shown_number.ensures c.put-2.ensures))))
+    (puts_then c.put_shown_count.ensures
+    (puts_then c.put_shown_count-2.ensures (puts_then c.put_shown_number.ensures c.put-2.ensures))))

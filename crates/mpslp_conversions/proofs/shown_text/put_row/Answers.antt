@@ -15,8 +15,8 @@ returns g c =
     puts_same ((λ i. line_of (codes "row")
     (decimal c.args.i ∷ name i ∷ letter i ∷ limit_text lower ∷ limit_text upper ∷ codes "rhs" ∷ number_text rhs ∷ codes "range"
     ∷ number_text range ∷ []))
-    ∙ row-seen c.args.model.now c.args.i _ _ lower upper rhs range c.row_name.ensures c.row_sense-letter.ensures c.row_lower-lower.ensures
-    c.row_upper-upper.ensures
+    ∙ row-seen c.args.model.now c.args.i _ _ lower upper rhs range c.row_name.ensures c.row_sense-letter.ensures
+    c.row_lower-lower.ensures c.row_upper-upper.ensures
     c.right_hand_side.ensures c.row_range.ensures)
     (puts_then c.put.ensures
     (puts_then c.put_shown_count.ensures
@@ -25,4 +25,5 @@ returns g c =
     (puts_then c.put_shown_limit.ensures
     (puts_then c.put_shown_limit-2.ensures
     (puts_then c.put-2.ensures
-    (puts_then c.put_shown_number.ensures (puts_then c.put-3.ensures (puts_then c.put_shown_number-2.ensures c.put-4.ensures))))))))))
+    (puts_then c.put_shown_number.ensures
+    (puts_then c.put-3.ensures (puts_then c.put_shown_number-2.ensures c.put-4.ensures))))))))))

@@ -13,8 +13,8 @@ overflow_add-number c =
 pub loop-bytes-preserved : goal.loop-bytes-preserved
 loop-bytes-preserved c =
     let long : length c.in-Some.bytes.now ≡ 8 = search rules in
-    let left = several-appended c.loop-bytes.number 8 c.loop-bytes.rest.now _ _ c.in-Some.ensures.cases.0 c.in-Some.ensures.cases.1 long
-    c.in-Some-eight_digits.ensures.0 in
+    let left = several-appended c.loop-bytes.number 8 c.loop-bytes.rest.now _ _ c.in-Some.ensures.cases.0
+    c.in-Some.ensures.cases.1 long c.in-Some-eight_digits.ensures.0 in
     then-left _ _ _ _ _ _ c.loop-bytes.invariant
-    (subst (λ eight. IsLeft c.loop-bytes.number c.loop-bytes.rest.now (c.loop-bytes.number * 100000000 + eight) c.in-Some.more.now)
-    (sym c.in-Some-eight_digits.ensures.1) left)
+    (subst (λ eight. IsLeft c.loop-bytes.number c.loop-bytes.rest.now (c.loop-bytes.number * 100000000 + eight)
+    c.in-Some.more.now) (sym c.in-Some-eight_digits.ensures.1) left)

@@ -3,12 +3,13 @@ use Rattle.mpslp_decimal.proofs.SpellsLemmas.{digit-after, many-digit, one-more-
 use Rattle.mpslp_decimal.proofs.literal.long_followed_by.Goals as goal
 
 pub returns-then-digit-eq0-clause-value : goal.returns-then-digit-eq0-clause-value
-returns-then-digit-eq0-clause-value c = λ n is. (zero-after n c.args.mantissa c.args.zeros c.args.digit is.0 c.if-digit-eq0.true, is.1)
+returns-then-digit-eq0-clause-value c =
+    λ n is. (zero-after n c.args.mantissa c.args.zeros c.args.digit is.0 c.if-digit-eq0.true, is.1)
 
 pub returns-then-shifted-ge-LONG_ROOM-clause-value : goal.returns-then-shifted-ge-LONG_ROOM-clause-value
 returns-then-shifted-ge-LONG_ROOM-clause-value c = λ n is.
-    many-digit n c.args.mantissa c.args.zeros c.loop-place._place c.loop-place.shifted c.args.digit is.0 c.loop-place.invariant.value
-    (omega arith)
+    many-digit n c.args.mantissa c.args.zeros c.loop-place._place c.loop-place.shifted c.args.digit is.0
+    c.loop-place.invariant.value (omega arith)
     c.if-shifted-ge-LONG_ROOM.true (omega arith) c.requires.digit
 
 pub overflow_add-result-2 : goal.overflow_add-result-2

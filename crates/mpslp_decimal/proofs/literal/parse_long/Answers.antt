@@ -10,14 +10,14 @@ returns-in_default-parts c =
 pub returns-then-mantissa-eq0 : goal.returns-then-mantissa-eq0
 returns-then-mantissa-eq0 c =
     ap Ok c.zero.ensures
-    ∙ number-zero c.in-Some.scan c.args.text.now c.in-Some-parts.mantissa c.in-Some-parts.zeros c.in-Some.ensures (sym c.parts.ensures
-    ∙ c.in-Some-parts.is)
+    ∙ number-zero c.in-Some.scan c.args.text.now c.in-Some-parts.mantissa c.in-Some-parts.zeros c.in-Some.ensures
+    (sym c.parts.ensures ∙ c.in-Some-parts.is)
     c.if-mantissa-eq0.true c.if-text-gt-MAX_LITERAL_LEN.false
 
 pub normal_exponent-exponent-requires-clause-zeros : goal.normal_exponent-exponent-requires-clause-zeros
 normal_exponent-exponent-requires-clause-zeros c =
-    scan-zeros c.in-Some.scan c.args.text.now c.in-Some-parts.mantissa c.in-Some-parts.zeros c.in-Some.ensures (sym c.parts.ensures
-    ∙ c.in-Some-parts.is) c.if-text-gt-MAX_LITERAL_LEN.false
+    scan-zeros c.in-Some.scan c.args.text.now c.in-Some-parts.mantissa c.in-Some-parts.zeros c.in-Some.ensures
+    (sym c.parts.ensures ∙ c.in-Some-parts.is) c.if-text-gt-MAX_LITERAL_LEN.false
 
 pub in_range-requires-clause-ends : goal.in_range-requires-clause-ends
 in_range-requires-clause-ends c =
@@ -37,4 +37,5 @@ returns c =
     ∙ number-few c.in-Some.scan c.args.text.now c.in-Some-parts.mantissa c.in-Some-parts.zeros
     (to_z w32 (of_z w32 c.normal_exponent-exponent.result)) c.in-Some.ensures
     (sym c.parts.ensures ∙ c.in-Some-parts.is) c.if-mantissa-eq0.false c.if-text-gt-MAX_LITERAL_LEN.false
-    (passed ∙ c.normal_exponent-exponent.ensures ∙ ap (λ (e : ℤ). (e +ℤ pos c.in-Some-parts.zeros) -ℤ pos c.in-Some.scan.places) scanned)
+    (passed ∙ c.normal_exponent-exponent.ensures
+    ∙ ap (λ (e : ℤ). (e +ℤ pos c.in-Some-parts.zeros) -ℤ pos c.in-Some.scan.places) scanned)

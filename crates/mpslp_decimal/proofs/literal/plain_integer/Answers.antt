@@ -9,5 +9,6 @@ returns-clause-value c =
     let small : c.in_ok-size.size < 2 ^ 64 = search rules in
     plain-number c.args.text.now unsigned c.in_ok-size.rest.now c.split_sign-is_negative.result.0 c.in_ok-size.size
     c.split_sign-is_negative.ensures.minus c.split_sign-is_negative.ensures.rest c.in_ok-size.ensures.rest none
-    (only-number unsigned c.in_ok-size.size c.in_ok-size.ensures.number (no-fraction unsigned c.in_ok-size.rest.now c.in_ok-size.ensures.rest none))
-    (omega arith) (omega (arith, small)) (omega (arith, c.if-text-gt-PLAIN_LEN.false))
+    (only-number unsigned c.in_ok-size.size c.in_ok-size.ensures.number
+    (no-fraction unsigned c.in_ok-size.rest.now c.in_ok-size.ensures.rest none)) (omega arith)
+    (omega (arith, small)) (omega (arith, c.if-text-gt-PLAIN_LEN.false))

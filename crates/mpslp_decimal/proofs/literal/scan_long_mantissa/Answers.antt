@@ -20,7 +20,8 @@ pub returns-in-46-clause-zeros_within : goal.returns-in-46-clause-zeros_within
 returns-in-46-clause-zeros_within c =
     zeros-after c.args.text.now c.scan_digits-whole.result.1.now (zeros_of c.scan_digits-whole.result.0)
     (zeros_of c.scan_digits-significand.result.0)
-    c.scan_digits-whole.ensures.rest c.in-46.len_at_least c.scan_digits-whole.ensures.zeros c.scan_digits-significand.ensures.zeros
+    c.scan_digits-whole.ensures.rest c.in-46.len_at_least c.scan_digits-whole.ensures.zeros
+    c.scan_digits-significand.ensures.zeros
 
 pub returns-in_default-clause-zeros_within : goal.returns-in_default-clause-zeros_within
 returns-in_default-clause-zeros_within c =

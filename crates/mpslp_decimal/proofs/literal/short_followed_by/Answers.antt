@@ -3,7 +3,8 @@ use Rattle.mpslp_decimal.proofs.SpellsLemmas.{digit-after, one-more-zero, zero-a
 use Rattle.mpslp_decimal.proofs.literal.short_followed_by.Goals as goal
 
 pub returns-then-digit-eq0-clause-value : goal.returns-then-digit-eq0-clause-value
-returns-then-digit-eq0-clause-value c = λ n is. (zero-after n c.args.mantissa c.args.zeros c.args.digit is.0 c.if-digit-eq0.true, is.1)
+returns-then-digit-eq0-clause-value c =
+    λ n is. (zero-after n c.args.mantissa c.args.zeros c.args.digit is.0 c.if-digit-eq0.true, is.1)
 
 pub returns-clause-value : goal.returns-clause-value
 returns-clause-value c = λ n is.

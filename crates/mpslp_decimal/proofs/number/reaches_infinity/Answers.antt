@@ -11,14 +11,16 @@ returns-then-exponent c = infinite-small c.args.units c.args.exponent c.requires
 pub power_of_ten-requires : goal.power_of_ten-requires
 power_of_ten-requires c =
     let passed : to_z w32 (of_z w32 c.args.exponent) ≡ c.args.exponent = search rules in
-    let places : to_z w32 (of_z w32 (pos 20 -ℤ to_z w32 (of_z w32 c.args.exponent))) ≡ pos 20 -ℤ to_z w32 (of_z w32 c.args.exponent) =
+    let places : to_z w32 (of_z w32 (pos 20 -ℤ to_z w32 (of_z w32 c.args.exponent))) ≡ pos 20 -ℤ to_z w32
+    (of_z w32 c.args.exponent) =
     search rules in
     power-small _ c.args.exponent (places ∙ ap (λ (e : ℤ). pos 20 -ℤ e) passed) (search rules) (search rules)
 
 pub returns : goal.returns
 returns c =
     let passed : to_z w32 (of_z w32 c.args.exponent) ≡ c.args.exponent = search rules in
-    let places : to_z w32 (of_z w32 (pos 20 -ℤ to_z w32 (of_z w32 c.args.exponent))) ≡ pos 20 -ℤ to_z w32 (of_z w32 c.args.exponent) =
+    let places : to_z w32 (of_z w32 (pos 20 -ℤ to_z w32 (of_z w32 c.args.exponent))) ≡ pos 20 -ℤ to_z w32
+    (of_z w32 c.args.exponent) =
     search rules in
     infinite-between c.args.units c.args.exponent _ c.power_of_ten.result c.power_of_ten.ensures (places
     ∙ ap (λ (e : ℤ). pos 20 -ℤ e) passed) (search rules) (search rules)

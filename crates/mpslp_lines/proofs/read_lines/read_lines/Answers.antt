@@ -20,18 +20,19 @@ returns-in-Err g c =
     let before = c.loop-line in
     refuses-next r.has_read r.lines_fault g.met.L.ReadLines.fault_stays c.args.reader.now before.reader
     (lines c.args.part.now) (lines before.rest.now) (lines c.in-Some.more.now)
-    c.in-Some.line.now c.read_fault.result before.invariant.passed c.in-Some.ensures.line (c.in-Err.ensures c.read_fault.result c.read_fault.ensures)
+    c.in-Some.line.now c.read_fault.result before.invariant.passed c.in-Some.ensures.line
+    (c.in-Err.ensures c.read_fault.result c.read_fault.ensures)
 
 pub returns-then-is_at_end : goal.returns-then-is_at_end
 returns-then-is_at_end g c =
     let r = g.L.ReadLines in
     let before = c.loop-line in
     let all = lines c.args.part.now in
-    let read = passed-line r.has_read r.lines_fault c.args.reader.now before.reader c.read_line.new.self all (lines before.rest.now)
-    (lines c.in-Some.more.now) c.in-Some.line.now
+    let read = passed-line r.has_read r.lines_fault c.args.reader.now before.reader c.read_line.new.self all
+    (lines before.rest.now) (lines c.in-Some.more.now) c.in-Some.line.now
     before.invariant.passed c.in-Some.ensures.line c.in-Ok.ensures in
-    passed-end r.has_read r.at_end g.met.L.ReadLines.after_end c.args.reader.now c.read_line.new.self all (lines c.in-Some.more.now) read
-    (sym c.is_at_end.ensures ∙ c.if-is_at_end.true)
+    passed-end r.has_read r.at_end g.met.L.ReadLines.after_end c.args.reader.now c.read_line.new.self all
+    (lines c.in-Some.more.now) read (sym c.is_at_end.ensures ∙ c.if-is_at_end.true)
 
 pub loop-line-preserved : goal.loop-line-preserved
 loop-line-preserved g c =
@@ -48,5 +49,5 @@ pub returns : goal.returns
 returns g c =
     let r = g.L.ReadLines in
     let before = c.loop-line in
-    passed-all r.has_read r.lines_fault c.args.reader.now before.reader (lines c.args.part.now) (lines before.rest.now) before.invariant.passed
-    c.in_default.ensures.line
+    passed-all r.has_read r.lines_fault c.args.reader.now before.reader (lines c.args.part.now) (lines before.rest.now)
+    before.invariant.passed c.in_default.ensures.line

@@ -6,7 +6,8 @@ use Rattle.mpslp_lp.proofs.plain_terms.take_objective_terms.Given as goal
 -- the result depends on the tokens that are left
 abbrev pub invariant-terms : goal.invariant-terms
 invariant-terms l = record {
-  left : take_tokens l.context (Between (InObjective l.objective)) l.tokens ≡ take_tokens l.fn.context (Between (InObjective l.objective)) l.fn.tokens;
+  left : take_tokens l.context (Between (InObjective l.objective)) l.tokens ≡ take_tokens l.fn.context
+      (Between (InObjective l.objective)) l.fn.tokens;
   fewer : length l.tokens ≤ length l.fn.tokens;
 }
 

@@ -5,7 +5,8 @@ use Rattle.mpslp_lp.proofs.plain_tokens.limit_from.Goals as goal
 
 signed : (found after more : List Token) (sign : Sign) (result : Option Limit) → Begins found (Terminal.Sign sign) after
     → IfSome result (λ limit. BeginsWithLimit after sign limit more) → IfSome result (λ limit. BeginsWithSide found limit more)
-signed found after more sign (Some limit) begins ends = record { sign = sign; after_sign = after; signed = inl begins; ends = ends }
+signed found after more sign (Some limit) begins ends =
+    record { sign = sign; after_sign = after; signed = inl begins; ends = ends }
 signed found after more sign None begins ends = tt
 
 pub returns-in-Sign : goal.returns-in-Sign

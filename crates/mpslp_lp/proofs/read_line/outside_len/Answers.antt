@@ -4,7 +4,8 @@ use Rattle.std.proofs.{Common.{not}, lemmas.List.Sums.{prefix_len_is}}
 use Rattle.mpslp_lp.proofs.read_line.outside_len.Goals as goal
 
 other : (byte : ℕ) → (begins_comment byte ≡ true → ⊥) → not (begins_comment byte) ≡ true
-other byte never = elim (begins_comment byte) as (λ b. begins_comment byte ≡ b → not b ≡ true) [ true ↦ λ e. absurd (never e) | false ↦ λ e. refl ] refl
+other byte never = elim (begins_comment byte) as (λ b. begins_comment byte ≡ b →
+    not b ≡ true) [ true ↦ λ e. absurd (never e) | false ↦ λ e. refl ] refl
 
 pub returns-in-Some-clause-count : goal.returns-in-Some-clause-count
 returns-in-Some-clause-count c = let line = c.args.line.now in

@@ -6,4 +6,5 @@ returns-in-Ok c = line-taken _ _ _ _ _ (sym c.has_legal_length.ensures ∙ c.if-
 
 pub returns-in-Err : goal.returns-in-Err
 returns-in-Err c =
-    line-refused _ _ _ _ _ _ (sym c.has_legal_length.ensures ∙ c.if-not-has_legal_length.false) c.in-Err.ensures c.error_of_line.ensures
+    line-refused _ _ _ _ _ _ (sym c.has_legal_length.ensures ∙ c.if-not-has_legal_length.false) c.in-Err.ensures
+    c.error_of_line.ensures

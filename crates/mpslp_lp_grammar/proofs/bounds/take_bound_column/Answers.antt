@@ -12,9 +12,10 @@ returns c =
     let limit = c.args.limit.now in
     let place = InBounds (Some (column, relation)) in
     subst (λ (r : TokenResult). TakesToken
-    (take_bound context (declare_column column ∷ []) column (limits_by (flip relation) limit) (Terminal.Name column) place) r after)
-    (sym (c.at_place.ensures ∙ ap (λ (name : List ℕ). answer_at (InBounds (Some (name, relation))) answer) c.in_ok-name.ensures))
+    (take_bound context (declare_column column ∷ []) column (limits_by (flip relation) limit) (Terminal.Name column)
+    place) r after) (sym (c.at_place.ensures
+    ∙ ap (λ (name : List ℕ). answer_at (InBounds (Some (name, relation))) answer) c.in_ok-name.ensures))
     (subst (λ (r : Relation). TakesToken
-    (take_bound context (declare_column column ∷ []) column (limits_by r limit) (Terminal.Name column) place) (answer_at place answer)
-    after)
+    (take_bound context (declare_column column ∷ []) column (limits_by r limit) (Terminal.Name column) place)
+    (answer_at place answer) after)
     c.flip.ensures (c.declare_bound-answer.ensures (Terminal.Name column) place refl))

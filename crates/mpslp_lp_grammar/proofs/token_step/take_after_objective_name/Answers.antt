@@ -13,6 +13,6 @@ returns-in_ok-objective-in_default c =
     c.as_bytes.ensures c.declare_first_item-answer.ensures in
     subst (λ (taken : AfterToken). TakesToken taken c.begin_phrase_after.result c.begin_phrase_after.new.context)
     (sym (objective_name-other context c.args.sense c.args.name token.kind token.text.now c.in_default.not-Colon))
-    (subst (λ (name : List ℕ). TakesToken (begin_phrase_after context made (InObjective name) (terminal_of_token token)) c.begin_phrase_after.result
-    c.begin_phrase_after.new.context) c.in_ok-objective-in_default.ensures
+    (subst (λ (name : List ℕ). TakesToken (begin_phrase_after context made (InObjective name) (terminal_of_token token))
+    c.begin_phrase_after.result c.begin_phrase_after.new.context) c.in_ok-objective-in_default.ensures
     (c.begin_phrase_after.ensures context.builder (refusals_in_turn context.builder made) made declared))

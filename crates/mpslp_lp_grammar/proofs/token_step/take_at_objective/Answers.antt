@@ -1,5 +1,6 @@
 use Rattle.mpslp_lp_grammar.proofs.Prelude.{sym, subst, ℕ, List, refusals_in_turn, default_objective, objective_declared, terminal_of_token}
-use Rattle.mpslp_lp_grammar.proofs.{Prelude.{AfterToken, begin_phrase_after, Declares, TakesToken, BeforeItems}, OtherTokens.{objective-other}}
+use Rattle.mpslp_lp_grammar.proofs.Prelude.{AfterToken, begin_phrase_after, Declares, TakesToken, BeforeItems}
+use Rattle.mpslp_lp_grammar.proofs.OtherTokens.{objective-other}
 use Rattle.mpslp_lp_grammar.proofs.token_step.take_at_objective.Goals as goal
 
 pub returns-in_ok-objective-in_default : goal.returns-in_ok-objective-in_default
@@ -13,6 +14,6 @@ returns-in_ok-objective-in_default c =
     c.in_ok-name-in_default.ensures c.declare_objective-answer.ensures in
     subst (λ (taken : AfterToken). TakesToken taken c.begin_phrase_after.result c.begin_phrase_after.new.context)
     (sym (objective-other context c.args.sense token.kind token.text.now c.in_default.not-Name))
-    (subst (λ (name : List ℕ). TakesToken (begin_phrase_after context made (BeforeItems name) (terminal_of_token token)) c.begin_phrase_after.result
-    c.begin_phrase_after.new.context) c.in_ok-objective-in_default.ensures
+    (subst (λ (name : List ℕ). TakesToken (begin_phrase_after context made (BeforeItems name) (terminal_of_token token))
+    c.begin_phrase_after.result c.begin_phrase_after.new.context) c.in_ok-objective-in_default.ensures
     (c.begin_phrase_after.ensures context.builder (refusals_in_turn context.builder made) made declared))

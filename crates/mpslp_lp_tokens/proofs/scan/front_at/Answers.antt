@@ -23,12 +23,14 @@ returns-then-first-eq43-clause-size c =
 
 pub returns-then-number-gt0-clause-kind : goal.returns-then-number-gt0-clause-kind
 returns-then-number-gt0-clause-kind c =
-    ap (λ (f : Front). f.kind) (sym (number-front c.args.text.now c.number_len-number.result (omega (arith, c.in-len1-up.len_at_least))
+    ap (λ (f : Front). f.kind) (sym
+    (number-front c.args.text.now c.number_len-number.result (omega (arith, c.in-len1-up.len_at_least))
     (sym c.is_first_of_word.ensures ∙ c.if-is_first_of_word.false) c.if-number-gt0.true c.number_len-number.ensures))
 
 pub returns-then-number-gt0-clause-size : goal.returns-then-number-gt0-clause-size
 returns-then-number-gt0-clause-size c =
-    ap (λ (f : Front). f.size) (sym (number-front c.args.text.now c.number_len-number.result (omega (arith, c.in-len1-up.len_at_least))
+    ap (λ (f : Front). f.size) (sym
+    (number-front c.args.text.now c.number_len-number.result (omega (arith, c.in-len1-up.len_at_least))
     (sym c.is_first_of_word.ensures ∙ c.if-is_first_of_word.false) c.if-number-gt0.true c.number_len-number.ensures))
 
 pub returns-in-Some-clause-kind : goal.returns-in-Some-clause-kind
@@ -47,24 +49,26 @@ pub returns-in-Some-byte_kind-clause-kind : goal.returns-in-Some-byte_kind-claus
 returns-in-Some-byte_kind-clause-kind c =
     ap (λ (f : Front). f.kind) (sym (byte-front c.args.text.now c.number_len-number.result c.in-Some-byte_kind.kind
     (omega (arith, c.in-len1-up.len_at_least)) (sym c.is_first_of_word.ensures ∙ c.if-is_first_of_word.false)
-    (omega (arith, c.if-number-gt0.false)) c.number_len-number.ensures (sym c.pair_at.ensures ∙ c.in-None.is) (sym c.byte_kind.ensures
-    ∙ c.in-Some-byte_kind.is)))
+    (omega (arith, c.if-number-gt0.false)) c.number_len-number.ensures (sym c.pair_at.ensures ∙ c.in-None.is)
+    (sym c.byte_kind.ensures ∙ c.in-Some-byte_kind.is)))
 
 pub returns-in-Some-byte_kind-clause-size : goal.returns-in-Some-byte_kind-clause-size
 returns-in-Some-byte_kind-clause-size c =
     ap (λ (f : Front). f.size) (sym (byte-front c.args.text.now c.number_len-number.result c.in-Some-byte_kind.kind
     (omega (arith, c.in-len1-up.len_at_least)) (sym c.is_first_of_word.ensures ∙ c.if-is_first_of_word.false)
-    (omega (arith, c.if-number-gt0.false)) c.number_len-number.ensures (sym c.pair_at.ensures ∙ c.in-None.is) (sym c.byte_kind.ensures
-    ∙ c.in-Some-byte_kind.is)))
+    (omega (arith, c.if-number-gt0.false)) c.number_len-number.ensures (sym c.pair_at.ensures ∙ c.in-None.is)
+    (sym c.byte_kind.ensures ∙ c.in-Some-byte_kind.is)))
 
 pub returns-in-None-byte_kind-clause-kind : goal.returns-in-None-byte_kind-clause-kind
 returns-in-None-byte_kind-clause-kind c =
-    ap (λ (f : Front). f.kind) (sym (unknown-front c.args.text.now c.number_len-number.result (omega (arith, c.in-len1-up.len_at_least))
-    (sym c.is_first_of_word.ensures ∙ c.if-is_first_of_word.false) (omega (arith, c.if-number-gt0.false)) c.number_len-number.ensures
-    (sym c.pair_at.ensures ∙ c.in-None.is) (sym c.byte_kind.ensures ∙ c.in-None-byte_kind.is)))
+    ap (λ (f : Front). f.kind) (sym
+    (unknown-front c.args.text.now c.number_len-number.result (omega (arith, c.in-len1-up.len_at_least))
+    (sym c.is_first_of_word.ensures ∙ c.if-is_first_of_word.false) (omega (arith, c.if-number-gt0.false))
+    c.number_len-number.ensures (sym c.pair_at.ensures ∙ c.in-None.is) (sym c.byte_kind.ensures ∙ c.in-None-byte_kind.is)))
 
 pub returns-in-None-byte_kind-clause-size : goal.returns-in-None-byte_kind-clause-size
 returns-in-None-byte_kind-clause-size c =
-    ap (λ (f : Front). f.size) (sym (unknown-front c.args.text.now c.number_len-number.result (omega (arith, c.in-len1-up.len_at_least))
-    (sym c.is_first_of_word.ensures ∙ c.if-is_first_of_word.false) (omega (arith, c.if-number-gt0.false)) c.number_len-number.ensures
-    (sym c.pair_at.ensures ∙ c.in-None.is) (sym c.byte_kind.ensures ∙ c.in-None-byte_kind.is)))
+    ap (λ (f : Front). f.size) (sym
+    (unknown-front c.args.text.now c.number_len-number.result (omega (arith, c.in-len1-up.len_at_least))
+    (sym c.is_first_of_word.ensures ∙ c.if-is_first_of_word.false) (omega (arith, c.if-number-gt0.false))
+    c.number_len-number.ensures (sym c.pair_at.ensures ∙ c.in-None.is) (sym c.byte_kind.ensures ∙ c.in-None-byte_kind.is)))

@@ -3,4 +3,5 @@ use Rattle.mpslp_lp_tokens.{proofs.NumberRun.number-longest, specs.{Scan.IsLonge
 use Rattle.mpslp_lp_tokens.proofs.scan.number_len.Goals as goal
 
 pub returns : goal.returns
-returns c = subst (λ (n : ℕ). IsLongestFront is_number c.args.text.now n) (sym c.scan_number.ensures.size) (number-longest c.args.text.now)
+returns c = subst (λ (n : ℕ). IsLongestFront is_number c.args.text.now n) (sym c.scan_number.ensures.size)
+    (number-longest c.args.text.now)

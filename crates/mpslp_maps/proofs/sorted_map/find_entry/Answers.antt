@@ -8,8 +8,9 @@ returns-then-is_eq g c =
     let cmp = g.K.Key.cmp in
     let key = g.Q.Query.key c.args.query.now in
     let entry = c.index-entries-at.result in
-    sym (found_here cmp g.met.K.Key.total key _ _ entry c.requires c.insertion_index-at.ensures c.if-at-entries.true c.index-entries-at.is
-    ∙ ap (λ b. cond b (Some entry.1) None) (ap is_eq (sym c.compare.ensures) ∙ sym c.is_eq.ensures ∙ c.if-is_eq.true))
+    sym (found_here cmp g.met.K.Key.total key _ _ entry c.requires c.insertion_index-at.ensures c.if-at-entries.true
+    c.index-entries-at.is ∙ ap (λ b. cond b (Some entry.1) None) (ap is_eq (sym c.compare.ensures)
+    ∙ sym c.is_eq.ensures ∙ c.if-is_eq.true))
 
 pub returns : goal.returns
 returns g c =
@@ -21,5 +22,6 @@ returns g c =
           sym (found_here cmp g.met.K.Key.total key _ _ entry c.requires c.insertion_index-at.ensures w.if-at-entries.true
           w.index-entries-at.is
           ∙ ap (λ b. cond b (Some entry.1) None) (ap is_eq (sym w.compare.ensures) ∙ sym w.is_eq.ensures ∙ w.if-is_eq.false))
-      | else-at-entries w ↦ sym (found_nowhere cmp g.met.K.Key.total key _ _ c.requires c.insertion_index-at.ensures w.if-at-entries.false)
+      | else-at-entries w ↦ sym (found_nowhere cmp g.met.K.Key.total key _ _ c.requires c.insertion_index-at.ensures
+          w.if-at-entries.false)
     ]

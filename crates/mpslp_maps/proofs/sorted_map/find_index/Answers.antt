@@ -15,8 +15,9 @@ returns-else-is_eq g c =
     let key = g.Q.Query.key c.args.query.now in
     let entry = c.index-entries-at.result in
     sym (number_nowhere cmp key _
-    (found_here cmp g.met.K.Key.total key _ _ entry c.requires c.insertion_index-at.ensures c.if-at-entries.true c.index-entries-at.is
-    ∙ ap (λ b. cond b (Some entry.1) None) (ap is_eq (sym c.compare.ensures) ∙ sym c.is_eq.ensures ∙ c.if-is_eq.false)))
+    (found_here cmp g.met.K.Key.total key _ _ entry c.requires c.insertion_index-at.ensures c.if-at-entries.true
+    c.index-entries-at.is ∙ ap (λ b. cond b (Some entry.1) None) (ap is_eq (sym c.compare.ensures)
+    ∙ sym c.is_eq.ensures ∙ c.if-is_eq.false)))
 
 pub returns-else-at-entries : goal.returns-else-at-entries
 returns-else-at-entries g c =

@@ -19,8 +19,8 @@ loop-j-preserved c =
     let first = c.loop-j.invariant in
     elim c.if-has_value_at.branch [
       | then-has_value_at+else-left-eq0 w ↦
-          let more = ap length (columns_and columns n j cells c.cells_at.ensures (sym c.has_value_at.ensures ∙ w.if-has_value_at.true))
-          ∙ length-append (columns_with columns n j) (j ∷ []) in
+          let more = ap length (columns_and columns n j cells c.cells_at.ensures
+          (sym c.has_value_at.ensures ∙ w.if-has_value_at.true)) ∙ length-append (columns_with columns n j) (j ∷ []) in
           let left = w.left-is in
           omega arith
       | else-has_value_at w ↦

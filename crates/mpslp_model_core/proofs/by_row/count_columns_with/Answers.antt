@@ -21,7 +21,8 @@ loop-j-preserved c =
                 ∙ sym (ap length more ∙ length-append (columns_with columns n j) (j ∷ []));
           }
       | else-has_value_at w ↦
-          let same = columns_without columns n j cells c.cells_at.ensures (sym c.has_value_at.ensures ∙ w.if-has_value_at.false) in
+          let same = columns_without columns n j cells c.cells_at.ensures
+          (sym c.has_value_at.ensures ∙ w.if-has_value_at.false) in
           record {
             few = omega arith;
             counted = w.count-is ∙ c.loop-j.invariant.counted ∙ sym (ap length same);

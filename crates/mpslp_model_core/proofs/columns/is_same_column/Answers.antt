@@ -18,5 +18,6 @@ returns-else-eq-2 c = ap (λ (b : Bool). Some b) c.if-eq-2.false
     (sym c.eq-then-eq.ensures ∙ c.if-eq-2.false))
 
 pub returns-else-eq : goal.returns-else-eq
-returns-else-eq c = ap (λ (b : Bool). Some b) c.if-eq.false ∙ sym (other_name c.args.own.now c.args.other.now c.args.j c.name_at.ensures
-    c.name_at-2.ensures (sym c.eq.ensures ∙ c.if-eq.false))
+returns-else-eq c = ap (λ (b : Bool). Some b) c.if-eq.false
+    ∙ sym (other_name c.args.own.now c.args.other.now c.args.j c.name_at.ensures c.name_at-2.ensures
+    (sym c.eq.ensures ∙ c.if-eq.false))

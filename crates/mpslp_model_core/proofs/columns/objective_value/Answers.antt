@@ -5,4 +5,5 @@ use Rattle.mpslp_model_core.proofs.columns.objective_value.Goals as goal
 
 pub returns-in_default : goal.returns-in_default
 returns-in_default c = c.zero-in_default.ensures ∙ ap (λ (o : Option Number). unwrap_or o zero_number)
-    (sym (none_first c.args.cells.now c.first-item.result c.requires c.in-len1-up.len_at_least c.first-item.is c.if-first-eq0.false))
+    (sym (none_first c.args.cells.now c.first-item.result c.requires c.in-len1-up.len_at_least c.first-item.is
+    c.if-first-eq0.false))

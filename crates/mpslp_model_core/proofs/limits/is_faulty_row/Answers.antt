@@ -4,4 +4,5 @@ use Rattle.mpslp_model_core.proofs.limits.is_faulty_row.Goals as goal
 
 pub returns-then-is_plain : goal.returns-then-is_plain
 returns-then-is_plain c = c.has_infinite_rhs.ensures
-    ∙ plain_faulty (row_definition c.args.definition.now) c.args.rhs c.args.range.now (sym c.is_plain.ensures ∙ c.if-is_plain.true)
+    ∙ plain_faulty (row_definition c.args.definition.now) c.args.rhs c.args.range.now
+    (sym c.is_plain.ensures ∙ c.if-is_plain.true)

@@ -6,4 +6,5 @@ use Rattle.mpslp_model_core.proofs.limits.only_limit.Goals as goal
 
 pub returns-in-ByLimits : goal.returns-in-ByLimits
 returns-in-ByLimits c = subst (λ (definition : RowDefinition). IfSome c.limit_of_limits.result
-    (λ limit. (b : Number) → (r : Option Number) → is_large_limit limit ≡ is_faulty_row (row_definition definition) b r)) (sym c.in-ByLimits.is) c.limit_of_limits.ensures
+    (λ limit. (b : Number) → (r : Option Number) →
+    is_large_limit limit ≡ is_faulty_row (row_definition definition) b r)) (sym c.in-ByLimits.is) c.limit_of_limits.ensures

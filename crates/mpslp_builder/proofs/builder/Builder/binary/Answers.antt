@@ -17,7 +17,9 @@ invariant_of-self c =
     )
 
 pub returns-clause-answers : goal.returns-clause-answers
-returns-clause-answers c = let b = c.self.inside in let d = declare_binary c.args.column.now in
+returns-clause-answers c =
+    let b = c.self.inside in
+    let d = declare_binary c.args.column.now in
     let none = none_refused (refusals (draft b.sense b.constant b.tables) d) c.in_ok-number.ensures.answer in
     let after = binary_added b.sense b.constant b.tables c.put_binary.new.self c.in_ok-number.ensures.once c.in_ok-number.number
     c.args.column.now c.in_ok-number.ensures.number c.put_binary.ensures in answered d c.self.view_is after none

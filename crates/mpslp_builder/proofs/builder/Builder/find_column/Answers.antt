@@ -10,5 +10,5 @@ invariant_of-self c =
     )
 
 pub returns-clause-same : goal.returns-clause-same
-returns-clause-same c = let b = c.self.inside in same_tables b.sense b.constant b.tables c.find_column.new.self c.find_column.ensures.same
-    ∙ c.self.view_is
+returns-clause-same c = let b = c.self.inside in
+    same_tables b.sense b.constant b.tables c.find_column.new.self c.find_column.ensures.same ∙ c.self.view_is

@@ -12,11 +12,12 @@ invariant_of-self c = let b = c.self.inside in
 
 pub returns : goal.returns
 returns c = let b = c.self.inside in
-    row_answered b.sense b.constant b.tables c.add_row.new.self c.args.name (by_limits c.args.lower c.args.upper) c.of_limits.result
-    c.of_limits.ensures (sym c.have_infinite_limit.ensures ∙ c.if-have_infinite_limit.false) c.self.invariant.1 c.add_row.result
-    c.add_row.ensures _ c.self.view_is
+    row_answered b.sense b.constant b.tables c.add_row.new.self c.args.name (by_limits c.args.lower c.args.upper)
+    c.of_limits.result c.of_limits.ensures (sym c.have_infinite_limit.ensures ∙ c.if-have_infinite_limit.false)
+    c.self.invariant.1 c.add_row.result c.add_row.ensures _ c.self.view_is
 
 pub returns-then-have_infinite_limit : goal.returns-then-have_infinite_limit
-returns-then-have_infinite_limit c = infinite_answered c.args.self.now c.args.name (by_limits c.args.lower c.args.upper) c.check_row_limits.result
-    (sym c.have_infinite_limit.ensures ∙ c.if-have_infinite_limit.true) (c.check_row_limits.ensures
-    ∙ ap (λ (n : List ℕ). first_refusal (refusals c.args.self.now (declare_row n (by_limits c.args.lower c.args.upper)))) c.as_bytes.ensures) _ _ refl
+returns-then-have_infinite_limit c = infinite_answered c.args.self.now c.args.name (by_limits c.args.lower c.args.upper)
+    c.check_row_limits.result (sym c.have_infinite_limit.ensures ∙ c.if-have_infinite_limit.true) (c.check_row_limits.ensures
+    ∙ ap (λ (n : List ℕ). first_refusal
+    (refusals c.args.self.now (declare_row n (by_limits c.args.lower c.args.upper)))) c.as_bytes.ensures) _ _ refl

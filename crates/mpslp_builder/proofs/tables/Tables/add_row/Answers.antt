@@ -7,11 +7,14 @@ use Rattle.mpslp_builder.proofs.tables.Tables.add_row.Goals as goal
 
 pub returns-in_default : goal.returns-in_default
 returns-in_default c = row_refused c.args.self.now _ c.args.name _ false _
-    (ap (is_objective (draft None None c.args.self.now)) (sym c.as_bytes.ensures) ∙ sym c.is_objective.ensures ∙ c.if-is_objective.false)
-    (ap is_some c.in_default.ensures.absent) refl (record { objective = refl; rows = c.in_default.ensures.err; columns = refl })
+    (ap (is_objective (draft None None c.args.self.now)) (sym c.as_bytes.ensures) ∙ sym c.is_objective.ensures
+    ∙ c.if-is_objective.false) (ap is_some c.in_default.ensures.absent) refl
+    (record { objective = refl; rows = c.in_default.ensures.err; columns = refl })
 
 pub returns-in_default-old : goal.returns-in_default-old
-returns-in_default-old c = let t = c.args.self.now in let absent = sym c.in-Ok.ensures.old ∙ c.in_default-old.is in row_new t _ c.args.name _
+returns-in_default-old c =
+    let t = c.args.self.now in
+    let absent = sym c.in-Ok.ensures.old ∙ c.in_default-old.is in row_new t _ c.args.name _
     (ap (is_objective (draft None None t)) (sym c.as_bytes.ensures) ∙ sym c.is_objective.ensures ∙ c.if-is_objective.false) absent
     (c.has_room.ensures c.if-not-has_room.false) (record {
       objective = refl;
@@ -20,7 +23,9 @@ returns-in_default-old c = let t = c.args.self.now in let absent = sym c.in-Ok.e
     })
 
 pub returns : goal.returns
-returns c = let t = c.args.self.now in let there = sym c.in-Some.is ∙ c.in-Ok.ensures.old in row_refused t _ c.args.name _ true _
+returns c =
+    let t = c.args.self.now in
+    let there = sym c.in-Some.is ∙ c.in-Ok.ensures.old in row_refused t _ c.args.name _ true _
     (ap (is_objective (draft None None t)) (sym c.as_bytes.ensures) ∙ sym c.is_objective.ensures ∙ c.if-is_objective.false)
     (ap is_some (sym there)) refl (record {
       objective = refl;

@@ -43,7 +43,10 @@ loop-name-preserved c =
     }
 
 pub returns-in_err-declare_term-clause-declared : goal.returns-in_err-declare_term-clause-declared
-returns-in_err-declare_term-clause-declared c = let t = c.args.self.now in let u = c.loop-name.self in let v = c.declare_term.new.self in
+returns-in_err-declare_term-clause-declared c =
+    let t = c.args.self.now in
+    let u = c.loop-name.self in
+    let v = c.declare_term.new.self in
     let before = c.loop-name.invariant in λ name is. let each = term_declared name in
     term_refused t u v name c.as_bytes.result.now (c.in-Some.name.now, c.in-Some.value.now) (flat_map each c.next.new.self)
     (flat_map each c.loop-name.name-iterator) (flat_map each c.args.terms.now.entries) c.as_bytes.ensures
@@ -51,9 +54,12 @@ returns-in_err-declare_term-clause-declared c = let t = c.args.self.now in let u
     c.from_residual.ensures.1 (c.in_err-declare_term.ensures.declared name (before.kept.rows c.args.row ∙ is))
 
 pub returns-clause-declared : goal.returns-clause-declared
-returns-clause-declared c = let t = c.args.self.now in let u = c.loop-name.self in λ name is.
-    let all = flat_map (term_declared name) c.args.terms.now.entries in decides_all t u all (subst (λ (left : List (List ℕ × Number)).
-    Decides u (flat_map (term_declared name) left) t all) c.in-None.ensures.steps.0 (c.loop-name.invariant.declared name is))
+returns-clause-declared c =
+    let t = c.args.self.now in
+    let u = c.loop-name.self in λ name is.
+    let all = flat_map (term_declared name) c.args.terms.now.entries in
+    decides_all t u all (subst (λ (left : List (List ℕ × Number)). Decides u (flat_map (term_declared name) left) t
+    all) c.in-None.ensures.steps.0 (c.loop-name.invariant.declared name is))
 
 pub returns-in_err-declare_term-clause-kept : goal.returns-in_err-declare_term-clause-kept
 returns-in_err-declare_term-clause-kept c =

@@ -10,5 +10,6 @@ invariant-loop-name l = record {
   kept : Follows l.fn.self l.self;
   rows : l.self.rows.entries ≡ l.fn.self.rows.entries;
   declared : (name : List ℕ) → row_name l.fn.self l.row ≡ Some name
-      → Decides l.self (flat_map (term_declared name) l.name-iterator) l.fn.self (flat_map (term_declared name) l.fn.terms.entries);
+      → Decides l.self (flat_map (term_declared name) l.name-iterator) l.fn.self
+      (flat_map (term_declared name) l.fn.terms.entries);
 }

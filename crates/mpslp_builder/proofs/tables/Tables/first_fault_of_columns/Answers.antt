@@ -15,8 +15,9 @@ returns-then-not-has_faulty-clause-fault c = let columns = c.args.self.now.colum
     (λ definition. is_wrong_column (parts_with [] definition)) in
     sym (none_left (λ (f : ColumnFault). named_fault (draft None None c.args.self.now)
     (kind_of_column_fault f)) (λ f. column_named c.args.self.now c.each_name_occurs_once.ensures f
-    ∙ ap (option_map (λ (name : List ℕ). whole_fault (kind_of_column_fault f) (Some name))) (none_least (column_fails f) is_wrong_column
-    (faultless_column f) columns (sym alike ∙ sym c.if-not-has_faulty.ensures))) c.args.faults.now)
+    ∙ ap (option_map (λ (name : List ℕ). whole_fault (kind_of_column_fault f) (Some name)))
+    (none_least (column_fails f) is_wrong_column (faultless_column f) columns
+    (sym alike ∙ sym c.if-not-has_faulty.ensures))) c.args.faults.now)
 
 pub returns-in-Some-clause-fault : goal.returns-in-Some-clause-fault
 returns-in-Some-clause-fault c = let t = c.args.self.now in
@@ -28,25 +29,29 @@ returns-in-Some-clause-fault c = let t = c.args.self.now in
     let there = subst (λ (n : ℕ). c.in-Some.at < n) (length_alike definition_of_stored definition_in stored columns same)
     (c.in-Some.ensures.there c.in-Some.at refl) in
     let least = sym (named_alike definition_of_stored definition_in stored columns same c.in-Some.at) ∙ c.in-Some.ensures.name
-    ∙ least_alike definition_of_stored definition_in stored columns same (λ definition. column_fails fault (parts_with [] definition)) in sym
-    (first_left (λ (f : ColumnFault). named_fault (draft None None t) (kind_of_column_fault f)) c.args.faults.now c.loop-fault.fault-index
-    NegativeUpper (fault_found t (Column fault c.in-Some.at)) c.loop-fault-test.true (column_named t c.each_name_occurs_once.ensures fault
-    ∙ reported (kind_of_column_fault fault) name (least_name (column_fails fault) columns) least (entry_named columns c.in-Some.at there)))
-    ∙ c.loop-fault.invariant
+    ∙ least_alike definition_of_stored definition_in stored columns same
+    (λ definition. column_fails fault (parts_with [] definition)) in
+    sym (first_left (λ (f : ColumnFault). named_fault (draft None None t) (kind_of_column_fault f))
+    c.args.faults.now c.loop-fault.fault-index NegativeUpper (fault_found t (Column fault c.in-Some.at))
+    c.loop-fault-test.true (column_named t c.each_name_occurs_once.ensures fault
+    ∙ reported (kind_of_column_fault fault) name (least_name (column_fails fault) columns) least
+    (entry_named columns c.in-Some.at there))) ∙ c.loop-fault.invariant
 
 pub returns-in-Some-clause-there : goal.returns-in-Some-clause-there
 returns-in-Some-clause-there c = let t = c.args.self.now in
     let fault = slice_index_or c.args.faults.now c.loop-fault.fault-index NegativeUpper in
     let there = subst (λ (n : ℕ). c.in-Some.at < n) (length_alike definition_of_stored definition_in
-    c.stored-in-loop-fault.result.now.entries t.columns.entries c.stored-in-loop-fault.ensures) (c.in-Some.ensures.there c.in-Some.at refl) in
-    λ (found : FoundFault) is. let same : ◌≡◌ {A = FoundFault} (Column fault c.in-Some.at) found = cc in subst (IsThere t) same there
+    c.stored-in-loop-fault.result.now.entries t.columns.entries c.stored-in-loop-fault.ensures)
+    (c.in-Some.ensures.there c.in-Some.at refl) in
+    λ (found : FoundFault) is. let same : ◌≡◌ {A = FoundFault} (Column fault c.in-Some.at) found = cc in
+    subst (IsThere t) same there
 
 pub loop-fault-preserved : goal.loop-fault-preserved
 loop-fault-preserved c = let t = c.args.self.now in
     let fault = slice_index_or c.args.faults.now c.loop-fault.fault-index NegativeUpper in
     let alike = least_alike definition_of_stored definition_in c.stored-in-loop-fault.result.now.entries t.columns.entries
     c.stored-in-loop-fault.ensures (λ definition. column_fails fault (parts_with [] definition)) in
-    next_left (λ (f : ColumnFault). named_fault (draft None None t) (kind_of_column_fault f)) c.args.faults.now c.loop-fault.fault-index
-    NegativeUpper c.loop-fault-test.true (column_named t c.each_name_occurs_once.ensures fault
-    ∙ ap (option_map (λ (name : List ℕ). whole_fault (kind_of_column_fault fault) (Some name))) (sym (c.in_default.ensures.name ∙ alike)))
-    ∙ c.loop-fault.invariant
+    next_left (λ (f : ColumnFault). named_fault (draft None None t) (kind_of_column_fault f)) c.args.faults.now
+    c.loop-fault.fault-index NegativeUpper c.loop-fault-test.true (column_named t c.each_name_occurs_once.ensures fault
+    ∙ ap (option_map (λ (name : List ℕ). whole_fault (kind_of_column_fault fault) (Some name)))
+    (sym (c.in_default.ensures.name ∙ alike))) ∙ c.loop-fault.invariant

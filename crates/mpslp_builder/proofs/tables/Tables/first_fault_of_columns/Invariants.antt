@@ -7,5 +7,6 @@ use Rattle.mpslp_builder.proofs.tables.Tables.first_fault_of_columns.Given as go
 
 -- the result is that of the remaining kinds
 abbrev pub invariant-loop-fault : goal.invariant-loop-fault
-invariant-loop-fault l = head_of (filter_map (λ fault. named_fault (draft None None l.self) (kind_of_column_fault fault)) (drop l.fault-index l.faults))
+invariant-loop-fault l = head_of
+    (filter_map (λ fault. named_fault (draft None None l.self) (kind_of_column_fault fault)) (drop l.fault-index l.faults))
     ≡ head_of (filter_map (λ fault. named_fault (draft None None l.self) (kind_of_column_fault fault)) l.faults)

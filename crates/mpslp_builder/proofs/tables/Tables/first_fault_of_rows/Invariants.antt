@@ -8,4 +8,5 @@ use Rattle.mpslp_builder.proofs.tables.Tables.first_fault_of_rows.Given as goal
 -- the result is that of the remaining kinds
 abbrev pub invariant-loop-fault : goal.invariant-loop-fault
 invariant-loop-fault l = head_of (filter_map (λ fault. named_fault (draft None None l.self) (kind_of_row_fault fault))
-    (drop l.fault-index l.faults)) ≡ head_of (filter_map (λ fault. named_fault (draft None None l.self) (kind_of_row_fault fault)) l.faults)
+    (drop l.fault-index l.faults)) ≡ head_of
+    (filter_map (λ fault. named_fault (draft None None l.self) (kind_of_row_fault fault)) l.faults)

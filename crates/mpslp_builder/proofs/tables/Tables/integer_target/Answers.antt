@@ -7,5 +7,5 @@ returns-then-is_semi-clause-answer c = sym (ap first_refusal (integer_stated Non
     c.in-Some.number c.args.column.now c.in-Some.ensures.number c.in-Some.ensures.found true c.if-is_semi.ensures))
 
 pub returns-clause-answer : goal.returns-clause-answer
-returns-clause-answer c = sym (ap first_refusal (integer_stated None c.args.self.now c.each_name_occurs_once.ensures c.in-Some.number
-    c.args.column.now c.in-Some.ensures.number c.in-Some.ensures.found false c.if-is_semi.ensures))
+returns-clause-answer c = sym (ap first_refusal (integer_stated None c.args.self.now c.each_name_occurs_once.ensures
+    c.in-Some.number c.args.column.now c.in-Some.ensures.number c.in-Some.ensures.found false c.if-is_semi.ensures))

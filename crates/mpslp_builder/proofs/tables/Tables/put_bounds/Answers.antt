@@ -11,4 +11,5 @@ returns-clause-ok c = on_ok c.put_bounds.result (λ h. record {
 }) c.put_bounds.ensures.ok
 
 pub returns-clause-err : goal.returns-clause-err
-returns-clause-err c = on_err c.put_bounds.result (λ same. record { objective = refl; rows = refl; columns = same }) c.put_bounds.ensures.err
+returns-clause-err c = on_err c.put_bounds.result (λ same. record { objective = refl; rows = refl; columns = same })
+    c.put_bounds.ensures.err

@@ -7,8 +7,8 @@ use Rattle.mpslp_builder_parts.specs.RowParts.{RowParts}
 use Rattle.mpslp_builder.proofs.tables.Tables.put_range.Goals as goal
 
 pub put_range-requires : goal.put_range-requires
-put_range-requires c = ap (λ (o : Option (List ℕ × RowParts)). option_map_or (λ e. is_definition_by_limits e.1.definition) o false)
-    (sym c.pair_mut-row.ensures.value) ∙ c.requires.typed
+put_range-requires c = ap (λ (o : Option (List ℕ × RowParts)). option_map_or
+    (λ e. is_definition_by_limits e.1.definition) o false) (sym c.pair_mut-row.ensures.value) ∙ c.requires.typed
 
 pub returns : goal.returns
 returns c = record {

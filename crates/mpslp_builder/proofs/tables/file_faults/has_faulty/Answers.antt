@@ -26,10 +26,12 @@ loop-index-preserved-else-is_faulty g c =
     }
 
 pub loop-index-preserved : goal.loop-index-preserved
-loop-index-preserved g c = let below : c.loop-index.index - 1 < length c.args.entries.now.entries = omega (arith, c.loop-index-test.true, c.loop-index.invariant.within) in
+loop-index-preserved g c = let below : c.loop-index.index - 1 < length c.args.entries.now.entries =
+    omega (arith, c.loop-index-test.true, c.loop-index.invariant.within) in
     let none : None ≡ slice_get c.args.entries.now.entries (c.loop-index.index - 1) = ap (option_map _) (sym c.in_default.is)
     ∙ c.get_index.ensures.entry in absurd (there c.args.entries.now.entries (c.loop-index.index - 1) below (sym none))
 
 pub returns : goal.returns
 returns g c = let zero : c.loop-index.index ≡ 0 = omega (arith, c.loop-index-test.false) in sym
-    (ap (λ (n : ℕ). list_any (λ e. g.V.Faulty.is_wrong e.1) (drop n c.args.entries.now.entries)) (sym zero) ∙ c.loop-index.invariant.none)
+    (ap (λ (n : ℕ). list_any (λ e. g.V.Faulty.is_wrong e.1) (drop n c.args.entries.now.entries)) (sym zero)
+    ∙ c.loop-index.invariant.none)

@@ -6,7 +6,8 @@ use Rattle.mpslp_builder.proofs.tables.file_faults.least_faulty.Given as goal
 -- the entry is that of the least name among those from this index on
 abbrev pub invariant-loop-index : goal.invariant-loop-index
 invariant-loop-index g l = record {
-  name : option_and_then (entry_name l.entries.entries) l.least ≡ least_name (g.V.Faulty.fails l.fn.fault) (drop l.index l.entries.entries);
+  name : option_and_then (entry_name l.entries.entries) l.least ≡ least_name (g.V.Faulty.fails l.fn.fault)
+      (drop l.index l.entries.entries);
   there : ForSome l.least (λ i. i < length l.entries.entries);
   within : l.index ≤ length l.entries.entries;
 }

@@ -12,4 +12,5 @@ returns-clause-len c = c.len.ensures.len ∙ sym (length-each_part (parts_of c.s
 pub returns-clause-once : goal.returns-clause-once
 returns-clause-once c = let es = c.self.inside.columns.entries in
     subst (λ (columns : ColumnEntries). IsOnce (each_part cells_of columns.entries)) c.self.view_is
-    (subst IsOnce (sym (each_part-twice (parts_of c.self.inside.log) cells_of es)) (once-from_distinct (λ stored. cells_of (parts_of c.self.inside.log stored)) es c.len.ensures.unique))
+    (subst IsOnce (sym (each_part-twice (parts_of c.self.inside.log) cells_of es))
+    (once-from_distinct (λ stored. cells_of (parts_of c.self.inside.log stored)) es c.len.ensures.unique))

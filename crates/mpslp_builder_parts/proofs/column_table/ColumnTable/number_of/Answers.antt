@@ -5,8 +5,10 @@ use Rattle.mpslp_builder_parts.proofs.column_table.ColumnTable.number_of.Goals a
 
 pub returns-in-Some-clause-number : goal.returns-in-Some-clause-number
 returns-in-Some-clause-number c = let es = c.self.inside.columns.entries in
-    ap (λ (columns : ColumnEntries). name_in columns c.in-Some.number) (sym c.self.view_is) ∙ sym (name_of_part (parts_of c.self.inside.log) es c.in-Some.number)
-    ∙ found_name c.args.name.now es c.in-Some.number c.in-Some._key.now c.in-Some._stored.now c.in-Some.ensures.entry c.in-Some.ensures.key
+    ap (λ (columns : ColumnEntries). name_in columns c.in-Some.number) (sym c.self.view_is)
+    ∙ sym (name_of_part (parts_of c.self.inside.log) es c.in-Some.number)
+    ∙ found_name c.args.name.now es c.in-Some.number c.in-Some._key.now c.in-Some._stored.now
+    c.in-Some.ensures.entry c.in-Some.ensures.key
 
 pub returns-in-Some-clause-found : goal.returns-in-Some-clause-found
 returns-in-Some-clause-found c = ap is_some c.in-Some.ensures.value

@@ -20,5 +20,5 @@ pub returns : goal.returns
 returns c =
     let mantissa : to_z w128 (of_z w128 c.args.mantissa) ≡ c.args.mantissa = search rules in
     let power : to_z w128 (of_z w128 c.pow.result) ≡ c.pow.result = search rules in
-    product-held c.checked_mul.result (to_z w128 (of_z w128 c.args.mantissa) *ℤ to_z w128 (of_z w128 c.pow.result)) c.args.mantissa
-    (10 ^ c.args.places) c.checked_mul.ensures (λ i. mantissa i *ℤ (power ∙ c.pow.ensures) i)
+    product-held c.checked_mul.result (to_z w128 (of_z w128 c.args.mantissa) *ℤ to_z w128 (of_z w128 c.pow.result))
+    c.args.mantissa (10 ^ c.args.places) c.checked_mul.ensures (λ i. mantissa i *ℤ (power ∙ c.pow.ensures) i)

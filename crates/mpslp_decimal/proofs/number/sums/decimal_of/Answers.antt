@@ -16,7 +16,7 @@ returns c =
     ≡ to_z w32 (of_z w32 c.args.exponent) +ℤ to_z w32 c.stripped-digits.result.1 = search rules in
     c.ok.ensures.value
     ∙ ap result_ok (c.in_range.ensures
-    ∙ ap (λ (e : ℤ). in_range (decimal_at c.args.is_negative c.stripped-digits.result.0 e)) (exponent ∙ (λ i. given i +ℤ zeros i)))
-    ∙ decimal-few c.args.is_negative c.args.size c.stripped-digits.result.0 c.stripped-digits.result.1 c.args.exponent
-    c.stripped-digits.ensures.stripped c.requires.some (omega (arith, c.stripped-digits.ensures.zeros))
-    c.if-digits-ge-MANTISSA_LIMIT.false
+    ∙ ap (λ (e : ℤ). in_range (decimal_at c.args.is_negative c.stripped-digits.result.0 e))
+    (exponent ∙ (λ i. given i +ℤ zeros i))) ∙ decimal-few c.args.is_negative c.args.size c.stripped-digits.result.0
+    c.stripped-digits.result.1 c.args.exponent c.stripped-digits.ensures.stripped c.requires.some
+    (omega (arith, c.stripped-digits.ensures.zeros)) c.if-digits-ge-MANTISSA_LIMIT.false

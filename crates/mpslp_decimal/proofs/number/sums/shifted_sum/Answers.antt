@@ -19,6 +19,7 @@ returns-in_err-shifted c =
     let mantissa : to_z w128 (of_z w128 c.args.mantissa) ≡ c.args.mantissa = search rules in
     let far : 10 ^ 37 ≤ unsigned_abs c.args.mantissa * 10 ^ c.args.places =
     subst (λ (m : ℤ). 10 ^ 37 ≤ unsigned_abs m * 10 ^ c.args.places) mantissa c.in_err-shifted.ensures in
-    subst (λ (r : Option ℤ). MatchOption r (2 * 10 ^ 36 ≤ unsigned_abs (c.args.mantissa *ℤ pos (10 ^ c.args.places) +ℤ c.args.other))
-    (λ s. s ≡ c.args.mantissa *ℤ pos (10 ^ c.args.places) +ℤ c.args.other))
-    (sym c.from_residual.ensures) (far-sum c.args.mantissa c.args.other (10 ^ c.args.places) far c.requires)
+    subst (λ (r : Option ℤ). MatchOption r
+    (2 * 10 ^ 36 ≤ unsigned_abs (c.args.mantissa *ℤ pos (10 ^ c.args.places) +ℤ c.args.other))
+    (λ s. s ≡ c.args.mantissa *ℤ pos (10 ^ c.args.places) +ℤ c.args.other)) (sym c.from_residual.ensures)
+    (far-sum c.args.mantissa c.args.other (10 ^ c.args.places) far c.requires)

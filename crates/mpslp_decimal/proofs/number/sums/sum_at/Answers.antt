@@ -6,7 +6,8 @@ use Rattle.mpslp_decimal.{proofs.SumLemmas.{sum-none, sum-some, sum-zero_first, 
 use Rattle.mpslp_decimal.proofs.number.sums.sum_at.Goals as goal
 
 pub returns-then-is_zero : goal.returns-then-is_zero
-returns-then-is_zero c = sum-zero_first c.args.high c.args.low (search rules) (search rules) (sym c.is_zero.ensures ∙ c.if-is_zero.true)
+returns-then-is_zero c = sum-zero_first c.args.high c.args.low (search rules) (search rules)
+    (sym c.is_zero.ensures ∙ c.if-is_zero.true)
 
 pub returns-then-is_zero-2 : goal.returns-then-is_zero-2
 returns-then-is_zero-2 c = sum-zero_second c.args.high c.args.low (search rules) (search rules) (sym c.is_zero-2.ensures
@@ -17,9 +18,10 @@ returns-in_err-sum c =
     let high : to_z w128 (of_z w128 c.mantissa.result) ≡ c.args.high.mantissa = search rules in
     let low : to_z w128 (of_z w128 c.mantissa-2.result) ≡ c.args.low.mantissa = search rules in
     c.from_residual.ensures
-    ∙ sum-far c.args.high c.args.low c.abs_diff-places.result (search rules) (search rules) (search rules) (sym c.is_zero-2.ensures
-    ∙ c.if-is_zero-2.false) (search rules)
-    (subst (λ (s : ℤ). 2 * 10 ^ 36 ≤ unsigned_abs s) (λ i. high i *ℤ pos (10 ^ c.abs_diff-places.result) +ℤ low i) c.in_err-sum.ensures)
+    ∙ sum-far c.args.high c.args.low c.abs_diff-places.result (search rules) (search rules) (search rules)
+    (sym c.is_zero-2.ensures ∙ c.if-is_zero-2.false) (search rules)
+    (subst (λ (s : ℤ). 2 * 10 ^ 36 ≤ unsigned_abs s) (λ i. high i *ℤ pos (10 ^ c.abs_diff-places.result) +ℤ low i)
+    c.in_err-sum.ensures)
 
 pub returns-then-sum-eq0 : goal.returns-then-sum-eq0
 returns-then-sum-eq0 c =
@@ -51,8 +53,8 @@ returns c =
     let size : c.unsigned_abs.result ≡ unsigned_abs c.in_ok-sum.sum = c.unsigned_abs.ensures.value ∙ ap unsigned_abs held in
     c.decimal_of.ensures
     ∙ (λ i. decimal_of (decimal_at (int_lt (held i) (pos 0)) (size i) (exponent i)))
-    ∙ sum-some c.args.high c.args.low (int_lt c.in_ok-sum.sum (pos 0)) (unsigned_abs c.in_ok-sum.sum) (search rules) (search rules)
-    (search rules)
+    ∙ sum-some c.args.high c.args.low (int_lt c.in_ok-sum.sum (pos 0)) (unsigned_abs c.in_ok-sum.sum) (search rules)
+    (search rules) (search rules)
     (beside-sum c.args.high c.args.low c.abs_diff-places.result c.in_ok-sum.sum (to_z w128 (of_z w128 c.mantissa.result))
     (to_z w128 (of_z w128 c.mantissa-2.result)) (search rules) (search rules)
     high low c.in_ok-sum.ensures ∙ signed-below c.in_ok-sum.sum)

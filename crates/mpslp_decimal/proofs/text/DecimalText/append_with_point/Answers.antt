@@ -5,5 +5,5 @@ pub returns-else-digits-places : goal.returns-else-digits-places
 returns-else-digits-places c =
     point-pieces c.args.self.now c.append-else-digits-places.new.self c.append-else-digits-places-2.new.self
     c.append-else-digits-places-3.new.self c.args.digits.now c.args.places
-    c.append-else-digits-places.ensures c.append-else-digits-places-2.ensures c.append-else-digits-places-3.ensures c.if-digits-places.false
-    c.requires.places
+    c.append-else-digits-places.ensures c.append-else-digits-places-2.ensures c.append-else-digits-places-3.ensures
+    c.if-digits-places.false c.requires.places

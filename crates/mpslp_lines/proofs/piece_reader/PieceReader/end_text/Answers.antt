@@ -13,9 +13,10 @@ returns-in-Some g c =
     let r = g.L.ReadLines in
     let laws = g.met.L.ReadLines in
     let old = c.args.self.now in
-    line-ends _ r.at_end r.lines_fault _ laws.fault_is_first old (record { lines = c.read_one.new.reader; open_line = old.open_line }) _ _
-    c.requires (sym c.is_at_end.ensures ∙ c.if-is_at_end.false)
-    (λ none. let both = sym (c.is_empty.ensures.1 none) ∙ c.if-is_empty.false in cc) c.in-Some.ensures c.read_one.ensures
+    line-ends _ r.at_end r.lines_fault _ laws.fault_is_first old
+    (record { lines = c.read_one.new.reader; open_line = old.open_line }) _ _ c.requires
+    (sym c.is_at_end.ensures ∙ c.if-is_at_end.false) (λ none. let both =
+    sym (c.is_empty.ensures.1 none) ∙ c.if-is_empty.false in cc) c.in-Some.ensures c.read_one.ensures
 
 pub returns-in-None : goal.returns-in-None
 returns-in-None g c =

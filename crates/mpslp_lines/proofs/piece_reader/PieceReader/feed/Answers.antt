@@ -29,10 +29,10 @@ returns-in_err-end_line g c =
     let old = c.args.self.now in
     let front = c.in-Some.end.now in
     let error = c.in_err-end_line.field-0.0 in
-    ends-feed r.has_read r.at_end r.lines_fault old c.end_line.new.self c.args.piece.now error c.from_residual-in_err-end_line.result
-    c.from_residual-in_err-end_line.ensures.1
-    (refuses-more r.has_read r.at_end r.lines_fault laws.fault_stays old (front ++ 10 ∷ []) c.in-Some.rest.now c.args.piece.now error
-    c.in-Some.ensures.1
+    ends-feed r.has_read r.at_end r.lines_fault old c.end_line.new.self c.args.piece.now error
+    c.from_residual-in_err-end_line.result c.from_residual-in_err-end_line.ensures.1
+    (refuses-more r.has_read r.at_end r.lines_fault laws.fault_stays old (front ++ 10 ∷ []) c.in-Some.rest.now
+    c.args.piece.now error c.in-Some.ensures.1
     (refuses-after r.has_read r.at_end r.lines_fault old c.keep-2.new.self front (10 ∷ []) (front ++ 10 ∷ []) error refl
     c.in_ok-keep.ensures.answer c.in_err-end_line.ensures.answer))
 
@@ -44,10 +44,11 @@ returns-then-is_at_end-2 g c =
     let front = c.in-Some.end.now in
     let rest = c.in-Some.rest.now in
     let ended = c.end_line.new.self in
-    then-feeds r.has_read r.at_end r.lines_fault old ended ended (front ++ 10 ∷ []) rest c.args.piece.now (Ok tt) c.in-Some.ensures.1
-    (then-feeds r.has_read r.at_end r.lines_fault old c.keep-2.new.self ended front (10 ∷ []) (front ++ 10 ∷ []) (Ok tt) refl
-    c.in_ok-keep.ensures.answer c.in_ok-end_line.ensures.answer)
-    (λ bytes fed. after-fed r.has_read r.at_end laws.after_end ended rest bytes (sym c.is_at_end-2.ensures ∙ c.if-is_at_end-2.true) fed)
+    then-feeds r.has_read r.at_end r.lines_fault old ended ended (front ++ 10 ∷ []) rest c.args.piece.now (Ok tt)
+    c.in-Some.ensures.1 (then-feeds r.has_read r.at_end r.lines_fault old c.keep-2.new.self ended front (10 ∷ [])
+    (front ++ 10 ∷ []) (Ok tt) refl c.in_ok-keep.ensures.answer c.in_ok-end_line.ensures.answer)
+    (λ bytes fed. after-fed r.has_read r.at_end laws.after_end ended rest bytes
+    (sym c.is_at_end-2.ensures ∙ c.if-is_at_end-2.true) fed)
 
 pub returns : goal.returns
 returns g c =
@@ -55,7 +56,7 @@ returns g c =
     let old = c.args.self.now in
     let front = c.in-Some.end.now in
     let ended = c.end_line.new.self in
-    then-feeds r.has_read r.at_end r.lines_fault old ended c.feed_lines-2.new.self (front ++ 10 ∷ []) c.in-Some.rest.now c.args.piece.now
-    c.feed_lines-2.result c.in-Some.ensures.1
+    then-feeds r.has_read r.at_end r.lines_fault old ended c.feed_lines-2.new.self (front ++ 10 ∷ []) c.in-Some.rest.now
+    c.args.piece.now c.feed_lines-2.result c.in-Some.ensures.1
     (then-feeds r.has_read r.at_end r.lines_fault old c.keep-2.new.self ended front (10 ∷ []) (front ++ 10 ∷ []) (Ok tt) refl
     c.in_ok-keep.ensures.answer c.in_ok-end_line.ensures.answer) c.feed_lines-2.ensures

@@ -12,7 +12,8 @@ finish_by_columns-requires c =
     ∙ led-named c.requires.text c.args.self c.requires.read (sym c.is_at_end-is_at_end.ensures ∙ c.if-not-is_at_end.false)
 
 pub returns-then-not-is_at_end : goal.returns-then-not-is_at_end
-returns-then-not-is_at_end c = λ bytes read. ends-missing bytes c.args.self read (sym c.is_at_end-is_at_end.ensures ∙ c.if-not-is_at_end.true)
+returns-then-not-is_at_end c =
+    λ bytes read. ends-missing bytes c.args.self read (sym c.is_at_end-is_at_end.ensures ∙ c.if-not-is_at_end.true)
 
 pub returns : goal.returns
 returns c = λ bytes read. ends-text _ c.args.self _ read

@@ -9,7 +9,8 @@ returns-then-find_column c =
     let column = c.args.column.now in
     let same = c.find_column.ensures.same ∙ c.self.view_is in
     let there =
-    ap (λ (all : Draft). has_column all column) c.find_column.ensures.same ∙ sym c.find_column.ensures.found ∙ c.if-find_column.true in
+    ap (λ (all : Draft). has_column all column) c.find_column.ensures.same ∙ sym c.find_column.ensures.found
+    ∙ c.if-find_column.true in
     let again : later ≡ with_declaration later (declare_column column) =
     ap (λ (columns : List (List ℕ × Unit {0})). record later { columns = columns })
     (put_again column later.columns (sorted-from_made later c.each_builder_is_made.ensures).columns there) in

@@ -20,10 +20,10 @@ returns-in_err-declare_row c =
     let split : refusals_in_turn earlier all ≡ first ++ after =
     ap (λ (name : List ℕ). refusals_in_turn earlier (declare_row name form ∷ terms)) (sym named)
     ∙ refusals_in_turn-append (declare_row c.in_ok-name.name form ∷ []) terms earlier in
-    reported-by (refusals_in_turn earlier all) earlier later all c.from_residual-in_err-declare_row.result c.in_err-declare_row.field-0.0
-    c.from_residual-in_err-declare_row.ensures.1
-    (refused-here first after (refusals_in_turn earlier all) earlier later earlier later (declare_row c.in_ok-name.name form ∷ []) all
-    c.in_err-declare_row.field-0.0 split c.in_err-declare_row.ensures)
+    reported-by (refusals_in_turn earlier all) earlier later all c.from_residual-in_err-declare_row.result
+    c.in_err-declare_row.field-0.0 c.from_residual-in_err-declare_row.ensures.1
+    (refused-here first after (refusals_in_turn earlier all) earlier later earlier later
+    (declare_row c.in_ok-name.name form ∷ []) all c.in_err-declare_row.field-0.0 split c.in_err-declare_row.ensures)
 
 pub returns : goal.returns
 returns = grind arith

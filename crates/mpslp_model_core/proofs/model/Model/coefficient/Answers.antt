@@ -7,8 +7,8 @@ cells_at-requires c = subst (λ (n : ℕ). c.args.j < n)
     (sym (count_columns c.self.view_is c.self.invariant.parts)) c.requires.column
 
 pub value_at-requires : goal.value_at-requires
-value_at-requires c = (cells_seen c.self.inside.parts c.self.invariant.parts c.args.self.now c.self.view_is c.args.j c.cells_at.result.now
-    c.cells_at.ensures).sorted
+value_at-requires c = (cells_seen c.self.inside.parts c.self.invariant.parts c.args.self.now c.self.view_is c.args.j
+    c.cells_at.result.now c.cells_at.ensures).sorted
 
 pub returns : goal.returns
 returns c = c.value_at.ensures ∙ value_seen c.self.inside.parts c.self.invariant.parts c.args.self.now c.self.view_is c.args.j

@@ -9,11 +9,12 @@ cells_at-requires c =
     subst (λ (n : ℕ). c.args.j < n) (sym (count_columns c.self.view_is c.self.invariant.parts)) c.requires
 
 pub row_cells-requires : goal.row_cells-requires
-row_cells-requires c = (cells_seen c.self.inside.parts c.self.invariant.parts c.args.self.now c.self.view_is c.args.j c.cells_at.result.now
-    c.cells_at.ensures).sorted
+row_cells-requires c = (cells_seen c.self.inside.parts c.self.invariant.parts c.args.self.now c.self.view_is c.args.j
+    c.cells_at.result.now c.cells_at.ensures).sorted
 
 pub of-requires : goal.of-requires
-of-requires c = subst (λ (cells : List (ℕ × Number)). All IsOfRow cells) (sym c.row_cells.ensures) (all_of_rows c.cells_at.result.now)
+of-requires c = subst (λ (cells : List (ℕ × Number)). All IsOfRow cells) (sym c.row_cells.ensures)
+    (all_of_rows c.cells_at.result.now)
 
 pub returns : goal.returns
 returns c = ap (map (λ (entry : ℕ × Number). (Some entry.0, entry.1))) (c.of.ensures ∙ ap (map entry_of_cell) c.row_cells.ensures)

@@ -8,8 +8,8 @@ cells_at-requires c = subst (λ (n : ℕ). c.args.j < n)
     (sym (count_columns c.self.view_is c.self.invariant.parts)) c.requires.column
 
 pub row_cells-requires : goal.row_cells-requires
-row_cells-requires c = (cells_seen c.self.inside.parts c.self.invariant.parts c.args.self.now c.self.view_is c.args.j c.cells_at.result.now
-    c.cells_at.ensures).sorted
+row_cells-requires c = (cells_seen c.self.inside.parts c.self.invariant.parts c.args.self.now c.self.view_is c.args.j
+    c.cells_at.result.now c.cells_at.ensures).sorted
 
 pub entry_at-cell-requires : goal.entry_at-cell-requires
 entry_at-cell-requires c =
@@ -27,8 +27,9 @@ index_of_row_number-requires c = above_zero c.cells_at.result.now c.args.k c.ent
     (ap (λ (es : List (ℕ × Number)). slice_get es c.args.k) (sym c.row_cells.ensures) ∙ c.entry_at-cell.ensures)
 
 pub returns : goal.returns
-returns c = entry_numbered c.self.inside.parts c.self.invariant.parts c.args.self.now c.self.view_is c.args.j c.cells_at.result.now
-    (cells_seen c.self.inside.parts c.self.invariant.parts c.args.self.now c.self.view_is c.args.j c.cells_at.result.now
-    c.cells_at.ensures) c.args.k c.entry_at-cell.result.now (ap (λ (es : List (ℕ × Number)). slice_get es c.args.k)
-    (sym c.row_cells.ensures) ∙ c.entry_at-cell.ensures) c.index_of_row_number.result c.index_of_row_number.ensures
+returns c = entry_numbered c.self.inside.parts c.self.invariant.parts c.args.self.now c.self.view_is c.args.j
+    c.cells_at.result.now (cells_seen c.self.inside.parts c.self.invariant.parts c.args.self.now c.self.view_is c.args.j
+    c.cells_at.result.now c.cells_at.ensures) c.args.k c.entry_at-cell.result.now
+    (ap (λ (es : List (ℕ × Number)). slice_get es c.args.k) (sym c.row_cells.ensures) ∙ c.entry_at-cell.ensures)
+    c.index_of_row_number.result c.index_of_row_number.ensures
     ∙ ap (λ (x : Number). Some (Some c.index_of_row_number.result, x)) (sym c.value.ensures)

@@ -7,4 +7,5 @@ entry_at-requires c = subst (λ (n : ℕ). c.args.i < n)
     (sym (ap length c.deref.ensures.value ∙ count_seen (rows_seen c.self.view_is c.self.invariant.parts))) c.requires
 
 pub returns : goal.returns
-returns c = entry_seen (λ (e : List ℕ × Row). e.0) c.args.i (rows_seen c.self.view_is c.self.invariant.parts ∙ sym c.deref.ensures.value) c.entry_at.ensures
+returns c = entry_seen (λ (e : List ℕ × Row). e.0) c.args.i (rows_seen c.self.view_is c.self.invariant.parts
+    ∙ sym c.deref.ensures.value) c.entry_at.ensures

@@ -16,5 +16,6 @@ name_at-requires-clause-room c = name_inside c.self.invariant.names c.args.i
     (subst (λ (n : ℕ). c.args.i < n) (sym (count_seen (rows_seen c.self.view_is c.self.invariant.parts))) c.requires)
 
 pub returns : goal.returns
-returns c = name_seen c.self.inside.row_names c.self.view_is c.self.invariant.parts c.self.invariant.names c.args.i (subst (λ (n : ℕ).
-    c.args.i < n) (sym (count_seen (rows_seen c.self.view_is c.self.invariant.parts))) c.requires) ∙ ap Some (sym c.name_at.ensures)
+returns c = name_seen c.self.inside.row_names c.self.view_is c.self.invariant.parts c.self.invariant.names c.args.i
+    (subst (λ (n : ℕ). c.args.i < n) (sym (count_seen (rows_seen c.self.view_is c.self.invariant.parts))) c.requires)
+    ∙ ap Some (sym c.name_at.ensures)

@@ -13,7 +13,8 @@ returns-then-same_rows c =
     (column_entries n.columns) in (
       (λ h. same-parts {m = m} {n = n} c.self.view_is c.other.view_is (record {
         objective = c.has_same_objective.ensures.0 c.if-has_same_objective.true;
-        rows = sym c.deref.ensures.value ∙ c.same_rows.ensures.0 c.if-same_rows.true ∙ c.deref-then-has_same_objective.ensures.value;
+        rows = sym c.deref.ensures.value ∙ c.same_rows.ensures.0 c.if-same_rows.true
+            ∙ c.deref-then-has_same_objective.ensures.value;
         columns = is_equality.0 (sym tested ∙ h);
       })),
       (λ same. tested ∙ is_equality.1 (parts-same {m = m} {n =
@@ -21,7 +22,9 @@ returns-then-same_rows c =
     )
 
 pub returns-else-same_rows : goal.returns-else-same_rows
-returns-else-same_rows c = let one : c.args.self.now ≡ c.args.other.now → c.same_rows.result ≡ true = λ same. c.same_rows.ensures.1
-    (c.deref.ensures.value ∙ (parts-same {m = c.self.inside.parts} {n = c.other.inside.parts} c.self.view_is c.self.invariant.parts
-    c.other.view_is c.other.invariant.parts same).rows ∙ sym c.deref-then-has_same_objective.ensures.value) in
+returns-else-same_rows c = let one : c.args.self.now ≡ c.args.other.now →
+    c.same_rows.result ≡ true = λ same. c.same_rows.ensures.1
+    (c.deref.ensures.value ∙ (parts-same {m = c.self.inside.parts} {n = c.other.inside.parts} c.self.view_is
+    c.self.invariant.parts c.other.view_is c.other.invariant.parts same).rows
+    ∙ sym c.deref-then-has_same_objective.ensures.value) in
     ((λ h. let other = c.if-same_rows.false in absurd cc), one)

@@ -9,8 +9,8 @@ entry_at-requires c =
     subst (λ (n : ℕ). c.args.j < n) (spans_counted c.self.inside.cells.items c.self.view_is c.deref-2.ensures.value) c.requires
 
 pub cells_of-requires : goal.cells_of-requires
-cells_of-requires c = span_within c.self.inside.cells.items c.deref-2.ensures.value (ap length c.deref.ensures.value) c.self.invariant
-    c.args.j c.entry_at.ensures
+cells_of-requires c = span_within c.self.inside.cells.items c.deref-2.ensures.value (ap length c.deref.ensures.value)
+    c.self.invariant c.args.j c.entry_at.ensures
 
 pub returns : goal.returns
 returns c = ap (option_map (λ (column : List ℕ × ModelColumn). column.1.cells))

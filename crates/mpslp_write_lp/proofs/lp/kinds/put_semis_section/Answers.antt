@@ -8,5 +8,5 @@ pub returns : goal.returns
 returns g c =
     let columns = entries c.args.model.now.columns in
     section_under (codes "Semi-Continuous\n") (under-semi-heading _ _ refl) c.open_section.ensures
-    (prints_same (flat_map-filter (λ column. name_line column ∷ []) is_semi_column columns ∙ map-flat_map name_line (filter is_semi_column columns)) c.put_names.ensures)
-    c.close_section.ensures.closed
+    (prints_same (flat_map-filter (λ column. name_line column ∷ []) is_semi_column columns
+    ∙ map-flat_map name_line (filter is_semi_column columns)) c.put_names.ensures) c.close_section.ensures.closed

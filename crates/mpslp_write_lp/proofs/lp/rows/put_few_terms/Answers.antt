@@ -8,5 +8,7 @@ column_name-requires g c = column_below c.args.model.now c.args.i c.loop-k.k _ c
 
 pub loop-k-preserved : goal.loop-k-preserved
 loop-k-preserved g c =
-    let m = c.args.model.now in let row = row_name m c.args.i in
-    prints_same (flat_map-next (numbered_term_lines m row) (row_columns m row) c.loop-k.k) (prints_then c.loop-k.invariant c.put_term.ensures)
+    let m = c.args.model.now in
+    let row = row_name m c.args.i in
+    prints_same (flat_map-next (numbered_term_lines m row) (row_columns m row) c.loop-k.k)
+    (prints_then c.loop-k.invariant c.put_term.ensures)

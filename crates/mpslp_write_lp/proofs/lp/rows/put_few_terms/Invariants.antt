@@ -7,4 +7,5 @@ use Rattle.mpslp_write_lp.proofs.lp.rows.put_few_terms.Given as goal
 abbrev pub invariant-loop-k : goal.invariant-loop-k
 invariant-loop-k g l =
     let row = row_name l.model l.i in
-    Prints line_text g.W.Sink l.fn.output l.output (flat_map (numbered_term_lines l.model row) (take l.k (row_columns l.model row)))
+    Prints line_text g.W.Sink l.fn.output l.output
+    (flat_map (numbered_term_lines l.model row) (take l.k (row_columns l.model row)))

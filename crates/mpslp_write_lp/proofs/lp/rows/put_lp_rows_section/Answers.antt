@@ -3,4 +3,5 @@ use Prelude.{refl, [], ◌∷◌, codes, heading, section_of, section_then, sect
 use Rattle.mpslp_write_lp.proofs.lp.rows.put_lp_rows_section.Goals as goal
 
 pub returns : goal.returns
-returns g c = section_then (section_text {lines = heading (codes "Subject" ∷ codes "To" ∷ []) ∷ []} refl c.put.ensures) (section_of c.put_rows.ensures)
+returns g c = section_then (section_text {lines = heading (codes "Subject" ∷ codes "To" ∷ []) ∷ []} refl c.put.ensures)
+    (section_of c.put_rows.ensures)

@@ -28,11 +28,25 @@ put_term-requires-clause-term g c =
     let names = c.if-k-from-eq-AHEAD.names in
     let now : IsNear m i k from terms names = elim c.if-k-from-eq-AHEAD.branch [
       | then-k-from-eq-AHEAD w ↦
-          near-as m i k k from w.terms_from-terms-then-k-from-eq-AHEAD.result terms w.names_of-names-then-k-from-eq-AHEAD.result names w.from-is w.terms-is w.names-is
-          (record { begun = omega arith; near = omega arith; known = w.terms_from-terms-then-k-from-eq-AHEAD.ensures; named = w.names_of-names-then-k-from-eq-AHEAD.ensures })
+          near-as m i k k from w.terms_from-terms-then-k-from-eq-AHEAD.result terms
+          w.names_of-names-then-k-from-eq-AHEAD.result names w.from-is w.terms-is w.names-is
+          (record {
+            begun = omega arith;
+            near = omega arith;
+            known =
+                w.terms_from-terms-then-k-from-eq-AHEAD.ensures;
+            named = w.names_of-names-then-k-from-eq-AHEAD.ensures;
+          })
       | else-k-from-eq-AHEAD w ↦
           near-as m i k c.loop-k.from from c.loop-k.terms terms c.loop-k.names names w.from-is w.terms-is w.names-is
-          (record { begun = c.loop-k.invariant.begun; near = omega (arith, c.loop-k.invariant.near, w.if-k-from-eq-AHEAD.false); known = c.loop-k.invariant.known; named = c.loop-k.invariant.named })
+          (record {
+            begun = c.loop-k.invariant.begun;
+            near =
+                omega (arith, c.loop-k.invariant.near, w.if-k-from-eq-AHEAD.false);
+            known =
+                c.loop-k.invariant.known;
+            named = c.loop-k.invariant.named;
+          })
     ] in
     let place : from + (k - from) ≡ k = omega (arith, now.begun) in
     subst (λ (n : ℕ). IsTerm m i n (slice_index_or terms (k - from) c.index-terms-k.result)) place
@@ -49,14 +63,29 @@ loop-k-preserved g c =
     let names = c.if-k-from-eq-AHEAD.names in
     let now : IsNear m i k from terms names = elim c.if-k-from-eq-AHEAD.branch [
       | then-k-from-eq-AHEAD w ↦
-          near-as m i k k from w.terms_from-terms-then-k-from-eq-AHEAD.result terms w.names_of-names-then-k-from-eq-AHEAD.result names w.from-is w.terms-is w.names-is
-          (record { begun = omega arith; near = omega arith; known = w.terms_from-terms-then-k-from-eq-AHEAD.ensures; named = w.names_of-names-then-k-from-eq-AHEAD.ensures })
+          near-as m i k k from w.terms_from-terms-then-k-from-eq-AHEAD.result terms
+          w.names_of-names-then-k-from-eq-AHEAD.result names w.from-is w.terms-is w.names-is
+          (record {
+            begun = omega arith;
+            near = omega arith;
+            known =
+                w.terms_from-terms-then-k-from-eq-AHEAD.ensures;
+            named = w.names_of-names-then-k-from-eq-AHEAD.ensures;
+          })
       | else-k-from-eq-AHEAD w ↦
           near-as m i k c.loop-k.from from c.loop-k.terms terms c.loop-k.names names w.from-is w.terms-is w.names-is
-          (record { begun = c.loop-k.invariant.begun; near = omega (arith, c.loop-k.invariant.near, w.if-k-from-eq-AHEAD.false); known = c.loop-k.invariant.known; named = c.loop-k.invariant.named })
+          (record {
+            begun = c.loop-k.invariant.begun;
+            near =
+                omega (arith, c.loop-k.invariant.near, w.if-k-from-eq-AHEAD.false);
+            known =
+                c.loop-k.invariant.known;
+            named = c.loop-k.invariant.named;
+          })
     ] in
     record {
-      put = prints_same (flat_map-next (numbered_term_lines m row) (row_columns m row) k) (prints_then c.loop-k.invariant.put c.put_term.ensures);
+      put = prints_same (flat_map-next (numbered_term_lines m row) (row_columns m row) k)
+          (prints_then c.loop-k.invariant.put c.put_term.ensures);
       begun = omega (arith, now.begun);
       near = omega (arith, now.begun, now.near);
       known = now.known;
@@ -73,11 +102,26 @@ put_term-requires-clause-name g c =
     let names = c.if-k-from-eq-AHEAD.names in
     let now : IsNear m i k from terms names = elim c.if-k-from-eq-AHEAD.branch [
       | then-k-from-eq-AHEAD w ↦
-          near-as m i k k from w.terms_from-terms-then-k-from-eq-AHEAD.result terms w.names_of-names-then-k-from-eq-AHEAD.result names w.from-is w.terms-is w.names-is
-          (record { begun = omega arith; near = omega arith; known = w.terms_from-terms-then-k-from-eq-AHEAD.ensures; named = w.names_of-names-then-k-from-eq-AHEAD.ensures })
+          near-as m i k k from w.terms_from-terms-then-k-from-eq-AHEAD.result terms
+          w.names_of-names-then-k-from-eq-AHEAD.result names w.from-is w.terms-is w.names-is
+          (record {
+            begun = omega arith;
+            near = omega arith;
+            known =
+                w.terms_from-terms-then-k-from-eq-AHEAD.ensures;
+            named = w.names_of-names-then-k-from-eq-AHEAD.ensures;
+          })
       | else-k-from-eq-AHEAD w ↦
           near-as m i k c.loop-k.from from c.loop-k.terms terms c.loop-k.names names w.from-is w.terms-is w.names-is
-          (record { begun = c.loop-k.invariant.begun; near = omega (arith, c.loop-k.invariant.near, w.if-k-from-eq-AHEAD.false); known = c.loop-k.invariant.known; named = c.loop-k.invariant.named })
+          (record {
+            begun = c.loop-k.invariant.begun;
+            near =
+                omega (arith, c.loop-k.invariant.near, w.if-k-from-eq-AHEAD.false);
+            known =
+                c.loop-k.invariant.known;
+            named = c.loop-k.invariant.named;
+          })
     ] in
     let place : from + (k - from) ≡ k = omega (arith, now.begun) in
-    now.named (k - from) c.index-terms-k.result (record { ref_ptr = (0, 0); now = [] }) now.near (omega (arith, place, c.loop-k-test.true, c.row_len-k-end.ensures))
+    now.named (k - from) c.index-terms-k.result (record { ref_ptr = (0, 0); now = [] }) now.near
+    (omega (arith, place, c.loop-k-test.true, c.row_len-k-end.ensures))

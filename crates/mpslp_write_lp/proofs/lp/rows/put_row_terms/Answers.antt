@@ -14,7 +14,8 @@ returns-then-row_len-eq0 g c =
     let find_term = term_in m row in
     let joined = terms-listed model row ∙ terms-joined find_term m.columns in
     let none = sym (ap has_lines joined) ∙ none-listed model row (omega arith) in
-    prints_same ((λ i. joined i ++ term_line (c.as_bytes-first.ensures i, c.zero.ensures i) ∷ []) ∙ no-terms m.columns (filter_map find_term m.columns) _ c.column_name.ensures none)
+    prints_same ((λ i. joined i ++ term_line (c.as_bytes-first.ensures i, c.zero.ensures i) ∷ [])
+    ∙ no-terms m.columns (filter_map find_term m.columns) _ c.column_name.ensures none)
     (prints_then c.put_terms.ensures c.put_term_line.ensures)
 
 pub returns-else-row_len-eq0 : goal.returns-else-row_len-eq0

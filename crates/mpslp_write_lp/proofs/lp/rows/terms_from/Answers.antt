@@ -15,15 +15,19 @@ loop-n-preserved c =
       known = λ p default below inside. elim (cases_lt p n) [
         | inl less ↦
             subst (λ (term : ℕ × Number). IsTerm c.args.model.now c.args.i (c.args.from + p) term)
-            (sym (get_or-set_other terms n p found default (λ same. omega (arith, less, same)))) (before.known p default less inside)
+            (sym (get_or-set_other terms n p found default (λ same. omega (arith, less, same))))
+            (before.known p default less inside)
         | inr more ↦
             let same : p ≡ n = omega (arith, below, more) in
-            subst (λ (q : ℕ). IsTerm c.args.model.now c.args.i (c.args.from + q) (slice_index_or (set terms n found) q default)) (sym same)
-            (subst (λ (term : ℕ × Number). IsTerm c.args.model.now c.args.i (c.args.from + n) term) (sym (get_or-set_same terms n found default within))
+            subst (λ (q : ℕ). IsTerm c.args.model.now c.args.i (c.args.from + q)
+            (slice_index_or (set terms n found) q default)) (sym same)
+            (subst (λ (term : ℕ × Number). IsTerm c.args.model.now c.args.i (c.args.from + n) term)
+            (sym (get_or-set_same terms n found default within))
             (record { column = c.row_entry.ensures.column; value = c.row_entry.ensures.value }))
       ];
     }
 
 pub returns : goal.returns
 returns c = λ n default below inside.
-    c.loop-n.invariant.known n default (omega (arith, below, inside, c.loop-n-test.false, c.min-count.ensures, c.row_len.ensures)) inside
+    c.loop-n.invariant.known n default
+    (omega (arith, below, inside, c.loop-n-test.false, c.min-count.ensures, c.row_len.ensures)) inside

@@ -6,5 +6,6 @@ use Rattle.mpslp_write_lp.proofs.lp.rows.terms_from.Given as goal
 abbrev pub invariant-loop-n : goal.invariant-loop-n
 invariant-loop-n l = record {
   len : length l.terms ≡ 8;
-  known : (m : ℕ) (default : ℕ × Number) → m < l.n → l.from + m < length (row_columns l.model (row_name l.model l.i)) → IsTerm l.model l.i (l.from + m) (slice_index_or l.terms m default);
+  known : (m : ℕ) (default : ℕ × Number) → m < l.n → l.from + m < length (row_columns l.model (row_name l.model l.i)) →
+      IsTerm l.model l.i (l.from + m) (slice_index_or l.terms m default);
 }

@@ -5,4 +5,5 @@ use Rattle.mpslp_write_mps.proofs.mps.bounds.put_all_bounds.Goals as goal
 
 pub returns : goal.returns
 returns g c =
-    prints_each column_bound_lines (entries c.args.model.now.columns) (omega arith) (λ i within x y call. search rules) c.put_each.ensures
+    prints_each column_bound_lines (entries c.args.model.now.columns) (omega arith) (λ i within x y call. search rules)
+    c.put_each.ensures

@@ -9,6 +9,6 @@ pub returns : goal.returns
 returns g c =
     let m = c.args.model.now in
     prints_same (column-joined m c.each_model_is_sound.ensures (column_name m c.args.j)
-    ∙ named-lines (λ name. map (coefficient_line name) (printed_coefficients m.objective (column_coefficients (listing_of m) name)))
-    (entries m.columns) c.args.j c.requires)
+    ∙ named-lines (λ name. map (coefficient_line name)
+    (printed_coefficients m.objective (column_coefficients (listing_of m) name))) (entries m.columns) c.args.j c.requires)
     (prints_then c.put_objective_coefficient.ensures c.put_elements.ensures)

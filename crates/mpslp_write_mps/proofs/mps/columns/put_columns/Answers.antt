@@ -7,5 +7,5 @@ use Rattle.mpslp_write_mps.proofs.mps.columns.put_columns.Goals as goal
 
 pub returns : goal.returns
 returns g c =
-    prints_each (of_part c.args.part (column_lines (listing_of c.args.model.now))) (entries c.args.model.now.columns) (omega arith)
-    (λ i within x y call. search rules) c.put_each.ensures
+    prints_each (of_part c.args.part (column_lines (listing_of c.args.model.now))) (entries c.args.model.now.columns)
+    (omega arith) (λ i within x y call. search rules) c.put_each.ensures

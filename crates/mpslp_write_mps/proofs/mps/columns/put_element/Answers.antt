@@ -13,9 +13,11 @@ returns g c =
     let name = column_name m c.args.j in
     let column : c.as_bytes.result.now ≡ name =
     c.as_bytes.ensures ∙ sym (get_or_from_slice_get (column_names m) c.args.j _ [] c.column_name.ensures) in
-    let (e, at, index, value) = element-seen m (column_elements m name) c.args.k c.entry-i.result.0 c.entry-i.result.1 c.entry-i.ensures in
+    let (e, at, index, value) = element-seen m (column_elements m name) c.args.k c.entry-i.result.0 c.entry-i.result.1
+    c.entry-i.ensures in
     let named : Some e.0.row ≡ Some c.args.row.now =
-    sym (ap (λ (o : Option (CoefficientKey × Number)). option_map (λ (e : CoefficientKey × Number). e.0.row) o) at) ∙ c.requires.row in
+    sym (ap (λ (o : Option (CoefficientKey × Number)). option_map (λ (e : CoefficientKey × Number). e.0.row) o) at)
+    ∙ c.requires.row in
     let row : c.args.row.now ≡ e.0.row = cc in
     prints_same ((λ i. coefficient_line (column i) (row i, sym value i) ∷ [])
     ∙ sym (ap (λ (o : Option (CoefficientKey × Number)). option_map_or (element_lines name) o []) at))

@@ -10,7 +10,8 @@ abbrev pub invariant-loop-k : goal.invariant-loop-k
 invariant-loop-k g l =
     let name = column_name l.model l.j in
     record {
-      put : Prints line_text g.W.Sink l.fn.output l.output (flat_map (element_lines name) (take l.k (column_elements l.model name)));
+      put : Prints line_text g.W.Sink l.fn.output l.output
+          (flat_map (element_lines name) (take l.k (column_elements l.model name)));
       begun : l.from ≤ l.k;
       near : l.k - l.from ≤ 8;
       known : AreRowsOf l.model l.j l.from 8 l.rows;

@@ -4,4 +4,5 @@ use Rattle.mpslp_output.proofs.EachLemmas.{prints_each}
 use Rattle.mpslp_write_mps.proofs.mps.rows.put_ranges.Goals as goal
 
 pub returns : goal.returns
-returns g c = prints_each range_lines (entries c.args.model.now.rows) (omega arith) (λ i within x y call. search rules) c.put_each.ensures
+returns g c = prints_each range_lines (entries c.args.model.now.rows) (omega arith) (λ i within x y call. search rules)
+    c.put_each.ensures

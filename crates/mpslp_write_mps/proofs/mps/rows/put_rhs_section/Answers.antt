@@ -9,5 +9,5 @@ pub returns : goal.returns
 returns g c =
     let objective = c.as_bytes-objective.ensures ∙ c.objective_name.ensures in
     section_under (codes "RHS\n") (under-text Rhs _ _ refl) c.open_section.ensures
-    (prints_then (prints_same (λ i. rhs_lines (objective i) (c.objective_offset.ensures i)) c.put_rhs_line.ensures) c.put_all_rhs.ensures)
-    c.close_section.ensures.closed
+    (prints_then (prints_same (λ i. rhs_lines (objective i) (c.objective_offset.ensures i)) c.put_rhs_line.ensures)
+    c.put_all_rhs.ensures) c.close_section.ensures.closed

@@ -6,6 +6,6 @@ use Rattle.mpslp_write_mps.proofs.mps.rows.put_row_rhs.Goals as goal
 
 pub returns : goal.returns
 returns g c =
-    prints_same (lines_seen (entries c.args.model.now.rows) c.args.i (λ (row : Row). printed_rhs row.lower row.upper) rhs_lines _ _
-    c.row_name_bytes.ensures c.rhs_at-side.ensures)
+    prints_same (lines_seen (entries c.args.model.now.rows) c.args.i (λ (row : Row). printed_rhs row.lower row.upper)
+    rhs_lines _ _ c.row_name_bytes.ensures c.rhs_at-side.ensures)
     c.put_rhs_line.ensures
