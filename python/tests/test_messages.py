@@ -89,12 +89,12 @@ m: MissingEnd
 
     def test_a_cause_that_no_rule_recognises(self):
         self.assertEqual(
-            str(about("min x\nst\nc: x + . >= 1\nend\n", "lp")),
+            str(about("min x + y\nst\nd: x + y <= 9\nbounds\nx free free\nend\n", "lp")),
             """\
-m:3: BadToken: .
-  3 | c: x + . >= 1
-    |        ^
-  cause: a word or a mark that does not fit; after + comes a number, a column or a sign
+m:5: BadToken: free
+  5 | x free free
+    |        ^^^^
+  cause: a word or a mark that does not fit; after free comes a number, a column, a sign or end
   fix: correct it; mpslp-tools explain BadToken lists the usual causes""",
         )
 

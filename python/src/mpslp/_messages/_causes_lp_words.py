@@ -92,9 +92,10 @@ def lone_mark(case: Case) -> Found | None:
     before, token, after = case.before(), case.token, case.after
     for each in (token, before):
         if each is not None and each.line == case.line.number and _MARKS.fullmatch(each.text):
-            is_name = each.text == "." and each is token and after is not None and after.line == each.line
-            detail = f".{after.text} is no name, since it starts with a period" if is_name and after is not None else ""
-            return shown(case, (each,), detail)
+            is_before_name = each is token and each.text == "." and after is not None and after.line == each.line
+            if is_before_name and after is not None and after.start == each.end:
+                return shown(case, (each,), f".{after.text} is no name, since it starts with a period")
+            return shown(case, (each,))
     return None
 
 
