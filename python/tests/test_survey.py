@@ -274,7 +274,7 @@ class Command(Collection):
         os.close(writer)
         running.communicate(timeout=600)
         self.assertEqual(running.returncode, 0)
-        self.assertRegex(read_to_the_end(main), rb"\A(\r\x1b\[K2 of 3 files, \d s)+\r\x1b\[K\Z")
+        self.assertRegex(read_to_the_end(main), rb"\A(\r\x1b\[K2 of 3 files, \d+ s)+\r\x1b\[K\Z")
 
     def test_interrupted_runs_begin_no_further_file(self):
         """The processes are interrupted, as at a terminal, while they read pipes, which give no end of file before
