@@ -7,6 +7,7 @@ from the token with the error, and show the line of the mistake, too.
 from __future__ import annotations
 
 import re
+from collections import Counter
 from collections.abc import Sequence
 from fractions import Fraction
 
@@ -219,6 +220,20 @@ def nan_on_the_right(case: Case) -> Found | None:
     )
 
 
+def lone_word_on_the_right(case: Case) -> Found | None:
+    """After a relation a word that is a column nowhere else, and nothing more in the line."""
+    token = case.token
+    if token is None or not token.is_name or token.is_section or not _follows_relation(case) or _has_more(case, token):
+        return None
+    return Found(means_other=True) if _has_lone_name(case, [token]) else None
+
+
+def _has_lone_name(case: Case, tokens: Sequence[Token]) -> bool:
+    """Whether one of the tokens is a name that is nowhere else in the text."""
+    counts = Counter(each.text for each in case.tokens)
+    return any(each.is_name and counts[each.text] == 1 for each in tokens)
+
+
 def mark_after_number(case: Case) -> Found | None:
     """After a number on the right, and beside it, a mark such as %, and nothing more in the line."""
     found = _right_of_relation(case)
@@ -325,7 +340,7 @@ def terms_on_the_right(case: Case) -> Found | None:
     first, rest = found
     is_coefficient = rest[0].is_name
     mark = case.mark_of_tokens([first[-1], *rest] if is_coefficient else rest)
-    return Found(mend=solved(case, mark.number), marks=(mark,))
+    return Found(mend=solved(case, mark.number), marks=(mark,), means_other=_has_lone_name(case, rest))
 
 
 def _follows_relation(case: Case) -> bool:
@@ -625,6 +640,7 @@ RULES: tuple[Rule, ...] = (
     second_relation,
     nan_on_the_right,
     mark_after_number,
+    lone_word_on_the_right,
     terms_on_the_right,
     number_on_the_left,
     free_among_rows,

@@ -17,11 +17,13 @@ _OTHER_HEADERS = {
     **dict.fromkeys(("SENSE", "MAXMIN", "DIRECTION"), "OBJSENSE"),
     **dict.fromkeys(("CONSTRAINTS", "RESTRICTIONS"), "ROWS"),
     **dict.fromkeys(("COLS", "VARIABLES", "VARS"), "COLUMNS"),
-    **dict.fromkeys(("RIGHT", "R.H.S.", "RIGHTHAND"), "RHS"),
+    **dict.fromkeys(("RIGHT", "R.H.S.", "RIGHTHAND", "RIGHTHANDSIDE"), "RHS"),
     **dict.fromkeys(("LIMITS",), "BOUNDS"),
     **dict.fromkeys(("TITLE", "PROBLEM", "MODEL"), "NAME"),
 }
 """What is written for sections in other languages."""
+
+_SENSE_IN_HEADER = re.compile(r"OBJ(?:SENSE|ECTIVE)?[=:(]*M(?:AX|IN)(?:IMI[SZ]E)?\)?", re.IGNORECASE)
 
 
 def is_number(text: str) -> bool:
@@ -251,6 +253,12 @@ def misspelt_keyword(case: Case) -> Found | None:
     return None if found is None else Found(mend=found)
 
 
+def sense_in_header(case: Case) -> Found | None:
+    """A header such as OBJSENSE=MAX or OBJECTIVE MAX."""
+    header = "".join(field.text for field in case.fields)
+    return FOUND if case.is_header and _SENSE_IN_HEADER.fullmatch(header) else None
+
+
 def sense_without_objsense(case: Case) -> Found | None:
     """The first field is a sense, in the first column."""
     return FOUND if case.is_header and case.field.upper() in SENSES else None
@@ -274,6 +282,7 @@ def data_in_first_column(case: Case) -> Found | None:
 
 RULES: tuple[Rule, ...] = (
     conflict_marker,
+    sense_in_header,
     sense_without_objsense,
     unquoted_marker,
     several_pairs,
