@@ -196,17 +196,7 @@ def renamed(source, model, draw):
             each = draw(source)
             if each not in given.values():
                 given[name] = each
-    columns = {
-        given[name]: replace(column, values={given[row]: value for row, value in column.values.items()})
-        for name, column in model.columns.items()
-    }
-    return Model(
-        model.maximise,
-        given[model.objective],
-        model.constant,
-        {given[name]: row for name, row in model.rows.items()},
-        columns,
-    )
+    return replace_names(model, given)
 
 
 def lp_name(source):
