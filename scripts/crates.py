@@ -132,13 +132,16 @@ def is_proved_and_built(crates: list[Crate]) -> bool:
     return built(top).exists() and is_current(top, sums_of(crates)[top.name])
 
 
-def words_of(crate: Crate, crates: dict[str, Crate], libraries: Path) -> list[str]:
+def words_of(
+    crate: Crate, crates: dict[str, Crate], libraries: Path, others: dict[str, Path] | None = None
+) -> list[str]:
     """The words that name a crate to the kit's `rattle`, in the directory of the crate: its libraries, and the kit's
-    logic.
+    logic. Crates in `others` have their libraries in those directories.
 
     A static library is read as a library here: so less is read, and the functions and their proofs are the same. Who
     builds it adds `--crate-type staticlib`."""
     kit, folders = kit_folder(), {it.name: library_folder(libraries, it.name) for it in below(crates, *crate.uses)}
+    folders |= others or {}
     words = ["--crate-name", crate.name, "src/main.rt" if crate.is_program else "src/lib.rt"]
     for name in ("std", *crate.libraries):
         words += ["--extern", f"{name}={folders.get(name, kit / 'rlibs') / name}.rlib"]

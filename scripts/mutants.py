@@ -21,6 +21,9 @@ names a function that the prover then rejects. Without that line, or if the func
 checked. At last each check that rejected a mutant is made again without mutants, and may reject none of the functions
 that it was asked for.
 
+An edit may change a definition of a crate below, as `file: ../CRATE/specs/..`, if no other crate is between the two.
+That crate is built with it before this one is checked: the laws of canonical texts are in another crate than the texts.
+
 The libraries below the crates have to be proved and built, as `make` leaves them. One line is printed for each crate.
 """
 
@@ -38,7 +41,7 @@ from contextlib import AbstractContextManager, nullcontext
 from dataclasses import dataclass, field
 from pathlib import Path
 
-from crates import LIBRARIES, PARTS, Crate, crates_of_repository, seconds_of_crates, words_of
+from crates import LIBRARIES, PARTS, Crate, below, crates_of_repository, seconds_of_crates, words_of
 from kit import ROOT, kit_folder, require_kit
 from prove import LOGS
 
@@ -72,6 +75,8 @@ ITEM = re.compile(
     r" +)*"
     r"(?!use\b|mod\b)([^\W\d][\w\-]*)"
 )
+# A file of a crate below, from the directory of the crate.
+FILE_BELOW = re.compile(r"\.\./(\w+)/(.+)")
 # A function whose proof is right, with or without holes in the proofs of the functions that it calls.
 RIGHT = re.compile(r"fn (\S+): (?:no holes|proved|depends on a hole in )")
 # What it says if it was asked for a function that is not there, or for one of several.
@@ -199,6 +204,11 @@ class Mutant:
     def name(self) -> str:
         return f"{self.crate.name}/{self.path.stem}"
 
+    @property
+    def crates_below(self) -> list[str]:
+        """The crates below of which it changes a file."""
+        return list({found[1]: None for file, _, _ in self.changes if (found := FILE_BELOW.fullmatch(file))})
+
     def apply(self, texts: dict[str, str]) -> None:
         """Applies the edit to the texts of files, and notes a problem if it cannot be applied."""
         for file, old, new in self.changes:
@@ -243,6 +253,12 @@ def edits_of(crate: Crate) -> list[Path]:
     return [path for folder in folders for path in sorted(folder.glob("*.edit"))]
 
 
+def is_of_parts(file: str) -> bool:
+    """Whether a file that an edit names is one of the sources of its crate, or of a crate below."""
+    found = FILE_BELOW.fullmatch(file)
+    return (found[2] if found else file).startswith(tuple(f"{part}/" for part in PARTS))
+
+
 def read_mutant(crate: Crate, path: Path) -> Mutant:
     """Reads an edit: lines `file: PATH`, `old: TEXT` and `new: TEXT`, and `function: NAME` where another function than
     that of the text is rejected."""
@@ -256,9 +272,7 @@ def read_mutant(crate: Crate, path: Path) -> Mutant:
             old = line.removeprefix("old: ")
         elif line.startswith("new:"):
             mutant.changes.append((file, old, line.removeprefix("new:").removeprefix(" ")))
-    if not mutant.changes or not all(
-        file.startswith(tuple(f"{part}/" for part in PARTS)) and old for file, old, _ in mutant.changes
-    ):
+    if not mutant.changes or not all(is_of_parts(file) and old for file, old, _ in mutant.changes):
         mutant.problem = "it has no file, old and new text"
     else:
         mutant.apply({})
@@ -417,6 +431,7 @@ class Prover:
 
     def __init__(self, crate: Crate, crates: dict[str, Crate], libraries: Path, kept: Path, log: Path, turn: Turn):
         self.crate, self.log, self.turn, self.checks = crate, log, turn, 0
+        self.crates, self.libraries, self.kept = crates, libraries, kept
         self.bodies = [
             it
             for file in crate.files()
@@ -427,42 +442,59 @@ class Prover:
         # crate.
         self.asked: set[tuple[str, ...]] = set()
         self.has_asked_for_all = False
-        # Checks of mutants give way to proofs and scripts, which the gate runs beside them.
-        words = ["nice", "-n", "10", f"{kit_folder()}/bin/rattle", "check", *words_of(crate, crates, libraries)]
-        self.words = [*words, "--jobs", "1", "--incremental", str(kept)]
 
     def check(self, mutants: list[Mutant], functions: list[str], what: str) -> Check:
         """Checks these functions of the crate with these edits, or the whole crate if no function is given."""
         texts: dict[str, str] = {}
         for mutant in mutants:
             mutant.apply(texts)
+        names = list(dict.fromkeys(it for mutant in mutants for it in mutant.crates_below))
         self.checks += 1
-        with tempfile.TemporaryDirectory(prefix="mutant-") as name:
-            room = Path(name)
-            for part in PARTS:
-                if (self.crate.folder / part).is_dir():
-                    shutil.copytree(self.crate.folder / part, room / part)
+        with tempfile.TemporaryDirectory(prefix="mutant-") as folder:
+            rooms = Path(folder)
+            others = {name: rooms / "libraries" / name for name in names}
+            for crate in (*(self.crates[it] for it in names), self.crate):
+                for part in PARTS:
+                    if (crate.folder / part).is_dir():
+                        shutil.copytree(crate.folder / part, rooms / crate.name / part)
             for file, text in texts.items():
-                (room / file).write_text(text)
-            words = self.words
-            if functions:
-                leave_out(self.crate, room, functions)
-                words = [*words, "--allow-holes", *(word for it in functions for word in ("--only", it))]
+                (rooms / self.crate.name / file).write_text(text)
             with self.turn():
                 begun = time.monotonic()
-                ran = subprocess.run(
-                    words,
-                    cwd=room,
-                    stdin=subprocess.DEVNULL,
-                    stdout=subprocess.PIPE,
-                    stderr=subprocess.STDOUT,
-                    text=True,
-                    errors="replace",
-                    check=False,
-                )
+                built = [self.built(name, rooms / name, others[name]) for name in names]
+                ran = next((it for it in built if it.returncode), None)
+                ran = ran or self.checked(functions, rooms / self.crate.name, others)
         with self.log.open("a") as log:
             log.write(f"== {what}, {time.monotonic() - begun:.0f} s, status {ran.returncode}\n{ran.stdout}")
         return Check(ran.returncode, ran.stdout.rstrip("\n").split("\n"), self.bodies)
+
+    def checked(self, functions: list[str], room: Path, others: dict[str, Path]) -> subprocess.CompletedProcess[str]:
+        """The check of these functions of the crate in this copy of it, over other libraries of these crates."""
+        words = ["check", *words_of(self.crate, self.crates, self.libraries, others), "--incremental", str(self.kept)]
+        if functions:
+            leave_out(self.crate, room, functions)
+            words += ["--allow-holes", *(word for it in functions for word in ("--only", it))]
+        return self.run(words, room)
+
+    def built(self, name: str, room: Path, library: Path) -> subprocess.CompletedProcess[str]:
+        """The build of the library of a crate below, from this copy of it."""
+        library.mkdir(parents=True)
+        words = ["build", *words_of(self.crates[name], self.crates, self.libraries), "--statements"]
+        return self.run([*words, "-o", str(library / f"{name}.rlib")], room)
+
+    @staticmethod
+    def run(words: list[str], room: Path) -> subprocess.CompletedProcess[str]:
+        # Checks of mutants give way to proofs and scripts, which the gate runs beside them.
+        return subprocess.run(
+            ["nice", "-n", "10", f"{kit_folder()}/bin/rattle", *words, "--jobs", "1"],
+            cwd=room,
+            stdin=subprocess.DEVNULL,
+            stdout=subprocess.PIPE,
+            stderr=subprocess.STDOUT,
+            text=True,
+            errors="replace",
+            check=False,
+        )
 
     def rejects(self, mutant: Mutant, body: Body | None) -> str | None:
         """None if the prover rejects the mutant, or else why that is not known."""
@@ -500,7 +532,8 @@ class Prover:
             return body.is_of(name) or any(
                 is_named_in.search(self.contract(it)) for it in self.bodies if it.is_of(name)
             )
-        words = self.made_of(mutant.changed_names())
+        crates = [self.crate, *(self.crates[it] for it in mutant.crates_below)]
+        words = self.made_of(mutant.changed_names(), crates)
         proofs = self.crate.folder.joinpath("proofs", *name.split("::")[1:])
         texts = [file.read_text() for file in proofs.glob("*.antt")] + [
             self.whole(it) for it in self.bodies if it.is_of(name)
@@ -515,9 +548,10 @@ class Prover:
         """The text of a function."""
         return "\n".join((self.crate.folder / body.file).read_text().split("\n")[body.header : body.last])
 
-    def made_of(self, names: set[str]) -> set[str]:
+    @staticmethod
+    def made_of(names: set[str], crates: list[Crate]) -> set[str]:
         """These names, and those of the definitions and lemmas that name them, of those that name these, and so on."""
-        found, files = set(names), [it for it in self.crate.files() if it.suffix == ".antt"]
+        found, files = set(names), [it for crate in crates for it in crate.files() if it.suffix == ".antt"]
         definitions = [it for file in files for it in definitions_of(file.read_text())]
         while more := {name for name, words in definitions if name not in found and words & found}:
             found |= more
@@ -574,6 +608,14 @@ class Outcome:
         )
 
 
+def note_crates_below(mutant: Mutant, crates: dict[str, Crate]) -> None:
+    """Notes a problem if a crate of which an edit changes a file is not right below: it would not be built with it."""
+    for name in mutant.crates_below:
+        between = [it.name for it in below(crates, *mutant.crate.uses) if name in it.uses]
+        if name not in mutant.crate.uses or between:
+            mutant.problem = f"{name} is not right below {mutant.crate.name}" + "".join(f": {it}" for it in between)
+
+
 def problems_of(mutants: Iterable[Mutant]) -> list[str]:
     """What is wrong with those that cannot be applied."""
     return [f"{it.name}: {it.problem}" for it in mutants if it.problem]
@@ -581,13 +623,20 @@ def problems_of(mutants: Iterable[Mutant]) -> list[str]:
 
 def unusable_edits(crates: dict[str, Crate]) -> list[str]:
     """What is wrong with the edits of all crates that cannot be applied."""
-    return problems_of(read_mutant(crate, path) for crate in crates.values() for path in edits_of(crate))
+    return problems_of(it for crate in crates.values() for it in mutants_of(crate, crates))
+
+
+def mutants_of(crate: Crate, crates: dict[str, Crate]) -> list[Mutant]:
+    mutants = [read_mutant(crate, path) for path in edits_of(crate)]
+    for mutant in mutants:
+        note_crates_below(mutant, crates)
+    return mutants
 
 
 def test_crate(crate: Crate, crates: dict[str, Crate], libraries: Path, turn: Turn = nullcontext) -> Outcome:
     """Tests all mutants of a crate, over the proved libraries in this directory. Each check waits for its turn."""
     begun = time.monotonic()
-    mutants = [read_mutant(crate, path) for path in edits_of(crate)]
+    mutants = mutants_of(crate, crates)
     problems = problems_of(mutants)
     log = LOGS / f"mutants-{crate.name}.log"
     log.unlink(missing_ok=True)

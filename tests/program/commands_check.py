@@ -252,9 +252,9 @@ class Commands(unittest.TestCase):
         self.assertNotIn("build mpslp_types", after)
 
     def test_a_crate_that_fails_is_shown_with_its_last_lines(self) -> None:
-        made = self.make(STAND_IN_FAILS="mpslp_write_lp")
+        made = self.make(STAND_IN_FAILS="mpslp_lp_write")
         self.assertNotEqual(made.returncode, 0)
-        self.assertIn("mpslp_write_lp is not proved", made.stderr)
+        self.assertIn("mpslp_lp_write is not proved", made.stderr)
         self.assertIn("fn bounds::put: not proved", made.stderr)
         self.assertNotIn("build mpslp", self.calls())
 
@@ -281,7 +281,7 @@ class Commands(unittest.TestCase):
             words, cwd=self.copy, env=self.environment(), capture_output=True, text=True, timeout=60, check=False
         )
         self.assertEqual(checked.returncode, 0, checked.stderr)
-        self.assertEqual(sorted(self.calls()), ["build mpslp_decimal", "build mpslp_maps", "check mpslp_types"])
+        self.assertEqual(sorted(self.calls()), ["build mpslp_decimal", "build mpslp_types", "check mpslp_types"])
 
     def test_run_takes_the_proved_program_only_while_it_is_current(self) -> None:
         self.write_tool("rt.try", "cat > /dev/null; echo unproved; echo 'run=ended status=0 runners=1 proved=no' >&2\n")

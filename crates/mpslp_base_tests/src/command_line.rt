@@ -1,7 +1,7 @@
 //! Tests of arguments and the jobs that they request.
 
-use mpslp_command::job;
-use mpslp_jobs::{Form, Job, JobFault, Word};
+use mpslp_command::{Job, JobFault, Word, job};
+use mpslp_types::Form;
 use std::alloc::{AllocError, Global};
 use std::test::Fail;
 

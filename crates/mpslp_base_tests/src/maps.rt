@@ -4,8 +4,7 @@ ghost use Rattle.std.specs.Prelude.{IsTrue};
 ghost use Rattle.std.specs.FinMap.{is_sorted};
 ghost use Rattle.mpslp_types.specs.Name.{bytes_cmp};
 
-use mpslp_maps::{SortedMap, find_entry, find_index};
-use mpslp_types::Name;
+use mpslp_types::{Name, SortedMap, find_entry, find_index};
 use std::alloc::Global;
 use std::test::Fail;
 

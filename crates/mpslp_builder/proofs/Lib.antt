@@ -1,6 +1,8 @@
 pub mod Prelude
 pub mod MadeDrafts
 pub mod EntryLemmas
+pub mod ListingLemmas
+pub mod RankedSlots
 pub mod DraftEntries
 pub mod SlotLemmas
 pub mod BoundsLemmas

@@ -275,3 +275,23 @@ pub coefficients_known : (all : Draft) → IsMade all → CoefficientsAreKnown a
 coefficients_known all made key there = keyed_so (λ key. has_row all _ && has_column all _)
     key _ (imp_all _ (λ e. has_row all _ && has_column all _) _ (λ e h. second_so _ _ h)
     (good-from_made all made).coefficients) there
+
+-- ---- errors of parts
+
+none-left : (xs ys : List BuildFault) → xs ++ ys ≡ [] → (xs ≡ []) × (ys ≡ [])
+none-left [] _ h = (refl, h)
+none-left (x ∷ xs) ys h = cc
+
+-- if nothing of two parts is rejected, nothing of either is
+pub parts-taken : (all : Draft) (xs ys : Declarations)
+    → refusals_in_turn all (xs ++ ys) ≡ [] →
+    (refusals_in_turn all xs ≡ []) × (refusals_in_turn (with_declarations all xs) ys ≡ [])
+parts-taken all xs ys h = none-left (refusals_in_turn all xs) (refusals_in_turn (with_declarations all xs) ys)
+    (sym (refusals_in_turn-append xs ys all) ∙ h)
+
+-- ---- bounds that are not rejected one by one are not rejected together
+
+pub sides-taken : (all : Draft) (column : List ℕ) (lower upper : Option Limit) →
+    refusals_in_turn all (bounds_declared column lower upper) ≡ [] → is_some lower || is_some upper ≡ true →
+    bounds_refusals all column lower upper ≡ []
+sides-taken = grind arith

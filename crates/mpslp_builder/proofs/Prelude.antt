@@ -48,7 +48,7 @@ pub use Rattle.mpslp_model_core.specs.declared.{bounds.ColumnFault.ColumnFault, 
 pub use Rattle.mpslp_builder_parts.proofs.{RankLemmas.{order_apart, order_length, order_within}, TakenLemmas.as_many}
 pub use Rattle.mpslp_builder_parts.specs.{Ordered.{entries_at, name_at}, Parts.{itself, moved_in, rhs_in}, RowParts.RowParts}
 pub use Rattle.mpslp_builder_parts.specs.{Parts.ColumnParts, declared.parts.ObjectiveParts.ObjectiveParts}
-pub use Rattle.mpslp_maps.proofs.{PutKeyLemmas.put-insert, SearchLemmas.{found_nowhere, less_from, place_after, sorted-put, suc_of}}
+pub use Rattle.mpslp_types.proofs.{PutKeyLemmas.put-insert, SearchLemmas.{found_nowhere, less_from, place_after, sorted-put, suc_of}}
 pub use Rattle.mpslp_builder.specs.{Answer.{Answer, Answers, first_refusal}, Bounds.has_crossed_bounds}
 pub use Rattle.mpslp_builder.specs.{Bounds.{has_semi_bounds, lower_bound, one_limit, upper_bound, zero_limit}, Calls.CoefficientsAreKnown}
 pub use Rattle.mpslp_builder.specs.Calls.{HasColumnAdded, HasColumnChanged, HasObjective, HasObjectiveChanged, HasRhsPut, HasRowAdded}

@@ -11,8 +11,7 @@ ghost use Rattle.mpslp_builder.specs.declared.row_terms.Order.{Order};
 use crate::tables::names::is_same_name;
 use indexmap::IndexMap;
 use mpslp_decimal::Decimal;
-use mpslp_maps::find_entry;
-use mpslp_types::{HashSeed, Name};
+use mpslp_types::{HashSeed, Name, find_entry};
 use std::alloc::{AllocError, Global};
 use std::marker::Model;
 

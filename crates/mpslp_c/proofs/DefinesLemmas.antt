@@ -12,9 +12,8 @@ use Rattle.mpslp_builder.proofs.RefusalLemmas.{left_none, right_none, join_none,
 use Rattle.mpslp_builder.proofs.RefusalLemmas.{none-from_consistent}
 use Rattle.mpslp_builder.proofs.MadeDrafts.{with_declarations-append, refusals_in_turn-append, no_fault-from_made}
 use Rattle.mpslp_lines.{specs.FaultTests.kind_of_build_fault, proofs.ObjectiveLemmas.named-after}
-use Rattle.mpslp_conversions.specs.Conversions.{HasFirstFault, IsConversion, IsComparison, IsTestOfText, IsErrUnless}
-use Rattle.mpslp_conversions.specs.Laws.{Declares, Unfit}
-use Rattle.mpslp_conversions.specs.Laws.{TextOf}
+use Rattle.mpslp_model.specs.Formats.{HasFirstFault, Declares, Unfit, TextOf}
+use Rattle.mpslp_conversions.specs.Conversions.{IsConversion, IsComparison, IsTestOfText, IsErrUnless}
 use Rattle.mpslp_conversions.specs.declared.faults.ConvertFault.{ConvertFault, TheVariants.{First, Second, NotLp, OutOfMemory}}
 use Rattle.mpslp_c.specs.Stored.{Step, declares, step_faults, step_declared, or_else, first_kind, after_steps, objective_steps, Item}
 use Rattle.mpslp_c.specs.Stored.{item_fault, items, first_item_fault, after_items, is_good, is_good_item, declared_by, Defines}

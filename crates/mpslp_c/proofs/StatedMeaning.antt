@@ -24,10 +24,9 @@ use Rattle.mpslp_builder.{specs.Meaning.Means, proofs.EntryLemmas.{found-each, t
 use Rattle.mpslp_builder.proofs.{EntryLemmas.{distinct-sorted, one_of-names, at-mapped}, SlotLemmas.{same_name, flat-same, itself_named}}
 use Rattle.mpslp_builder.proofs.DraftEntries.{row_named, row_sides, column_named, column_sides, lower_of, upper_of}
 use Rattle.mpslp_builder.proofs.BoundsLemmas.{is_integer_kind, is_semi_kind}
-use Rattle.mpslp_canonical_lp.proofs.RankedSlots.{new-from_others, Section, joined-once, AreOther, other-from_sorted, slots-append}
-use Rattle.mpslp_canonical_lp.proofs.RankedSlots.{slots-flat}
-use Rattle.mpslp_jobs.specs.declared.jobs.Form.{Form, TheVariants.{Mps, Lp}}
-use Rattle.mpslp_convert.specs.Performed.{declares_in, text_in}
+use Rattle.mpslp_builder.proofs.RankedSlots.{new-from_others, Section, joined-once, AreOther, other-from_sorted, slots-append, slots-flat}
+use Rattle.mpslp_types.specs.declared.forms.Form.{Form, TheVariants.{Mps, Lp}}
+use Rattle.mpslp_write.specs.ByForm.{declares_in, text_in}
 use Rattle.mpslp_c.specs.Arrays.{RepresentsNumber, RepresentsLimit, RepresentsSide, RepresentsName, RepresentsRow, RepresentsRows}
 use Rattle.mpslp_c.specs.Arrays.{RepresentsElement, RepresentsColumn, RepresentsModel, column_len, kind_number, sense_number}
 use Rattle.mpslp_c.specs.Stored.{Step, fails, step_declared, steps_with, bytes_at, sense_steps, objective_steps, row_steps, kind_steps}

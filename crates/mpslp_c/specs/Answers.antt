@@ -4,11 +4,11 @@ use Rattle.std.specs.declared.alloc.Global.{Global}
 use Rattle.mpslp_model_core.specs.Model.{LinearModel}
 use Rattle.mpslp_types.specs.declared.faults.Fault.{Fault}
 use Rattle.mpslp_types.specs.declared.faults.NameAt.{NameAt}
-use Rattle.mpslp_jobs.specs.declared.jobs.Form.{Form}
-use Rattle.mpslp_jobs.specs.declared.jobs.Form.TheVariants.{Mps, Lp}
-use Rattle.mpslp_conversions.specs.Laws.{Declares, Unfit, TextOf}
-use Rattle.mpslp_conversions.specs.Conversions.{HasFirstFault, IsConversion, IsComparison, IsTestOfText}
-use Rattle.mpslp_convert.specs.Performed.{declares_in, first_fault_in, unfit_in, text_in}
+use Rattle.mpslp_types.specs.declared.forms.Form.{Form}
+use Rattle.mpslp_types.specs.declared.forms.Form.TheVariants.{Mps, Lp}
+use Rattle.mpslp_model.specs.Formats.{Declares, Unfit, TextOf, HasFirstFault}
+use Rattle.mpslp_conversions.specs.Conversions.{IsConversion, IsComparison, IsTestOfText}
+use Rattle.mpslp_write.specs.ByForm.{declares_in, first_fault_in, unfit_in, text_in}
 use Rattle.mpslp_conversions.specs.declared.faults.ConvertFault.{ConvertFault}
 use Rattle.mpslp_conversions.specs.declared.faults.ConvertFault.TheVariants.{First, Second, NotLp, OutOfMemory}
 use Rattle.mpslp_c.specs.Arrays.{RepresentsModel}

@@ -2,8 +2,8 @@
 use Rattle.std.specs.Prelude.{◌≡◌, ℕ, List, Vec, Ok}
 use Rattle.std.specs.declared.alloc.Global.{Global}
 use Rattle.mpslp_model_core.specs.Model.{LinearModel, IsSound}
-use Rattle.mpslp_jobs.specs.declared.jobs.Form.{Form}
-use Rattle.mpslp_convert.specs.Performed.{declares_in, first_fault_in, unfit_in, text_in}
+use Rattle.mpslp_types.specs.declared.forms.Form.{Form}
+use Rattle.mpslp_write.specs.ByForm.{declares_in, first_fault_in, unfit_in, text_in}
 use Rattle.mpslp_c.specs.Arrays.{RepresentsModel}
 use Rattle.mpslp_c.specs.Stored.{Defines}
 use Rattle.mpslp_c.specs.Answers.{IsLoading, IsStoring}

@@ -4,7 +4,7 @@ ghost use Rattle.std.specs.Prelude.{◌≡◌, IsOkUnless};
 ghost use Rattle.mpslp_model_core.specs.Model.{LinearModel};
 ghost use Rattle.mpslp_types.specs.declared.faults.Fault.{Fault};
 ghost use Rattle.mpslp_conversions.specs.Conversions.{IsErrUnless};
-ghost use Rattle.mpslp_convert.specs.Performed.{declares_in, first_fault_in};
+ghost use Rattle.mpslp_write.specs.ByForm.{declares_in, first_fault_in};
 ghost use Rattle.mpslp_c.specs.Answers.{format_of, IsLoading, IsModelReturned, IsLoadAnswer};
 
 use crate::answers::{OK, UNKNOWN_FORMAT, fault_status};
@@ -12,8 +12,8 @@ use crate::arrays::{MpslpModel, c_model};
 use crate::faults::{MpslpFault, set_fault};
 use crate::texts::format_of;
 use mpslp_conversions::{ConvertFault, model_of};
-use mpslp_jobs::Form;
 use mpslp_model::{Format, HashSeed};
+use mpslp_types::Form;
 use mpslp_write::{Lp, Mps};
 use std::alloc::Global;
 

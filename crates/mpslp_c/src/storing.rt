@@ -5,7 +5,7 @@ ghost use Rattle.mpslp_model_core.specs.Model.{LinearModel};
 ghost use Rattle.mpslp_types.specs.declared.faults.NameAt.{NameAt};
 ghost use Rattle.mpslp_builder.specs.Declaration.{Draft};
 ghost use Rattle.mpslp_conversions.specs.Conversions.{IsErrUnless};
-ghost use Rattle.mpslp_convert.specs.Performed.{unfit_in, text_in};
+ghost use Rattle.mpslp_write.specs.ByForm.{unfit_in, text_in};
 ghost use Rattle.mpslp_c.specs.Stored.{TakesSteps, placed, row_items, element_items, own_items, elements_end, column_items, first_column_steps, items, Defines};
 ghost use Rattle.mpslp_c.specs.Answers.{format_of, TakesItems, HasFault, IsStoredModel, IsStoring, IsStoreReturned, IsStoreAnswer, store_status};
 
@@ -21,10 +21,10 @@ use crate::stored_items::{
 };
 use crate::texts::format_of;
 use mpslp_conversions::{ConvertFault, text_of};
-use mpslp_jobs::Form;
 use mpslp_lines::LineError;
 use mpslp_model::laws::each_builder_is_made;
 use mpslp_model::{Builder, FaultKind, Format, HashSeed, Model, ReadFault};
+use mpslp_types::Form;
 use mpslp_write::{Lp, Mps};
 use std::alloc::Global;
 

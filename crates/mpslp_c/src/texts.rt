@@ -5,12 +5,12 @@ ghost use Rattle.mpslp_model_core.specs.Model.{LinearModel};
 ghost use Rattle.mpslp_types.specs.declared.faults.Fault.{Fault};
 ghost use Rattle.mpslp_types.specs.declared.faults.NameAt.{NameAt};
 ghost use Rattle.mpslp_conversions.specs.Conversions.{IsConversion, IsComparison, IsTestOfText, IsErrUnless};
-ghost use Rattle.mpslp_convert.specs.Performed.{declares_in, first_fault_in, unfit_in, text_in};
+ghost use Rattle.mpslp_write.specs.ByForm.{declares_in, first_fault_in, unfit_in, text_in};
 ghost use Rattle.mpslp_c.specs.Answers.{format_of};
 
 use mpslp_conversions::{ConvertFault, canonical_seeded, is_canonical_seeded, same_model_seeded};
-use mpslp_jobs::Form;
 use mpslp_model::HashSeed;
+use mpslp_types::Form;
 use mpslp_write::{Lp, Mps};
 use std::alloc::Global;
 

@@ -1,12 +1,12 @@
 -- The commands, as arguments.
 use Rattle.std.specs.Prelude.{◌≡◌, ℕ, Bool, false, not, ◌||◌, ◌&&◌, ◌==◌, if◌then◌else◌, List, [], ◌∷◌, Option, Some, None, codes}
 use Rattle.std.specs.Str.{bytes_eq}
-use Rattle.mpslp_jobs.specs.declared.jobs.Form.{Form}
-use Rattle.mpslp_jobs.specs.declared.jobs.Form.TheVariants.{Mps, Lp}
-use Rattle.mpslp_jobs.specs.declared.jobs.Job.{Job}
-use Rattle.mpslp_jobs.specs.declared.jobs.Job.TheVariants.{Canon, Same, Show}
-use Rattle.mpslp_jobs.specs.declared.jobs.JobFault.{JobFault}
-use Rattle.mpslp_jobs.specs.declared.jobs.JobFault.TheVariants.{Help, Usage, UnknownFormat, BothInputs, OutOfMemory}
+use Rattle.mpslp_types.specs.declared.forms.Form.{Form}
+use Rattle.mpslp_types.specs.declared.forms.Form.TheVariants.{Mps, Lp}
+use Rattle.mpslp_command.specs.declared.jobs.Job.{Job}
+use Rattle.mpslp_command.specs.declared.jobs.Job.TheVariants.{Canon, Same, Show}
+use Rattle.mpslp_command.specs.declared.jobs.JobFault.{JobFault}
+use Rattle.mpslp_command.specs.declared.jobs.JobFault.TheVariants.{Help, Usage, UnknownFormat, BothInputs, OutOfMemory}
 
 -- the name of a format
 abbrev pub format_text : Form → List ℕ

@@ -4,10 +4,12 @@ ghost use Rattle.std.specs.Prelude.{◌≡◌, map, IfOk, IfErr, Some, None, tru
 ghost use Rattle.std.specs.List.{list_all};
 ghost use Rattle.mpslp_command.specs.Commands.{format_text, format_of, words_of, is_plain, reads_input_twice, IsNamedRightly};
 
+use crate::jobs::{Job, JobFault};
 use crate::usage::command;
+use crate::words::Word;
 use clap::error::ErrorKind;
 use clap::{ArgMatches, Error};
-use mpslp_jobs::{Form, Job, JobFault, Word};
+use mpslp_types::Form;
 use std::alloc::Global;
 
 /// Returns the job of the arguments after the program's name.

@@ -7,7 +7,7 @@ use Rattle.mpslp_decimal.specs.Decimal.{Number}
 use Rattle.mpslp_model_core.specs.{Model.{LinearModel, Row, Column}, Views.{row_names, column_names, rows_of, columns_of, column_name}}
 use Rattle.mpslp_model_core.specs.Views.{column_elements, numbered_elements, row_sense, right_hand_side, row_range, coefficient_at}
 use Rattle.mpslp_types.specs.declared.kinds.{Kind.{Kind}, Limit.{Limit}}
-use Rattle.mpslp_output.{specs.LinesAt.{lines_at}, proofs.LinesAtLemmas.{flat_map-all}}
+use Rattle.mpslp_io.{specs.LinesAt.{lines_at}, proofs.LinesAtLemmas.{flat_map-all}}
 use Rattle.mpslp_conversions.specs.ShownText.{row_line, row_text, column_line, column_text, entries_text}
 
 no_value : {X : Type 0} (x : X) → ◌≡◌ {A = Option X} None (Some x) → ⊥

@@ -1,18 +1,7 @@
--- What formats give, and what follows from their laws together.
-use Rattle.std.specs.Prelude.{◌≡◌, ◌↔◌, ℕ, List, Option, None}
+-- What follows from the laws of formats together.
+use Rattle.std.specs.Prelude.{◌≡◌, ◌↔◌, ℕ, List, None}
 use Rattle.mpslp_model_core.specs.Model.{LinearModel}
-use Rattle.mpslp_types.specs.declared.faults.NameAt.{NameAt}
-
--- Which model bytes declare in a format, which first error they have, the first name of a model that is not legal in a format,
--- and the text of a model.
-abbrev pub Declares : Type 1
-Declares = List ℕ → LinearModel → Type 0
-
-abbrev pub Unfit : Type 0
-Unfit = LinearModel → Option NameAt
-
-abbrev pub TextOf : Type 0
-TextOf = LinearModel → List ℕ
+use Rattle.mpslp_model.specs.Formats.{Declares, Unfit, TextOf}
 
 -- For accepted texts x and y, each in its own format, and their canonical texts in a third one.
 pub record Headline (declares_x : Declares) (unfit_x : Unfit) (text_x : TextOf) (declares_y declares : Declares) (unfit : Unfit) (text : TextOf) : Type 0 where

@@ -2,11 +2,9 @@
 use Rattle.std.specs.Prelude.{◌≡◌, ℕ, ◌+◌, ◌<◌, ◌≤◌, List, Bool, true, false, Option, None, Some, Result, Ok, Err, Vec, IfSome, length}
 use Rattle.std.specs.Io.KnownBytes.{Consumes, IsAtEnd}
 use Rattle.std.specs.declared.alloc.Global.{Global}
-use Rattle.mpslp_io.specs.Devices.{Grows}
-use Rattle.mpslp_model.specs.Formats.{TookFirst}
+use Rattle.mpslp_io.specs.Devices.{Grows, TookFirst}
 use Rattle.mpslp_model_core.specs.Model.{LinearModel}
-use Rattle.mpslp_conversions.specs.Laws.{Declares, Unfit, TextOf}
-use Rattle.mpslp_conversions.specs.Conversions.{HasFirstFault}
+use Rattle.mpslp_model.specs.Formats.{Declares, Unfit, TextOf, HasFirstFault}
 use Rattle.mpslp_conversions.specs.declared.faults.RunFault.{RunFault}
 use Rattle.mpslp_conversions.specs.declared.faults.RunFault.TheVariants.{Read, TooLong, File, NotLp, Write, OutOfMemory}
 

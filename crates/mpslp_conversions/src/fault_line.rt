@@ -2,7 +2,7 @@
 
 ghost use Rattle.std.specs.Prelude.{◌≡◌, ◌+◌, ◌≤◌, ◌++◌, ℕ, List, [], true, false, Option, length, IsOk, decimal};
 ghost use Rattle.mpslp_conversions.specs.FaultLine.{line_text, name_text, place_text, file_text, fault_text, fault_line, status_of};
-ghost use Rattle.mpslp_model.specs.Formats.{IsTaken};
+ghost use Rattle.mpslp_io.specs.Devices.{IsTaken};
 
 use crate::faults::RunFault;
 use arrayvec::ArrayVec;

@@ -5,15 +5,15 @@ ghost use Rattle.std.specs.List.{enumerate_from};
 ghost use Rattle.std.specs.FinMap.{entries};
 ghost use Rattle.mpslp_model_core.specs.Views.{num_rows, num_columns, column_name, column_elements, numbered_elements};
 ghost use Rattle.mpslp_model.specs.Formats.{IsWritten};
-ghost use Rattle.mpslp_output.specs.LinesAt.{lines_at};
-ghost use Rattle.mpslp_output.specs.Printing.{Puts};
+ghost use Rattle.mpslp_io.specs.LinesAt.{lines_at};
+ghost use Rattle.mpslp_io.specs.Printing.{Puts};
 ghost use Rattle.mpslp_conversions.specs.ShownText.{sense_line, objective_line, counts_line, row_text, rows_text, entry_text, entries_text, column_text, columns_text, shown_text};
 
 use crate::shown_words::{
     kind_word, put_shown_count, put_shown_limit, put_shown_number, put_shown_word, sense_word,
 };
+use mpslp_io::{Buffer, Output, put_each};
 use mpslp_model::{Model, Sink, WriteFault};
-use mpslp_output::{Buffer, Output, put_each};
 
 /// Puts the line of the objective's sense.
 fn put_sense<W: Sink>(model: &Model, output: &mut Output<W>)

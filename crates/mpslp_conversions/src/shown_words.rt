@@ -2,12 +2,12 @@
 
 ghost use Rattle.std.specs.Prelude.{◌≡◌, ◌++◌, codes, decimal};
 ghost use Rattle.mpslp_decimal.specs.NumberText.{number_text};
-ghost use Rattle.mpslp_output.specs.Printing.{Puts};
+ghost use Rattle.mpslp_io.specs.Printing.{Puts};
 ghost use Rattle.mpslp_conversions.specs.ShownText.{sense_word, kind_word, limit_text};
 
 use mpslp_decimal::{Decimal, DecimalText};
+use mpslp_io::Output;
 use mpslp_model::{Kind, Limit, Sense, Sink};
-use mpslp_output::Output;
 
 /// Puts a space and a word.
 pub(crate) fn put_shown_word<W: Sink>(output: &mut Output<W>, word: &[u8])

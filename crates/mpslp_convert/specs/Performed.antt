@@ -4,22 +4,14 @@ use Rattle.std.specs.declared.alloc.Global.{Global}
 use Rattle.mpslp_io.specs.declared.devices.Sink.{Ghosts as SinkOf}
 use Rattle.mpslp_io.specs.declared.devices.Source.{Ghosts as SourceOf}
 use Rattle.mpslp_types.specs.declared.faults.WriteFault.{WriteFault}
-use Rattle.mpslp_model.specs.Formats.{IsTaken}
-use Rattle.mpslp_mps.specs.MpsText.{DeclaresMps}
-use Rattle.mpslp_mps.specs.FirstFault.{IsFirstMpsFault}
-use Rattle.mpslp_lp.specs.LpText.{DeclaresLp}
-use Rattle.mpslp_lp.specs.FirstFault.{IsFirstLpFault}
-use Rattle.mpslp_canonical_mps.specs.CanonicalMps.{canonical_mps}
-use Rattle.mpslp_canonical_lp.specs.CanonicalLp.{canonical_lp}
-use Rattle.mpslp_canonical_lp.specs.Unfit.{unfit}
-use Rattle.mpslp_jobs.specs.declared.jobs.Form.{Form}
-use Rattle.mpslp_jobs.specs.declared.jobs.Form.TheVariants.{Mps, Lp}
-use Rattle.mpslp_jobs.specs.declared.jobs.Job.{Job}
-use Rattle.mpslp_jobs.specs.declared.jobs.Job.TheVariants.{Canon, Same, Show}
-use Rattle.mpslp_jobs.specs.declared.jobs.JobFault.{JobFault}
-use Rattle.mpslp_jobs.specs.declared.jobs.JobFault.TheVariants as refused
-use Rattle.mpslp_conversions.specs.Laws.{Declares, Unfit, TextOf}
-use Rattle.mpslp_conversions.specs.Conversions.{HasFirstFault, IsComparison}
+use Rattle.mpslp_io.specs.Devices.{IsTaken}
+use Rattle.mpslp_write.specs.ByForm.{declares_in, first_fault_in, unfit_in, text_in}
+use Rattle.mpslp_command.specs.declared.jobs.Job.{Job}
+use Rattle.mpslp_command.specs.declared.jobs.Job.TheVariants.{Canon, Same, Show}
+use Rattle.mpslp_command.specs.declared.jobs.JobFault.{JobFault}
+use Rattle.mpslp_command.specs.declared.jobs.JobFault.TheVariants as refused
+use Rattle.mpslp_model.specs.Formats.{Declares, Unfit, TextOf, HasFirstFault}
+use Rattle.mpslp_conversions.specs.Conversions.{IsComparison}
 use Rattle.mpslp_conversions.specs.FaultLine.{fault_line, status_of}
 use Rattle.mpslp_conversions.specs.Runs.{IsHandedOn, IsCutShort, IsLoad, IsRun}
 use Rattle.mpslp_conversions.specs.ShownText.{shown_text}
@@ -30,24 +22,6 @@ use Rattle.mpslp_conversions.specs.declared.faults.RunFault.TheVariants.{Read, T
 use Rattle.mpslp_convert.specs.declared.job_end.Failure.{Failure}
 use Rattle.mpslp_convert.specs.declared.job_end.Input.{Input}
 use Rattle.mpslp_convert.specs.declared.job_end.Input.TheVariants.{Only, First, Second}
-
--- ---- the formats that the command line names
-
-abbrev pub declares_in : Form → Declares
-declares_in Mps = DeclaresMps
-declares_in Lp = DeclaresLp
-
-abbrev pub first_fault_in : Form → HasFirstFault
-first_fault_in Mps = IsFirstMpsFault
-first_fault_in Lp = IsFirstLpFault
-
-abbrev pub unfit_in : Form → Unfit
-unfit_in Mps = λ m. None
-unfit_in Lp = unfit
-
-abbrev pub text_in : Form → TextOf
-text_in Mps = canonical_mps
-text_in Lp = canonical_lp
 
 -- ---- devices before a call and after it
 

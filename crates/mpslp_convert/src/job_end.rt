@@ -4,10 +4,10 @@ ghost use Rattle.std.specs.Prelude.{◌≡◌, ◌++◌, [], ℕ, List, true, Re
 ghost use Rattle.mpslp_conversions.specs.FaultLine.{fault_line};
 ghost use Rattle.mpslp_convert.specs.Performed.{sink_change, failure_of, input_text, is_of_input, failure_line, comparison_failure, refusal_line, refusal_status, IsReported, IsEnded, IsPrinted, IsRefused, ended_by};
 
+use mpslp_command::JobFault;
 use mpslp_conversions::{ConvertFault, RunFault, line_of};
-use mpslp_jobs::JobFault;
+use mpslp_io::{Buffer, Output};
 use mpslp_model::{Sink, put_all};
-use mpslp_output::{Buffer, Output};
 
 /// The exit status of arguments that are not a job.
 const WRONG_WORDS: u8 = 3;

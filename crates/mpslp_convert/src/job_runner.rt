@@ -5,12 +5,14 @@ ghost use Rattle.mpslp_conversions.specs.Conversions.{IsComparison};
 ghost use Rattle.mpslp_conversions.specs.Feeding.{IsModelOrFault};
 ghost use Rattle.mpslp_conversions.specs.Runs.{ReadsWithin};
 ghost use Rattle.mpslp_conversions.specs.ShownText.{shown_text};
-ghost use Rattle.mpslp_convert.specs.Performed.{source_change, sink_change, declares_in, first_fault_in, unfit_in, text_in, IsRunDone, IsSaid, IsSecondDone, IsSameDone, IsDone, IsPerformed};
+ghost use Rattle.mpslp_convert.specs.Performed.{source_change, sink_change, IsRunDone, IsSaid, IsSecondDone, IsSameDone, IsDone, IsPerformed};
+ghost use Rattle.mpslp_write.specs.ByForm.{declares_in, first_fault_in, unfit_in, text_in};
 
 use crate::job_end::{Failure, Input, ended_by, print, refuse, status_of_end};
+use mpslp_command::{Job, JobFault};
 use mpslp_conversions::{ConvertFault, read_text, run_seeded, show_seeded};
-use mpslp_jobs::{Form, Job, JobFault};
 use mpslp_model::{FIXED_SEED, Fault, Format, HashSeed, Model, Sink, Source};
+use mpslp_types::Form;
 use mpslp_write::{Lp, Mps};
 use std::alloc::Global;
 

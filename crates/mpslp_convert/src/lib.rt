@@ -13,9 +13,9 @@ mod job_runner;
 pub mod laws;
 
 pub use job_runner::{perform, perform_seeded};
-pub use mpslp_command::job;
+pub use mpslp_command::{Job, JobFault, Word, job};
 pub use mpslp_conversions::{
     ConvertFault, Line, RunFault, canonical, canonical_seeded, is_canonical, is_canonical_seeded,
     line_of, load, report, run, run_seeded, same_model, same_model_seeded, show, show_seeded,
 };
-pub use mpslp_jobs::{Form, Job, JobFault, Word};
+pub use mpslp_types::Form;

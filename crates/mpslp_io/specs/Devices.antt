@@ -1,5 +1,7 @@
 -- What a call of a device does to its bytes and to the number of its calls.
-use Rattle.std.specs.Prelude.{◌≡◌, ℕ, ◌+◌, ◌-◌, ◌^◌, ◌<◌, ◌≤◌, min, List, ◌++◌, length, take, Result, Ok, Err}
+use Rattle.std.specs.Prelude.{◌≡◌, ℕ, ◌+◌, ◌-◌, ◌^◌, ◌<◌, ◌≤◌, min, List, ◌++◌, length, take, Bool, true, Result, Ok, Err}
+use Rattle.mpslp_types.specs.declared.faults.WriteFault.{WriteFault}
+use Rattle.mpslp_types.specs.declared.faults.WriteFault.TheVariants.{Write, NotLp}
 
 -- one more, at most 2^64 - 1
 abbrev pub one_call_more : ℕ → ℕ
@@ -24,3 +26,16 @@ pub record TookMore {S : Type 0} (holds : S → List ℕ → Type 0) (old new : 
   pub within : count ≤ length piece
   pub tally_is : tally_new ≡ min (tally_old + count) (2 ^ 64 - 1)
   pub holds_them : Grows holds old new (take count piece)
+
+-- The sink took the first `count` bytes of a text and no others; `reported` is their number, saturated at 2^64 - 1.
+pub record TookFirst {S : Type 0} (holds : S → List ℕ → Type 0) (old new : S) (text : List ℕ) (reported : ℕ) : Type 0 where
+  pub count : ℕ
+  pub within : count ≤ length text
+  pub reported_is : reported ≡ min count (2 ^ 64 - 1)
+  pub holds_them : Grows holds old new (take count text)
+
+-- A sink took a text, or a prefix of it before it failed.
+abbrev pub IsTaken : {S : Type 0} → (S → List ℕ → Type 0) → (S → Bool) → S → S → List ℕ → Result (Unit {0}) WriteFault → Type 0
+IsTaken holds failed old new text (Ok _) = Grows holds old new text
+IsTaken holds failed old new text (Err (Write written)) = (failed new ≡ true) × TookFirst holds old new text written
+IsTaken holds failed old new text (Err (NotLp place)) = ⊥

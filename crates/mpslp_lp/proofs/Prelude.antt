@@ -48,7 +48,8 @@ pub use Rattle.mpslp_lp_grammar.specs.Terminal.Terminal.{Other, Opens, Name, Num
 pub use Rattle.mpslp_lp_grammar.specs.TerminalToken.{as_terminal, terminals, limit_of_terminal, terminal_with_text, terminal_of_token}
 pub use Rattle.mpslp_lp_grammar.specs.TerminalToken.{HasLegalNameKind}
 pub use Rattle.mpslp_lp_grammar.specs.TokenStep.{begin_phrase_after, take_after_lone_number, take, is_at_end, says_after, at_end}
-pub use Rattle.mpslp_lp_grammar.specs.{declared.context.Context.{Context}, declared.relations.Relation.{Relation}}
+pub use Rattle.mpslp_lp_grammar.specs.declared.context.Context.{Context}
+pub use Rattle.mpslp_lp_tokens.specs.declared.relations.Relation.{Relation}
 pub use Rattle.mpslp_lp_grammar.specs.{declared.signs.Sign.{Sign as SignOf}, declared.signs.Sign.TheVariants.{Plus, Minus}}
 pub use Rattle.mpslp_lp_grammar.specs.{declared.states.ItemOwner.TheVariants.{OfObjective, OfRow}, declared.states.Place.{Place}}
 pub use Rattle.mpslp_lp_grammar.specs.declared.states.Place.TheVariants.{AtStart, BeforeItems, InObjective, BetweenRows, InRow, InBounds}

@@ -6,7 +6,7 @@ ghost use Rattle.mpslp_lp_grammar.specs.Items.{fits_second};
 ghost use Rattle.mpslp_lp_grammar.specs.Terminal.{Terminal};
 ghost use Rattle.mpslp_lp_grammar.specs.AfterToken.{Goes};
 ghost use Rattle.mpslp_lp_grammar.specs.TokenStep.{take};
-ghost use Rattle.mpslp_lp_grammar.specs.declared.relations.Relation.{Relation};
+ghost use Rattle.mpslp_lp_tokens.specs.declared.relations.Relation.{Relation};
 ghost use Rattle.mpslp_lp_grammar.specs.declared.states.Place.{Place};
 ghost use Rattle.mpslp_lp_grammar.specs.declared.states.SideOwner.{SideOwner};
 ghost use Rattle.mpslp_lp_grammar.specs.declared.states.State.{State};
@@ -22,10 +22,9 @@ use crate::plain_tokens::{
 use crate::read_line::error_before;
 use mpslp_lines::LineError;
 use mpslp_lp_grammar::{
-    Context, GivenLimit, Place, Relation, State, TerminalKind, declare_bound, declare_free,
-    fits_second, flip,
+    Context, GivenLimit, Place, State, TerminalKind, declare_bound, declare_free, fits_second, flip,
 };
-use mpslp_lp_tokens::Tokens;
+use mpslp_lp_tokens::{Relation, Tokens};
 
 /// Takes the right-hand side of a bound, and declares what it says of the column. `left` are the tokens after it on its line: their
 /// lexical errors are reported before the error of the bound.

@@ -9,10 +9,10 @@ ghost use Rattle.mpslp_lp.specs.PlainTerm.{Begins};
 ghost use Rattle.mpslp_lp.specs.PlainPhrase.{BeginsWithLimit, BeginsWithSide, BeginsWithRight};
 
 use mpslp_lp_grammar::{
-    GivenLimit, Relation, Sign, TerminalKind, TerminalToken, classify_found, limit_of_terminal,
+    GivenLimit, Sign, TerminalKind, TerminalToken, classify_found, limit_of_terminal,
 };
 use mpslp_lp_tokens::laws::each_word_has_lp_bytes;
-use mpslp_lp_tokens::{TokenKind, Tokens};
+use mpslp_lp_tokens::{Relation, TokenKind, Tokens};
 
 /// The next token, if it has no lexical error.
 #[inline(always)]

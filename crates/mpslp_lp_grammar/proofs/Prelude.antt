@@ -28,7 +28,8 @@ pub use Rattle.mpslp_lp_grammar.specs.TerminalToken.{terminal_with_text, termina
 pub use Rattle.mpslp_lp_grammar.specs.TokenByToken.{item_read, new_column, side_read, signed_side_read, says}
 pub use Rattle.mpslp_lp_grammar.specs.TokenStep.{begin_phrase_after, refuse_constant, take_after_lone_number, take, at_end, says_after}
 pub use Rattle.mpslp_lp_grammar.specs.{WithinPhrase.{follow, resume}, declared.context.Context.{Context}}
-pub use Rattle.mpslp_lp_grammar.specs.{declared.relations.Relation.{Relation}, declared.signs.Sign.{Sign as SignOf}}
+pub use Rattle.mpslp_lp_tokens.specs.declared.relations.Relation.{Relation}
+pub use Rattle.mpslp_lp_grammar.specs.declared.signs.Sign.{Sign as SignOf}
 pub use Rattle.mpslp_lp_grammar.specs.{declared.signs.Sign.TheVariants.{Plus, Minus}, declared.states.ItemOwner.{ItemOwner}}
 pub use Rattle.mpslp_lp_grammar.specs.{declared.states.ItemOwner.TheVariants.{OfRow, OfObjective}, declared.states.Place.{Place}}
 pub use Rattle.mpslp_lp_grammar.specs.declared.states.Place.TheVariants.{BeforeItems, InObjective, InSemis, AtStart, BetweenRows, InRow}

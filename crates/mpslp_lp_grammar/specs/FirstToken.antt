@@ -20,7 +20,7 @@ use Rattle.mpslp_lp_grammar.specs.declared.states.ListSection.TheVariants as lis
 use Rattle.mpslp_lp_grammar.specs.declared.states.ItemOwner.TheVariants.{OfObjective, OfRow}
 use Rattle.mpslp_lp_grammar.specs.declared.states.SideOwner.TheVariants.{SideOfRow, SideOfBound}
 use Rattle.mpslp_lp_grammar.specs.declared.states.State.TheVariants.{Between, AtObjective, AtLastWord, AtSemi, Signs, RowName, RowSign, RowNumber, RowLeft, BoundName, BoundSign, BoundLeft, AtSide, AfterEnd}
-use Rattle.mpslp_lp_grammar.specs.declared.relations.Relation.{Relation}
+use Rattle.mpslp_lp_tokens.specs.declared.relations.Relation.{Relation}
 use Rattle.mpslp_lp_tokens.specs.declared.words.SectionWord.{SectionWord}
 use Rattle.mpslp_lp_tokens.specs.declared.words.SectionWord.TheVariants as words
 use Rattle.mpslp_lp_grammar.specs.AfterToken.{AfterToken, refuse, with_made, declare_at, take_term, begin_item, take_side_value, Goes, Refuses}

@@ -1,7 +1,7 @@
 -- An incomplete row.
 use Rattle.mpslp_types.specs.Basics.{ℕ, List, Option, Number}
 use Rattle.mpslp_types.specs.declared.kinds.Limit.{Limit}
-use Rattle.mpslp_lp_grammar.specs.declared.relations.Relation.{Relation}
+use Rattle.mpslp_lp_tokens.specs.declared.relations.Relation.{Relation}
 
 pub record PartialRow : Type 0 where
   pub name : List ℕ

@@ -4,7 +4,8 @@ use Rattle.mpslp_types.specs.Basics.{Number as Decimal, is_like_exponent, least_
 use Rattle.mpslp_types.specs.declared.faults.FaultKind.{FaultKind, TheVariants.NameLikeExponent, TheVariants.Sos, TheVariants.Quadratic, TheVariants.Indicator}
 use Rattle.mpslp_lines.specs.FaultTests.{value_of, first_held, legal_tests, name_tests, number_fault}
 use Rattle.mpslp_lp_tokens.specs.Token.{Token, tokens, outside_comment, class_of}
-pub use Rattle.mpslp_lp_grammar.specs.declared.{signs.Sign.Sign as SignOf, signs.Sign.TheVariants.Plus, signs.Sign.TheVariants.Minus, relations.Relation.Relation, relations.Relation.TheVariants.AtMost, relations.Relation.TheVariants.AtLeast, relations.Relation.TheVariants.EqualTo}
+pub use Rattle.mpslp_lp_grammar.specs.declared.{signs.Sign.Sign as SignOf, signs.Sign.TheVariants.Plus, signs.Sign.TheVariants.Minus}
+pub use Rattle.mpslp_lp_tokens.specs.declared.relations.Relation.{Relation, TheVariants.AtMost, TheVariants.AtLeast, TheVariants.EqualTo}
 use Rattle.mpslp_lp_tokens.specs.declared.{tokens.TokenKind.TokenKind, words.SectionWord.SectionWord, words.WordClass.WordClass}
 use Rattle.mpslp_lp_tokens.specs.declared.tokens.TokenKind.TheVariants as kinds
 use Rattle.mpslp_lp_tokens.specs.declared.words.WordClass.TheVariants as words
@@ -43,6 +44,9 @@ terminal_of _ text = Other
 pub record TerminalAt : Type 0 where
   pub line : ℕ
   pub terminal : Terminal
+
+abbrev pub at : ℕ → Terminal → TerminalAt
+at n terminal = record { line = n; terminal = terminal }
 
 -- the terminals of a line, with its number
 abbrev pub line_terminals : ℕ × List ℕ → List TerminalAt

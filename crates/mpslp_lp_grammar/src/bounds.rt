@@ -19,13 +19,13 @@ ghost use Rattle.mpslp_lp_grammar.specs.FirstToken.{begin_bound, take_second_rel
 use crate::answers::{at_place, refuse};
 use crate::context::Context;
 use crate::given_limit::GivenLimit;
-use crate::relations::Relation;
 use crate::rows::{end_row, fits_second};
 use crate::sides::{flip, limit_of_terminal};
 use crate::signs::Sign;
 use crate::states::{Place, SideOwner, State};
 use crate::terminals::{TerminalKind, TerminalToken};
 use mpslp_lines::LineError;
+use mpslp_lp_tokens::Relation;
 use mpslp_model::laws::each_name_is_legal;
 use mpslp_model::{FaultKind, Limit, Name};
 

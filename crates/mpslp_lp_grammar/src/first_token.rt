@@ -18,12 +18,11 @@ use crate::answers::{at_place, refuse};
 use crate::bounds::{begin_bound, take_second_relation};
 use crate::context::Context;
 use crate::items::begin_item;
-use crate::relations::Relation;
 use crate::rows::{begin_row, fits_left};
 use crate::states::{ItemOwner, LastWord, ListSection, PartialRow, Place, SideOwner, State};
 use crate::terminals::{TerminalKind, TerminalToken};
 use mpslp_lines::LineError;
-use mpslp_lp_tokens::SectionWord;
+use mpslp_lp_tokens::{Relation, SectionWord};
 use mpslp_model::{FaultKind, Name, Sense};
 
 /// The state after the first word of a section.

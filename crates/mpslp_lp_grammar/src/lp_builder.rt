@@ -14,12 +14,12 @@ ghost use Rattle.mpslp_lp_grammar.specs.Declares.{Declares, DeclaresBounds, Decl
 ghost use Rattle.mpslp_lp_grammar.specs.FirstToken.{kind_declared};
 
 use crate::given_limit::GivenLimit;
-use crate::relations::Relation;
 use crate::states::{ListSection, PartialParts, PartialRow};
 use itoa::Buffer;
 use mpslp_builder::{ReaderBuilder, RowTerms};
 use mpslp_decimal::Decimal;
 use mpslp_lines::LineError;
+use mpslp_lp_tokens::Relation;
 use mpslp_model::laws::{each_builder_is_made, each_name_is_legal};
 use mpslp_model::{Builder, HashSeed, Limit, Name, Sense};
 use std::alloc::Global;

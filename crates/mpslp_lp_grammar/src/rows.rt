@@ -18,12 +18,12 @@ use crate::answers::{at_place, refuse};
 use crate::context::Context;
 use crate::given_limit::GivenLimit;
 use crate::items::take_term;
-use crate::relations::Relation;
 use crate::signs::Sign;
 use crate::states::{ItemOwner, PartialRow, Place, State};
 use crate::terminals::{TerminalKind, TerminalToken};
 use mpslp_decimal::Decimal;
 use mpslp_lines::LineError;
+use mpslp_lp_tokens::Relation;
 use mpslp_model::{FaultKind, Limit, Name};
 
 /// Whether the relations on both sides of a row or column agree: both are `<` or both are `>`.

@@ -6,9 +6,9 @@ ghost use Rattle.mpslp_lp_grammar.specs.Grammar.{no_limits};
 ghost use Rattle.mpslp_lp_grammar.specs.TerminalToken.{limit_of_terminal, terminal_of_token};
 
 use crate::given_limit::GivenLimit;
-use crate::relations::Relation;
 use crate::signs::Sign;
 use crate::terminals::{TerminalKind, TerminalToken};
+use mpslp_lp_tokens::Relation;
 use mpslp_model::Limit;
 
 /// The limit that a number or an infinity gives after the signs before it; `None` for any other token.

@@ -9,11 +9,11 @@ ghost use Rattle.mpslp_lp_grammar.specs.TokenStep.{is_at_end};
 
 use crate::context::Context;
 use crate::given_limit::GivenLimit;
-use crate::relations::Relation;
 use crate::signs::Sign;
 use mpslp_builder::RowTerms;
 use mpslp_decimal::Decimal;
 use mpslp_lines::LineError;
+use mpslp_lp_tokens::Relation;
 use mpslp_model::{FaultKind, Name, Sense};
 use std::alloc::Global;
 use std::marker::Model;

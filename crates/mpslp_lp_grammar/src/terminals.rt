@@ -8,11 +8,10 @@ ghost use Rattle.mpslp_lp_tokens.specs.Laws.{HasLpBytes};
 ghost use Rattle.mpslp_lp_grammar.specs.Terminal.{name_fault};
 ghost use Rattle.mpslp_lp_grammar.specs.TerminalToken.{IsTerminalOf, IsTerminalOfNumber, IsTerminalOfWord};
 
-use crate::relations::Relation;
 use crate::signs::Sign;
 use mpslp_decimal::Decimal;
 use mpslp_lines::value_of;
-use mpslp_lp_tokens::{SectionWord, TokenKind, WordClass, class_of};
+use mpslp_lp_tokens::{Relation, SectionWord, TokenKind, WordClass, class_of};
 use mpslp_model::{FaultKind, MAX_NAME_LEN, Name, NameFault};
 
 /// What the grammar sees of a token; the text of a name is separate.

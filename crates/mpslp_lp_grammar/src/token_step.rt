@@ -14,7 +14,6 @@ use crate::context::Context;
 use crate::first_token::{begin, begin_phrase_after};
 use crate::given_limit::GivenLimit;
 use crate::items::{begin_item, take_after_signs, take_term};
-use crate::relations::Relation;
 use crate::rows::begin_row;
 use crate::sides::limit_of_terminal;
 use crate::signs::Sign;
@@ -22,7 +21,7 @@ use crate::states::{ItemOwner, LastWord, PartialRow, Place, SideOwner, State};
 use crate::terminals::{TerminalKind, TerminalToken};
 use mpslp_decimal::Decimal;
 use mpslp_lines::LineError;
-use mpslp_lp_tokens::is_word;
+use mpslp_lp_tokens::{Relation, is_word};
 use mpslp_model::laws::each_name_is_legal;
 use mpslp_model::{FaultKind, Name, Sense};
 

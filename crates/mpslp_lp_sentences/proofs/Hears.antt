@@ -9,7 +9,7 @@ use Prelude.{sign_tokens, number_tokens, side_tokens, term_tokens, product_of, s
 use Prelude.{Declaration, declare_column, bounds_declared, bounds_refusals, with_declarations-append, AtMost, AtLeast, InBounds, Limits}
 use Prelude.{limits_by, flip, parts-taken, Bound, bounds_between, bounds_from_above, bound_tokens, name_tokens, bounds_by, turned}
 use Prelude.{bound_declares, names_declare}
-use Rattle.mpslp_canonical_lp.proofs.PhraseWalk.{sides-taken}
+use Rattle.mpslp_builder.proofs.MadeDrafts.{sides-taken}
 use Rattle.mpslp_lp_grammar.specs.Items.{Item}
 use Rattle.mpslp_lp_sentences.proofs.Whole.{Tokens, preceded, whole, listened, listened-ahead, listened-none}
 use Rattle.mpslp_lp_sentences.specs.Meaning.{one, infinity}

@@ -26,8 +26,11 @@ pub use Rattle.mpslp_builder.specs.Declaration.{has_row, have_infinite_side, dec
 pub use Rattle.mpslp_builder.specs.Refusal.{refusals_in_turn, bounds_refusals, has_constant, refusal_tests}
 pub use Rattle.mpslp_lines.specs.FaultTests.{kind_of_build_fault, fault_on_line, is_kind, number_fault, FaultTests, first_held}
 pub use Rattle.mpslp_lines.specs.FaultTests.{has_legal_length, is_legal_byte}
-pub use Rattle.mpslp_canonical_lp.proofs.{PhraseWalk.parts-taken, LineLemmas.{at, mapped-append}}
-pub use Rattle.mpslp_canonical_lp.specs.PrintedDeclarations.{point_at, AreNew}
+pub use Rattle.mpslp_builder.proofs.MadeDrafts.parts-taken
+pub use Rattle.mpslp_lp_grammar.specs.Terminal.{at}
+pub use Rattle.std.proofs.lemmas.List.{map-append as mapped-append}
+pub use Rattle.mpslp_lp_grammar.specs.Phrase.{point_at}
+pub use Rattle.mpslp_lp_grammar.specs.Rows.{AreNew}
 pub use Rattle.mpslp_lp.specs.{FirstFault.{fault_of, first_lp_fault}, LpText.outcome}
 pub use Rattle.mpslp_lp.specs.LpText.{numbered_lines, sound_terminals, first_own_fault, or_else, is_finished, declarations_of, is_lp_text}
 pub use Rattle.mpslp_lp_grammar.specs.AfterToken.{AfterToken, Goes, Refuses, refuse, with_made, declare_unless_refused}
@@ -51,7 +54,7 @@ pub use Rattle.mpslp_lp_grammar.specs.Terminal.{Terminal as seen, Terminal.{Name
 pub use Rattle.mpslp_lp_grammar.specs.{TerminalToken.{terminals, as_terminal}, TokenByToken.new_column}
 pub use Rattle.mpslp_lp_grammar.specs.TokenStep.{begin_phrase_after, take_after_lone_number, take, is_at_end}
 pub use Rattle.mpslp_lp_grammar.specs.declared.context.Context.{Context}
-pub use Rattle.mpslp_lp_grammar.specs.declared.relations.Relation.{Relation, TheVariants.{AtMost, AtLeast, EqualTo}}
+pub use Rattle.mpslp_lp_tokens.specs.declared.relations.Relation.{Relation, TheVariants.{AtMost, AtLeast, EqualTo}}
 pub use Rattle.mpslp_lp_grammar.specs.declared.{sections_seen.SectionsSeen.SectionsSeen, signs.Sign.Sign as SignOf}
 pub use Rattle.mpslp_lp_grammar.specs.declared.{signs.Sign.TheVariants.{Plus, Minus}, states.ItemOwner.{ItemOwner, TheVariants.OfObjective}}
 pub use Rattle.mpslp_lp_grammar.specs.declared.states.{ItemOwner.TheVariants.OfRow, LastWord.{LastWord, TheVariants.{To, That, Continuous}}}

@@ -9,8 +9,8 @@ use Rattle.mpslp_types.specs.declared.kinds.Limit.TheVariants.{MinusInf, PlusInf
 use Rattle.mpslp_builder.specs.Declaration.{RowDefinition, by_limits, Declaration, declare_sense, declare_objective, declare_constant, declare_row, declare_column, declare_coefficient, declare_lower, declare_upper, declare_integer, declare_binary, declare_semi, Declarations}
 use Rattle.mpslp_lp_grammar.specs.declared.signs.Sign.{Sign}
 use Rattle.mpslp_lp_grammar.specs.declared.signs.Sign.TheVariants.{Plus, Minus}
-use Rattle.mpslp_lp_grammar.specs.declared.relations.Relation.{Relation}
-use Rattle.mpslp_lp_grammar.specs.declared.relations.Relation.TheVariants.{AtMost, AtLeast, EqualTo}
+use Rattle.mpslp_lp_tokens.specs.declared.relations.Relation.{Relation}
+use Rattle.mpslp_lp_tokens.specs.declared.relations.Relation.TheVariants.{AtMost, AtLeast, EqualTo}
 use Rattle.mpslp_lp_sentences.specs.Phrases.{Side, Term, Item, Objective, Row, RowSection, Bound, Section, File}
 use Rattle.mpslp_lp_sentences.specs.Phrases.Side.{side}
 use Rattle.mpslp_lp_sentences.specs.Phrases.Term.{term}

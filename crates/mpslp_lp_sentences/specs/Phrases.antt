@@ -3,7 +3,7 @@ use Rattle.std.specs.Prelude.{ℕ, List, Option}
 use Rattle.mpslp_decimal.specs.Decimal.{Number}
 use Rattle.mpslp_types.specs.declared.kinds.Sense.{Sense}
 use Rattle.mpslp_lp_grammar.specs.declared.signs.Sign.{Sign}
-use Rattle.mpslp_lp_grammar.specs.declared.relations.Relation.{Relation}
+use Rattle.mpslp_lp_tokens.specs.declared.relations.Relation.{Relation}
 use Rattle.mpslp_lp_grammar.specs.Terminal.{Terminal}
 
 -- the bytes of a name

@@ -7,7 +7,7 @@ use Rattle.mpslp_types.specs.declared.kinds.Sense.{Sense}
 use Rattle.mpslp_types.specs.declared.kinds.Sense.TheVariants as senses
 use Rattle.mpslp_lp_grammar.specs.declared.signs.Sign.{Sign as SignOf}
 use Rattle.mpslp_lp_grammar.specs.declared.signs.Sign.TheVariants.{Minus}
-use Rattle.mpslp_lp_grammar.specs.declared.relations.Relation.TheVariants.{AtMost, AtLeast}
+use Rattle.mpslp_lp_tokens.specs.declared.relations.Relation.TheVariants.{AtMost, AtLeast}
 use Rattle.mpslp_lp_grammar.specs.Terminal.{Terminal}
 use Rattle.mpslp_lp_grammar.specs.Terminal.Terminal.{Opens, Name, Number, Sign, Compares, Colon, Infinity, Free}
 use Rattle.mpslp_lp_tokens.specs.declared.words.SectionWord.{SectionWord}

@@ -8,9 +8,11 @@
 #![tactic(auto)]
 
 pub mod laws;
+mod relations;
 mod scan;
 mod tokens;
 mod words;
 
+pub use relations::Relation;
 pub use tokens::{Token, TokenKind, Tokens, next_token, tokens_of};
 pub use words::{Section, SectionWord, WordClass, class_of, is_word};

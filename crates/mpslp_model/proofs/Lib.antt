@@ -1,3 +1,4 @@
 pub mod ReaderLemmas
 pub mod CompleteLineLemmas
 pub mod WorkedPieces
+pub mod WrittenLemmas

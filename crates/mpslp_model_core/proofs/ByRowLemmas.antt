@@ -24,10 +24,6 @@ use Rattle.mpslp_model_core.proofs.ViewLemmas.{cells_seen, found_seen, value_see
 
 -- ---- column by column
 
-pub range_more : (count : ℕ) → range_with_len 0 (count + 1) ≡ range_with_len 0 count ++ count ∷ []
-range_more count = sym (map-id (range_with_len 0 (count + 1))) ∙ map-range_with_len_more (λ (j : ℕ). j) 0 count count
-    (omega arith) ∙ ap (λ (l : List ℕ). l ++ count ∷ []) (map-id (range_with_len 0 count))
-
 one_filtered : (p : ℕ → Bool) (j : ℕ) → filter p (j ∷ []) ≡ column_if (p j) j
 one_filtered = grind arith
 

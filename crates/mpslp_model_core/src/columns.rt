@@ -16,7 +16,7 @@ ghost use Rattle.mpslp_model_core.specs.Columned.{row_cells, count_row_cells, co
 use crate::model_columns::ModelColumns;
 use crate::sides::is_same_number;
 use mpslp_decimal::{Decimal, PackedDecimal};
-use mpslp_maps::{Query, find_entry};
+use mpslp_types::{Query, find_entry};
 use std::cmp::Ordering;
 
 /// The index of a row in the model. It may exceed the row numbers of all coefficients.

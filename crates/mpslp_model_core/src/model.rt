@@ -24,8 +24,7 @@ use crate::row_entries::RowEntries;
 use crate::row_names::{RowNames, name_at, names_of};
 use crate::sides::{ColumnBounds, RowLimits};
 use mpslp_decimal::Decimal;
-use mpslp_maps::{entry_at, find_index};
-use mpslp_types::{Kind, Limit, Name, Sense};
+use mpslp_types::{Kind, Limit, Name, Sense, entry_at, find_index};
 use std::alloc::{AllocError, Global};
 use std::marker;
 

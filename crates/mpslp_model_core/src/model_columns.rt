@@ -14,8 +14,7 @@ use crate::model::index_of;
 use crate::model_row::ModelBounds;
 use crate::sides::ColumnBounds;
 use mpslp_decimal::PackedDecimal;
-use mpslp_maps::entry_at;
-use mpslp_types::Name;
+use mpslp_types::{Name, entry_at};
 use std::marker::Model;
 
 /// Where the coefficients of a column are in the vector of all, and its type and bounds. The builder counts coefficients by numbers

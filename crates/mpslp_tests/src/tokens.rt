@@ -1,9 +1,9 @@
 //! Tests of the tokens of LP lines.
 
 use mpslp_lp::{Section, TokenKind, next_token, tokens_of};
-use mpslp_lp_grammar::{Relation, Sign, TerminalKind, classify_found};
+use mpslp_lp_grammar::{Sign, TerminalKind, classify_found};
 use mpslp_lp_tokens::laws::each_word_has_lp_bytes;
-use mpslp_lp_tokens::{SectionWord, WordClass, class_of, is_word};
+use mpslp_lp_tokens::{Relation, SectionWord, WordClass, class_of, is_word};
 use mpslp_model::FaultKind;
 use std::alloc::{AllocError, Global};
 use std::test::Fail;

@@ -5,3 +5,6 @@ pub mod ByteSetLemmas
 pub mod ReservedLemmas
 mod WorkedNames
 pub mod LimitLemmas
+pub mod RangeLemmas
+pub mod SearchLemmas
+pub mod PutKeyLemmas

@@ -5,18 +5,18 @@ ghost use Rattle.mpslp_mps.specs.MpsText.{DeclaresMps};
 ghost use Rattle.mpslp_mps.specs.FirstFault.{IsFirstMpsFault};
 ghost use Rattle.mpslp_lp.specs.LpText.{DeclaresLp};
 ghost use Rattle.mpslp_lp.specs.FirstFault.{IsFirstLpFault};
-ghost use Rattle.mpslp_canonical_mps.specs.CanonicalMps.{canonical_mps};
-ghost use Rattle.mpslp_canonical_mps.proofs.MpsFormat as mps_laws;
-ghost use Rattle.mpslp_canonical_lp.specs.CanonicalLp.{canonical_lp};
-ghost use Rattle.mpslp_canonical_lp.specs.Unfit.{unfit};
-ghost use Rattle.mpslp_canonical_lp.proofs.LpFormat as lp_laws;
+ghost use Rattle.mpslp_mps_text.specs.CanonicalMps.{canonical_mps};
+ghost use Rattle.mpslp_mps_laws.proofs.MpsFormat as mps_laws;
+ghost use Rattle.mpslp_lp_text.specs.CanonicalLp.{canonical_lp};
+ghost use Rattle.mpslp_lp_text.specs.Unfit.{unfit};
+ghost use Rattle.mpslp_lp_laws.proofs.LpFormat as lp_laws;
 
 use crate::readers::{LpFormatReader, MpsFormatReader};
 use mpslp_lp::read_lp_seeded;
+use mpslp_lp_write::{first_unfit_name, write_lp};
 use mpslp_model::{Format, HashSeed, Model, ReadFault, Sink, WriteFault};
 use mpslp_mps::read_mps_seeded;
-use mpslp_write_lp::{first_unfit_name, write_lp};
-use mpslp_write_mps::write_mps;
+use mpslp_mps_write::write_mps;
 use std::alloc::{AllocError, Global};
 
 /// MPS as in the CPLEX file format reference, in the profile of `docs/FORMATS.md`. It can express every model.

@@ -7,8 +7,8 @@ ghost use Rattle.std.specs.Cmp.Rules.{hashing};
 ghost use Rattle.mpslp_types.specs.Name.{bytes_cmp, same_bytes};
 
 use crate::names::Name;
+use crate::sorted_map::{Key, Query};
 use indexmap::Equivalent;
-use mpslp_maps::{Key, Query};
 use std::cmp::Ordering;
 use std::hash::{Hash, Hasher};
 

@@ -1,5 +1,5 @@
 use Rattle.std.proofs.Common.{◌≡◌, ◌∙◌, sym, Some}
-use Rattle.mpslp_convert.specs.Performed.{declares_in, first_fault_in, unfit_in, text_in}
+use Rattle.mpslp_write.specs.ByForm.{declares_in, first_fault_in, unfit_in, text_in}
 use Rattle.mpslp_c.{specs.Answers.format_of, proofs.DefinesLemmas.converted}
 use Rattle.mpslp_c.proofs.calls.seeded_canonical.Goals as goal
 

@@ -1,5 +1,5 @@
 use Rattle.std.proofs.Common.{◌≡◌, ◌∙◌, sym, Some}
-use Rattle.mpslp_convert.specs.Performed.{declares_in, first_fault_in}
+use Rattle.mpslp_write.specs.ByForm.{declares_in, first_fault_in}
 use Rattle.mpslp_c.{specs.Answers.format_of, proofs.DefinesLemmas.compared}
 use Rattle.mpslp_c.proofs.calls.seeded_same.Goals as goal
 

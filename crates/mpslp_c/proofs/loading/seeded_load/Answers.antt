@@ -1,5 +1,5 @@
 use Rattle.std.proofs.Common.{◌≡◌, ◌∙◌, sym, Some}
-use Rattle.mpslp_convert.specs.Performed.{declares_in, first_fault_in}
+use Rattle.mpslp_write.specs.ByForm.{declares_in, first_fault_in}
 use Rattle.mpslp_c.{specs.Answers.format_of, proofs.DefinesLemmas.loaded}
 use Rattle.mpslp_c.proofs.loading.seeded_load.Goals as goal
 

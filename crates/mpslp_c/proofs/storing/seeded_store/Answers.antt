@@ -1,5 +1,5 @@
 use Rattle.std.proofs.Common.{◌≡◌, ◌∙◌, sym, Some}
-use Rattle.mpslp_convert.specs.Performed.{unfit_in, text_in}
+use Rattle.mpslp_write.specs.ByForm.{unfit_in, text_in}
 use Rattle.mpslp_c.{specs.Answers.format_of, proofs.DefinesLemmas.stored_so}
 use Rattle.mpslp_c.proofs.storing.seeded_store.Goals as goal
 

@@ -1,5 +1,5 @@
 use Rattle.std.{proofs.Common.{rules, arith}, specs.{List.{enumerate_from}, FinMap.{entries}}}
-use Rattle.mpslp_output.proofs.EachLemmas.{puts_each}
+use Rattle.mpslp_io.proofs.EachLemmas.{puts_each}
 use Rattle.mpslp_conversions.{specs.ShownText.{column_text}, proofs.ShownLemmas.{all-numbered}}
 use Rattle.mpslp_conversions.proofs.shown_text.put_columns.Goals as goal
 

@@ -1,5 +1,5 @@
 use Rattle.std.{proofs.Common.{[], ◌∷◌}, specs.Prelude.{codes, decimal}}
-use Rattle.mpslp_output.proofs.OutputLemmas.{puts_then, puts_same}
+use Rattle.mpslp_io.proofs.OutputLemmas.{puts_then, puts_same}
 use Rattle.mpslp_conversions.specs.ShownText.{line_of}
 use Rattle.mpslp_conversions.proofs.shown_text.put_counts.Goals as goal
 

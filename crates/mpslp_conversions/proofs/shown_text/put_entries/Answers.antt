@@ -1,6 +1,6 @@
 use Rattle.std.proofs.Common.{arith}
 use Rattle.mpslp_model_core.specs.Views.{column_name, numbered_elements}
-use Rattle.mpslp_output.proofs.{LinesAtLemmas.{flat_map-next}, OutputLemmas.{puts_nothing, puts_then, puts_same}}
+use Rattle.mpslp_io.proofs.{LinesAtLemmas.{flat_map-next}, OutputLemmas.{puts_nothing, puts_then, puts_same}}
 use Rattle.mpslp_conversions.{specs.ShownText.{entry_text}, proofs.ShownLemmas.{all-elements}}
 use Rattle.mpslp_conversions.proofs.shown_text.put_entries.Goals as goal
 

@@ -1,6 +1,6 @@
 use Rattle.std.{proofs.Common.{take}, specs.List.{flat_map}}
 use Rattle.mpslp_model_core.specs.Views.{column_name, numbered_elements}
-use Rattle.mpslp_output.specs.Printing.{Puts}
+use Rattle.mpslp_io.specs.Printing.{Puts}
 use Rattle.mpslp_conversions.specs.ShownText.{entry_text}
 use Rattle.mpslp_conversions.proofs.shown_text.put_entries.Given as goal
 

@@ -1,6 +1,6 @@
 use Rattle.std.{proofs.Common.{sym, ap, ℕ, []}, specs.{Prelude.{Option}, Option.{option_map_or}}}
 use Rattle.mpslp_decimal.specs.Decimal.{Number}
-use Rattle.mpslp_output.proofs.OutputLemmas.{puts_then, puts_same}
+use Rattle.mpslp_io.proofs.OutputLemmas.{puts_then, puts_same}
 use Rattle.mpslp_conversions.specs.ShownText.{entry_text}
 use Rattle.mpslp_conversions.proofs.shown_text.put_entry.Goals as goal
 

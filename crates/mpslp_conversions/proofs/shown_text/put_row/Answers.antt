@@ -1,6 +1,6 @@
 use Rattle.std.{proofs.Common.{◌∙◌, [], ◌∷◌}, specs.Prelude.{codes, decimal}}
 use Rattle.mpslp_decimal.specs.NumberText.{number_text}
-use Rattle.mpslp_output.proofs.OutputLemmas.{puts_then, puts_same}
+use Rattle.mpslp_io.proofs.OutputLemmas.{puts_then, puts_same}
 use Rattle.mpslp_conversions.{specs.ShownText.{line_of, limit_text}, proofs.ShownLemmas.{row-seen}}
 use Rattle.mpslp_conversions.proofs.shown_text.put_row.Goals as goal
 

@@ -1,4 +1,4 @@
-use Rattle.mpslp_output.proofs.OutputLemmas.{puts_then}
+use Rattle.mpslp_io.proofs.OutputLemmas.{puts_then}
 use Rattle.mpslp_conversions.proofs.shown_text.put_shown.Goals as goal
 
 pub returns : goal.returns

@@ -1,4 +1,4 @@
-use Rattle.mpslp_output.proofs.OutputLemmas.{puts_then}
+use Rattle.mpslp_io.proofs.OutputLemmas.{puts_then}
 use Rattle.mpslp_conversions.proofs.shown_words.put_shown_word.Goals as goal
 
 pub returns : goal.returns

@@ -1,6 +1,6 @@
 use Rattle.std.proofs.Common.{rules, [], ◌++◌}
 use Rattle.mpslp_convert.specs.Performed.{sink_change, IsReported}
-use Rattle.mpslp_output.proofs.OutputLemmas.{puts_then}
+use Rattle.mpslp_io.proofs.OutputLemmas.{puts_then}
 use Rattle.mpslp_convert.proofs.job_end.print_line.Goals as goal
 
 pub returns-clause-answer : goal.returns-clause-answer

@@ -1,5 +1,0 @@
-use Rattle.mpslp_canonical_lp.proofs.DerivedLines.{bounds-derived}
-use Rattle.mpslp_canonical_lp.proofs.laws.canonical_lp_bound_lines_are_derived.Goals as goal
-
-pub returns : goal.returns
-returns c = bounds-derived

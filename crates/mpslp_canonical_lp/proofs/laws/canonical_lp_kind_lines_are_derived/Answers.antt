@@ -1,5 +1,0 @@
-use Rattle.mpslp_canonical_lp.proofs.DerivedLines.{kinds-derived}
-use Rattle.mpslp_canonical_lp.proofs.laws.canonical_lp_kind_lines_are_derived.Goals as goal
-
-pub returns : goal.returns
-returns c = kinds-derived

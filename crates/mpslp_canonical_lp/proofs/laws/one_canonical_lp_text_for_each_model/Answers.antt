@@ -1,5 +1,0 @@
-use Rattle.mpslp_canonical_lp.proofs.LpFormat.{is-injective}
-use Rattle.mpslp_canonical_lp.proofs.laws.one_canonical_lp_text_for_each_model.Goals as goal
-
-pub returns : goal.returns
-returns c = is-injective

@@ -1,5 +1,0 @@
-use Rattle.mpslp_canonical_mps.proofs.WholeWalk.{headers-derived}
-use Rattle.mpslp_canonical_mps.proofs.laws.canonical_mps_header_lines_declare_nothing.Goals as goal
-
-pub returns : goal.returns
-returns c = headers-derived

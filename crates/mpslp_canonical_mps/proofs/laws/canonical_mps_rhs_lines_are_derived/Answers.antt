@@ -1,5 +1,0 @@
-use Rattle.mpslp_canonical_mps.proofs.WholeWalk.{rhs-derived}
-use Rattle.mpslp_canonical_mps.proofs.laws.canonical_mps_rhs_lines_are_derived.Goals as goal
-
-pub returns : goal.returns
-returns c = rhs-derived

@@ -1,5 +1,0 @@
-use Rattle.mpslp_canonical_mps.proofs.PrintableLemmas.{read-as-line_text}
-use Rattle.mpslp_canonical_mps.proofs.laws.canonical_mps_text_is_read_as_printed.Goals as goal
-
-pub returns : goal.returns
-returns c = read-as-line_text

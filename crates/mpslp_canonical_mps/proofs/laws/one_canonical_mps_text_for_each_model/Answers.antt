@@ -1,5 +1,0 @@
-use Rattle.mpslp_canonical_mps.proofs.MpsFormat.{is-injective}
-use Rattle.mpslp_canonical_mps.proofs.laws.one_canonical_mps_text_for_each_model.Goals as goal
-
-pub returns : goal.returns
-returns c = is-injective

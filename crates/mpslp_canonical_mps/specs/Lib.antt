@@ -1,4 +1,0 @@
-pub mod PrintedValues
-pub mod CanonicalMps
-pub mod PrintedDeclarations
-pub mod Laws

@@ -1,0 +1,2 @@
+pub mod PrintedDeclarations
+pub mod Laws

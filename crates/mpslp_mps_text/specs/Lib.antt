@@ -1,0 +1,2 @@
+pub mod PrintedValues
+pub mod CanonicalMps

@@ -1,0 +1,10 @@
+use Rattle.std.{proofs.Common.{refl}, specs.Prelude.{codes}}
+use Rattle.mpslp_mps_fields.specs.declared.sections.Section.TheVariants.{Bounds}
+use Rattle.mpslp_mps_write.proofs.IntegerPart.{under-text}
+use Rattle.mpslp_io.proofs.OutputLemmas.{section_under}
+use Rattle.mpslp_mps_write.proofs.mps.bounds.put_mps_bounds_section.Goals as goal
+
+pub returns : goal.returns
+returns g c =
+    section_under (codes "BOUNDS\n") (under-text Bounds _ _ refl) c.open_section.ensures c.put_all_bounds.ensures
+    c.close_section.ensures.closed

@@ -1,4 +1,0 @@
-pub mod BufferLemmas
-pub mod OutputLemmas
-pub mod LinesAtLemmas
-pub mod EachLemmas

@@ -1,4 +1,0 @@
-pub mod TextBuffer
-pub mod Printing
-pub mod EachCall
-pub mod LinesAt

@@ -1,8 +1,0 @@
-use Rattle.mpslp_write_lp.proofs.Prelude
-use Prelude.{refl, codes, section_under}
-use Rattle.mpslp_write_lp.proofs.LpLineTexts.{under-heading}
-use Rattle.mpslp_write_lp.proofs.lp.bounds.put_lp_bounds_section.Goals as goal
-
-pub returns : goal.returns
-returns g c = section_under (codes "Bounds\n") (under-heading (codes "Bounds") _ _ refl) c.open_section.ensures
-    c.put_all_bounds.ensures c.close_section.ensures.closed

@@ -1,9 +1,0 @@
-use Rattle.mpslp_write_lp.proofs.Prelude
-use Prelude.{[], puts_then, prints_line}
-use Rattle.mpslp_write_lp.proofs.LpLineTexts.{signed-text}
-use Rattle.mpslp_write_lp.proofs.lp.lines.put_constant_line.Goals as goal
-
-pub returns : goal.returns
-returns g c =
-    prints_line (signed-text c.args.value []) c.put_header.ensures
-    (puts_then c.put_signed.ensures c.put.ensures)

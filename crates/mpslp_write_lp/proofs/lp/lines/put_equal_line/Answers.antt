@@ -1,9 +1,0 @@
-use Rattle.mpslp_write_lp.proofs.Prelude
-use Prelude.{[], ◌∷◌, EqualTo, number, sense, puts_then, prints_line}
-use Rattle.mpslp_write_lp.proofs.LpLineTexts.{line-text}
-use Rattle.mpslp_write_lp.proofs.lp.lines.put_equal_line.Goals as goal
-
-pub returns : goal.returns
-returns g c =
-    prints_line (line-text 2 (sense EqualTo) (number c.args.value ∷ [])) c.put_header.ensures
-    (puts_then c.put.ensures (puts_then c.put_number.ensures c.put-2.ensures))

@@ -1,9 +1,0 @@
-use Rattle.mpslp_write_lp.proofs.Prelude
-use Prelude.{puts_then, prints_line}
-use Rattle.mpslp_write_lp.proofs.LpLineTexts.{label-text}
-use Rattle.mpslp_write_lp.proofs.lp.lines.put_label_line.Goals as goal
-
-pub returns : goal.returns
-returns g c =
-    prints_line (label-text c.args.name.now) c.put_header.ensures
-    (puts_then c.put.ensures (puts_then c.put-2.ensures c.put-3.ensures))

@@ -1,9 +1,0 @@
-use Rattle.mpslp_write_lp.proofs.Prelude
-use Prelude.{[], word, puts_then, prints_line}
-use Rattle.mpslp_write_lp.proofs.LpLineTexts.{line-text}
-use Rattle.mpslp_write_lp.proofs.lp.lines.put_name_line.Goals as goal
-
-pub returns : goal.returns
-returns g c =
-    prints_line (line-text 1 (word c.args.column.now) []) c.put_header.ensures
-    (puts_then c.put.ensures (puts_then c.put-2.ensures c.put-3.ensures))

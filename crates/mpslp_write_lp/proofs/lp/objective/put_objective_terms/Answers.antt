@@ -1,7 +1,0 @@
-use Rattle.mpslp_write_lp.proofs.Prelude
-use Prelude.{rules, arith, entries, listing_of, objective_term_lines, prints_each}
-use Rattle.mpslp_write_lp.proofs.lp.objective.put_objective_terms.Goals as goal
-
-pub returns : goal.returns
-returns g c = prints_each (objective_term_lines (listing_of c.args.model.now)) (entries c.args.model.now.columns)
-    (omega arith) (λ i within x y call. search rules) c.put_each.ensures

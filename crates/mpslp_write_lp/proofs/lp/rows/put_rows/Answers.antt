@@ -1,7 +1,0 @@
-use Rattle.mpslp_write_lp.proofs.Prelude
-use Prelude.{rules, arith, entries, listing_of, row_lines, prints_each}
-use Rattle.mpslp_write_lp.proofs.lp.rows.put_rows.Goals as goal
-
-pub returns : goal.returns
-returns g c = prints_each (row_lines (listing_of c.args.model.now)) (entries c.args.model.now.rows) (omega arith)
-    (λ i within x y call. search rules) c.put_each.ensures

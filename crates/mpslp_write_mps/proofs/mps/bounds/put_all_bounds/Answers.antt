@@ -1,9 +1,0 @@
-use Rattle.std.{proofs.Common.{rules, arith}, specs.FinMap.{entries}}
-use Rattle.mpslp_canonical_mps.specs.CanonicalMps.{column_bound_lines}
-use Rattle.mpslp_output.proofs.EachLemmas.{prints_each}
-use Rattle.mpslp_write_mps.proofs.mps.bounds.put_all_bounds.Goals as goal
-
-pub returns : goal.returns
-returns g c =
-    prints_each column_bound_lines (entries c.args.model.now.columns) (omega arith) (λ i within x y call. search rules)
-    c.put_each.ensures

@@ -1,9 +1,0 @@
-use Rattle.mpslp_canonical_mps.specs.{PrintedValues.{printed_lower, printed_upper}, CanonicalMps.{bound_line}}
-use Rattle.std.proofs.{Common.{sym}, lemmas.List.{map-append}}
-use Rattle.mpslp_output.proofs.OutputLemmas.{prints_then, prints_same}
-use Rattle.mpslp_write_mps.proofs.mps.bounds.put_both.Goals as goal
-
-pub returns : goal.returns
-returns g c =
-    prints_same (sym (map-append (bound_line c.args.column.now) (printed_lower c.args.lower.now)
-    (printed_upper c.args.kind c.args.upper.now))) (prints_then c.put_lower.ensures c.put_upper.ensures)
