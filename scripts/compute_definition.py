@@ -31,7 +31,7 @@ NO_VERDICT = 3
 # The crates whose definitions and lemmas the claim cites.
 USES = (
     "mpslp_decimal mpslp_types mpslp_model_core mpslp_builder mpslp_lines mpslp_mps mpslp_lp_tokens "
-    "mpslp_lp_grammar mpslp_lp mpslp_mps_laws"
+    "mpslp_lp_grammar mpslp_lp mpslp_mps_text mpslp_mps_laws"
 )
 # The lines in which the checker says what it rejects: where one value is expected, it found the other.
 OF_AN_ERROR = re.compile(r": error: |^  ")
@@ -72,7 +72,7 @@ use Rattle.std.specs.Prelude.{{◌≡◌, ℕ, List, [], ◌∷◌, ◌++◌, co
 use Rattle.std.specs.List.{{flat_map}}
 use Rattle.mpslp_model_core.specs.Model.{{LinearModel}}
 use Rattle.{module}.{{{declares}}}
-use Rattle.mpslp_mps_laws.specs.CanonicalMps.{{canonical_mps}}
+use Rattle.mpslp_mps_text.specs.CanonicalMps.{{canonical_mps}}
 
 {bytes}
 abbrev pub claimed_lines : List (List ℕ)
@@ -97,7 +97,7 @@ use Rattle.mpslp_builder.specs.Declaration.{{Draft, draft_of}}
 use Rattle.mpslp_builder.specs.Meaning.{{model_of}}
 use Rattle.mpslp_builder.proofs.MeaningFromNoFault.{{means-from_none}}
 use Rattle.{module}.{{declarations_of, {declares}}}
-use Rattle.mpslp_mps_laws.specs.CanonicalMps.{{text_of, listed_lines, canonical_mps}}
+use Rattle.mpslp_mps_text.specs.CanonicalMps.{{text_of, listed_lines, canonical_mps}}
 use Rattle.mpslp_mps_laws.proofs.DraftText.{{listing_in, is_in_order, listing_of-model}}
 use Rattle.own_file.specs.File.{{bytes, claimed_text, Claim}}
 

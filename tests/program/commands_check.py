@@ -281,7 +281,7 @@ class Commands(unittest.TestCase):
             words, cwd=self.copy, env=self.environment(), capture_output=True, text=True, timeout=60, check=False
         )
         self.assertEqual(checked.returncode, 0, checked.stderr)
-        self.assertEqual(sorted(self.calls()), ["build mpslp_decimal", "build mpslp_types", "check mpslp_types"])
+        self.assertEqual(sorted(self.calls()), ["build mpslp_decimal", "check mpslp_types"])
 
     def test_run_takes_the_proved_program_only_while_it_is_current(self) -> None:
         self.write_tool("rt.try", "cat > /dev/null; echo unproved; echo 'run=ended status=0 runners=1 proved=no' >&2\n")

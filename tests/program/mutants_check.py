@@ -3,8 +3,8 @@
 tests/program/mutants_check.py
 
 The stand-in rejects a function whose body has the word `wrong`, and says of one that calls it that a function it calls
-is not proved. If the constant is 2, it rejects the function that uses it. So a mutant with another change is one that
-the prover accepts.
+is not proved. If the constant is 2, or a definition of a crate below is, it rejects the function that uses it. So a
+mutant with another change is one that the prover accepts.
 """
 
 import os
@@ -36,7 +36,11 @@ from pathlib import Path
 
 asked = [name for flag, name in zip(sys.argv, sys.argv[1:]) if flag == "--only"]
 with open("{checks}", "a") as checks:
-    checks.write(" ".join(["check", *asked]) + "\\n")
+    checks.write(" ".join([sys.argv[1], *asked]) + "\\n")
+if sys.argv[1] == "build":
+    Path(sys.argv[sys.argv.index("-o") + 1]).write_text(Path("specs/Most.antt").read_text())
+    sys.exit()
+libraries = [Path(it.partition("=")[2]) for flag, it in zip(sys.argv, sys.argv[1:]) if flag == "--extern"]
 bodies = {{}}
 for file in sorted(Path("src").glob("*.rt")):
     module = "" if file.stem == "lib" else f"{{file.stem}}::"
@@ -47,7 +51,8 @@ for name in asked:
     if not any(it.endswith(f"::{{name}}") for it in bodies):
         print(f"rattle: error: `low` has no function `{{name}}`: help: write the name that a check prints")
         sys.exit(2)
-if "LIMIT: u8 = 2" in Path("src/lib.rt").read_text():
+texts = [it.read_text() for it in [Path("src/lib.rt"), *libraries] if it.exists()]
+if any("LIMIT: u8 = 2" in it or "most = 2" in it for it in texts):
     bodies["low::limit"] = "wrong"
 for name in [other for body in bodies.values() for other in re.findall(r"spoils (\\S+)", body)]:
     bodies[name] = "wrong"
@@ -170,6 +175,13 @@ class Mutants(unittest.TestCase):
         named = f"function: {function}\n" if function else ""
         (self.crate / "must-fail" / f"{name}.edit").write_text(f"file: {file}\n{named}old: {old}\nnew: {new}\n")
 
+    def add_below(self, lines: str) -> None:
+        """A crate `under`, with a definition, and these lines of crates.txt above it."""
+        (self.folder / "crates.txt").write_text(f"under:\n{lines}")
+        definition = self.folder / "crates" / "under" / "specs" / "Most.antt"
+        definition.parent.mkdir(parents=True)
+        definition.write_text("most : ℕ\nmost = 1\n")
+
     def run_mutants(self, *options: str) -> tuple[int, str, list[str]]:
         """The exit status, the output, and what each check was asked for."""
         ran = subprocess.run(
@@ -259,6 +271,20 @@ class Mutants(unittest.TestCase):
         self.assertIn("low/one: BAD EDIT: low::limit is rejected, which does not name what it changes", said)
         self.assertIn("low/two: BAD EDIT: low::high::law is rejected, which does not name what it changes", said)
         self.assertIn("1 mutants rejected, 2 not", said)
+
+    def test_a_crate_below_is_built_with_an_edit_of_its_definition(self) -> None:
+        self.add_below("low: under\n")
+        self.add("most", "most = 1", "most = 2", "../under/specs/Most.antt", function="limit")
+        status, said, checks = self.run_mutants()
+        self.assertEqual((status, checks), (0, ["build", "check limit", "check limit"]), said)
+        self.assertIn("low: 1 of 1 mutants rejected", said)
+
+    def test_no_other_crate_is_between_a_crate_and_that_of_the_definition(self) -> None:
+        self.add_below("low: between under\nbetween: under\n")
+        self.add("most", "most = 1", "most = 2", "../under/specs/Most.antt", function="limit")
+        status, said, checks = self.run_mutants()
+        self.assertEqual((status, checks), (1, []), said)
+        self.assertIn("low/most: under is not right below low: between", said)
 
     def test_an_edit_that_cannot_be_applied_is_found_without_the_prover(self) -> None:
         self.add("one", "    1", "    wrong")

@@ -12,7 +12,7 @@ use Rattle.mpslp_builder.proofs.RefusalLemmas.{left_none, right_none, join_none,
 use Rattle.mpslp_builder.proofs.RefusalLemmas.{none-from_consistent}
 use Rattle.mpslp_builder.proofs.MadeDrafts.{with_declarations-append, refusals_in_turn-append, no_fault-from_made}
 use Rattle.mpslp_lines.{specs.FaultTests.kind_of_build_fault, proofs.ObjectiveLemmas.named-after}
-use Rattle.mpslp_model.specs.Formats.{HasFirstFault, Declares, Unfit, TextOf}
+use Rattle.mpslp_model.specs.FormatParts.{HasFirstFault, Declares, Unfit, TextOf}
 use Rattle.mpslp_conversions.specs.Conversions.{IsConversion, IsComparison, IsTestOfText, IsErrUnless}
 use Rattle.mpslp_conversions.specs.declared.faults.ConvertFault.{ConvertFault, TheVariants.{First, Second, NotLp, OutOfMemory}}
 use Rattle.mpslp_c.specs.Stored.{Step, declares, step_faults, step_declared, or_else, first_kind, after_steps, objective_steps, Item}

@@ -6,7 +6,7 @@ use Rattle.mpslp_types.specs.declared.faults.Fault.{Fault}
 use Rattle.mpslp_types.specs.declared.faults.NameAt.{NameAt}
 use Rattle.mpslp_types.specs.declared.forms.Form.{Form}
 use Rattle.mpslp_types.specs.declared.forms.Form.TheVariants.{Mps, Lp}
-use Rattle.mpslp_model.specs.Formats.{Declares, Unfit, TextOf, HasFirstFault}
+use Rattle.mpslp_model.specs.FormatParts.{Declares, Unfit, TextOf, HasFirstFault}
 use Rattle.mpslp_conversions.specs.Conversions.{IsConversion, IsComparison, IsTestOfText}
 use Rattle.mpslp_write.specs.ByForm.{declares_in, first_fault_in, unfit_in, text_in}
 use Rattle.mpslp_conversions.specs.declared.faults.ConvertFault.{ConvertFault}

@@ -3,7 +3,7 @@ use Rattle.std.{proofs.Common.{arith, ◌≡◌, ℕ, List, Bool, true, false, r
 use Rattle.std.{specs.{Bool.{Decides}, declared.alloc.Global.{Global}}, proofs.lemmas.Bool.Decides.{not_from_Decides}}
 use Rattle.mpslp_model_core.specs.Model.{LinearModel}
 use Rattle.mpslp_types.specs.declared.faults.Fault.{Fault}
-use Rattle.mpslp_model.specs.Formats.{HasFirstFault, Declares, Unfit, TextOf}
+use Rattle.mpslp_model.specs.FormatParts.{HasFirstFault, Declares, Unfit, TextOf}
 use Rattle.mpslp_conversions.specs.Conversions.{IsText, IsConversion, IsTestOfModel, IsComparison, IsTestOfText}
 use Rattle.mpslp_conversions.specs.declared.faults.ConvertFault.{ConvertFault, TheVariants.{First, Second}}
 use Rattle.mpslp_conversions.specs.declared.faults.ConvertFault.TheVariants.{NotLp, OutOfMemory}

@@ -5,7 +5,7 @@ use Rattle.std.specs.{declared.alloc.Global.{Global}, Prelude.{is_err, OnOk}, Io
 use denote.RawPtr.{null_ptr}
 use Rattle.mpslp_model_core.specs.Model.{LinearModel}
 use Rattle.mpslp_types.specs.declared.faults.Fault.{Fault}
-use Rattle.mpslp_model.specs.Formats.{HasFirstFault, Declares}
+use Rattle.mpslp_model.specs.FormatParts.{HasFirstFault, Declares}
 use Rattle.mpslp_conversions.specs.{Runs.{IsAll, SourceGave}, Feeding.{IsFedOn, IsModelOf}}
 use Rattle.mpslp_conversions.specs.{Feeding.{IsReading, IsModelOrFault, IsTextRead}, declared.faults.RunFault.{RunFault}}
 

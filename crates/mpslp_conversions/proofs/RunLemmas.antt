@@ -2,7 +2,7 @@
 use Rattle.std.proofs.Common.{◌≡◌, ℕ, List, Bool, true, false, Option, Some, None, Result, Ok, Err}
 use Rattle.mpslp_types.specs.declared.faults.NameAt.{NameAt}
 use Rattle.mpslp_model_core.specs.Model.{LinearModel}
-use Rattle.mpslp_model.specs.Formats.{HasFirstFault, Declares, Unfit, TextOf}
+use Rattle.mpslp_model.specs.FormatParts.{HasFirstFault, Declares, Unfit, TextOf}
 use Rattle.mpslp_conversions.specs.Runs.{SourceGave, IsPut, IsRun}
 use Rattle.mpslp_conversions.specs.declared.faults.RunFault.{RunFault, TheVariants.{Read, TooLong, File, NotLp, Write, OutOfMemory}}
 

@@ -6,7 +6,7 @@ use Rattle.mpslp_model_core.specs.Model.{LinearModel}
 use Rattle.mpslp_types.specs.declared.faults.Fault.{Fault}
 use Rattle.mpslp_conversions.specs.declared.faults.ConvertFault.{ConvertFault}
 use Rattle.mpslp_conversions.specs.declared.faults.ConvertFault.TheVariants.{First, Second, NotLp, OutOfMemory}
-use Rattle.mpslp_model.specs.Formats.{Declares, HasFirstFault, Unfit, TextOf}
+use Rattle.mpslp_model.specs.FormatParts.{Declares, HasFirstFault, Unfit, TextOf}
 
 -- The result is this error, or out of memory.
 abbrev pub IsErrUnless : {T E : Type 0} → Result T E → E → E → Type 0

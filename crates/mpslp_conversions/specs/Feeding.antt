@@ -3,7 +3,7 @@ use Rattle.std.specs.Prelude.{◌≡◌, ℕ, List, ◌++◌, Bool, false, true,
 use Rattle.std.specs.declared.alloc.Global.{Global}
 use Rattle.mpslp_model_core.specs.Model.{LinearModel}
 use Rattle.mpslp_types.specs.declared.faults.Fault.{Fault}
-use Rattle.mpslp_model.specs.Formats.{Declares, HasFirstFault}
+use Rattle.mpslp_model.specs.FormatParts.{Declares, HasFirstFault}
 use Rattle.mpslp_conversions.specs.Runs.{IsLoad, IsLonger, SourceGave}
 use Rattle.mpslp_conversions.specs.declared.faults.RunFault.{RunFault}
 use Rattle.mpslp_conversions.specs.declared.faults.RunFault.TheVariants.{Read, TooLong, File, NotLp, Write, OutOfMemory}

@@ -1,7 +1,7 @@
 -- What follows from the laws of formats together.
 use Rattle.std.specs.Prelude.{◌≡◌, ◌↔◌, ℕ, List, None}
 use Rattle.mpslp_model_core.specs.Model.{LinearModel}
-use Rattle.mpslp_model.specs.Formats.{Declares, Unfit, TextOf}
+use Rattle.mpslp_model.specs.FormatParts.{Declares, Unfit, TextOf}
 
 -- For accepted texts x and y, each in its own format, and their canonical texts in a third one.
 pub record Headline (declares_x : Declares) (unfit_x : Unfit) (text_x : TextOf) (declares_y declares : Declares) (unfit : Unfit) (text : TextOf) : Type 0 where

@@ -4,7 +4,7 @@ use Rattle.std.specs.Io.KnownBytes.{Consumes, IsAtEnd}
 use Rattle.std.specs.declared.alloc.Global.{Global}
 use Rattle.mpslp_io.specs.Devices.{Grows, TookFirst}
 use Rattle.mpslp_model_core.specs.Model.{LinearModel}
-use Rattle.mpslp_model.specs.Formats.{Declares, Unfit, TextOf, HasFirstFault}
+use Rattle.mpslp_model.specs.FormatParts.{Declares, Unfit, TextOf, HasFirstFault}
 use Rattle.mpslp_conversions.specs.declared.faults.RunFault.{RunFault}
 use Rattle.mpslp_conversions.specs.declared.faults.RunFault.TheVariants.{Read, TooLong, File, NotLp, Write, OutOfMemory}
 

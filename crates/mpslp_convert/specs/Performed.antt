@@ -10,7 +10,7 @@ use Rattle.mpslp_command.specs.declared.jobs.Job.{Job}
 use Rattle.mpslp_command.specs.declared.jobs.Job.TheVariants.{Canon, Same, Show}
 use Rattle.mpslp_command.specs.declared.jobs.JobFault.{JobFault}
 use Rattle.mpslp_command.specs.declared.jobs.JobFault.TheVariants as refused
-use Rattle.mpslp_model.specs.Formats.{Declares, Unfit, TextOf, HasFirstFault}
+use Rattle.mpslp_model.specs.FormatParts.{Declares, Unfit, TextOf, HasFirstFault}
 use Rattle.mpslp_conversions.specs.Conversions.{IsComparison}
 use Rattle.mpslp_conversions.specs.FaultLine.{fault_line, status_of}
 use Rattle.mpslp_conversions.specs.Runs.{IsHandedOn, IsCutShort, IsLoad, IsRun}

@@ -3,6 +3,7 @@ pub mod WithinPhrase
 pub mod Terminal
 pub mod PartialRow
 pub mod Phrase
+pub mod Points
 pub mod Items
 pub mod Rows
 pub mod Grammar

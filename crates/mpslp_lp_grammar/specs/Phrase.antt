@@ -56,9 +56,6 @@ pub record Point : Type 0 where
 abbrev pub start : Point
 start = record { place = AtStart; context = record { sections_seen = no_section_seen; builder = empty_draft } }
 
-abbrev pub point_at : Place → SectionsSeen → Draft → Point
-point_at place sections_seen earlier = record { place = place; context = record { sections_seen = sections_seen; builder = earlier } }
-
 -- ---- the rules of the grammar
 
 abbrev pub PhraseRule : Type 0 → Type 0

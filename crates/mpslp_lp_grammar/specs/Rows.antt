@@ -11,11 +11,6 @@ use Rattle.mpslp_lp_grammar.specs.Items.{Side, Limits, limits_by, fits_second, i
 abbrev pub term_declared : List ℕ → List ℕ × Decimal → Declarations
 term_declared row term = declare_column term.0 ∷ declare_coefficient (record { row = row; column = term.0 }) term.1 ∷ []
 
--- none of the columns appears twice, after these terms
-abbrev pub AreNew : List (List ℕ × Decimal) → List (List ℕ × Decimal) → Type 0
-AreNew seen [] = Unit {0}
-AreNew seen (term ∷ terms) = (list_any (λ (earlier : List ℕ × Decimal). same_bytes term.0 earlier.0) seen ≡ false) × AreNew (seen ++ term ∷ []) terms
-
 -- ---- the objective: optionally `name :`, and any number of items, of which one may be a constant
 
 -- a number without a name is the constant, if an item or a section follows

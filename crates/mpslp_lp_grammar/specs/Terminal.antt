@@ -45,9 +45,6 @@ pub record TerminalAt : Type 0 where
   pub line : ℕ
   pub terminal : Terminal
 
-abbrev pub at : ℕ → Terminal → TerminalAt
-at n terminal = record { line = n; terminal = terminal }
-
 -- the terminals of a line, with its number
 abbrev pub line_terminals : ℕ × List ℕ → List TerminalAt
 line_terminals line = map (λ (token : Token). record { line = line.0; terminal = terminal_of token.kind token.text }) (tokens line.1)

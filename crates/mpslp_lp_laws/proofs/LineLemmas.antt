@@ -22,7 +22,7 @@ use Rattle.std.specs.{Str.Lines.lines, Result.result_unwrap_or}
 use Rattle.mpslp_decimal.proofs.CutLemmas.{Each-weaker, Each-append}
 use Rattle.mpslp_types.{specs.{declared.faults.FaultKind.FaultKind}, proofs.NameLemmas.mps_name-from_lp}
 use Rattle.mpslp_lines.{specs.declared.legal_line.TheConstants.MAX_LINE_LEN, proofs.WrittenLineLemmas.{IsPlain, lines-with_line_feeds}}
-use Rattle.mpslp_lp_grammar.specs.Terminal.{at, Terminal.{Number as Number_terminal}}
+use Rattle.mpslp_lp_grammar.specs.{Points.{at}, Terminal.Terminal.{Number as Number_terminal}}
 use Rattle.mpslp_lp_tokens.proofs.WordLemmas.{word_class-name}
 use Rattle.mpslp_lp_laws.proofs.LexemeLemmas.{literal-each, seen, text-literal, IsPrintable, after_first_piece, line-read, name-word}
 use Rattle.mpslp_lp_laws.proofs.LexemeLemmas.{IsGoodWord, IsGoodName}

@@ -12,7 +12,7 @@ use Rattle.mpslp_types.proofs.EachLemmas.{Each}
 use Rattle.mpslp_lp_laws.proofs.{LineLemmas.{IsTerm, IsFit, terms-fit, some-fits}, PhraseWalk.{terms_declared}}
 use Rattle.mpslp_builder.proofs.RankedSlots.{Section, Sections, joined-once, AreOther, names-distinct, owner, owners-apart, slots-append}
 use Rattle.mpslp_builder.proofs.RankedSlots.{slots-flat}
-use Rattle.mpslp_lp_grammar.specs.Rows.{AreNew}
+use Rattle.mpslp_lp_grammar.specs.Points.{AreNew}
 use Rattle.mpslp_lp_laws.proofs.PhraseWalk.{constant_declared, objective_made, column_made, general_made, semi_made}
 use Rattle.mpslp_lp_laws.proofs.TextWalk.{IsRow, row_made, listed_declarations}
 

@@ -1,7 +1,6 @@
 -- How the grammar reads the printed forms: each declares what it was printed from, if none of it is rejected.
-pub use Rattle.mpslp_lp_grammar.specs.Phrase.{point_at}
+pub use Rattle.mpslp_lp_grammar.specs.Points.{point_at, AreNew}
 pub use Rattle.mpslp_lp_laws.specs.PrintedDeclarations.{constant_declared}
-pub use Rattle.mpslp_lp_grammar.specs.Rows.{AreNew}
 use Rattle.mpslp_lp_laws.proofs.Prelude
 use Prelude.{arith, ◌≡◌, refl, ℕ, List, [], ◌∷◌, ◌++◌, true, false, append_assoc, Some, None, codes, Decimal}
 use Prelude.{limit_of, Draft, empty_draft, Declarations, declare_column, bounds_declared, with_declarations, refusals_in_turn}
@@ -18,7 +17,7 @@ use Prelude.{under_semi_heading}
 use Rattle.mpslp_builder.proofs.MadeDrafts.{parts-taken}
 use Rattle.mpslp_lp_grammar.specs.Terminal.Terminal.{Number}
 use Rattle.mpslp_lp_tokens.specs.declared.words.SectionWord.{SectionWord}
-use Rattle.mpslp_lp_grammar.specs.Terminal.{at}
+use Rattle.mpslp_lp_grammar.specs.Points.{at}
 use Rattle.mpslp_lp_laws.proofs.LineLemmas.{IsTerm, IsFit, objective-fits, line_terminals_in, all_terminals, signed-value, sign_of}
 use Rattle.mpslp_lp_laws.proofs.{LineLemmas.{IsFitColumn, terminals_in, mapped-append}, LexemeLemmas.IsGoodName}
 use Rattle.mpslp_lp_tokens.specs.declared.words.Section.TheVariants as sections

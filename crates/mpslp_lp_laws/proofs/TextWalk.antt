@@ -11,14 +11,13 @@ use Prelude.{text_declares, outcome, is_finished, declarations_of, DeclaresLp, c
 use Prelude.{unfit}
 use Rattle.mpslp_decimal.proofs.CutLemmas.{Each-weaker}
 use Rattle.mpslp_lp_laws.proofs.LineLemmas.{IsTerm, IsFitColumn, IsFit, line_terminals_in, all_terminals, fit-from_sound}
-use Rattle.mpslp_lp_grammar.specs.Terminal.{at}
 use Rattle.mpslp_lp_laws.proofs.{LineLemmas.canonical-terminals, PhraseWalk.{Walks, walks-none, walks-then, point_at, ended_by}}
 use Rattle.mpslp_lp_laws.proofs.PhraseWalk.{bounds-section-walks, number_after, terminals-append, parts-walk, in_rows}
 use Rattle.mpslp_builder.proofs.MadeDrafts.{parts-taken}
 use Rattle.mpslp_lp_laws.proofs.PhraseWalk.{subject_heading, objective_made, objective-walk, EndsWith, walk-ends, general_made}
 use Rattle.mpslp_lp_laws.proofs.PhraseWalk.{generals-end, ending, semi_made, bound_made, column_made, bounds-walk, left_of, left_line}
 use Rattle.mpslp_lp_laws.proofs.PhraseWalk.{partial, begin-walk, row-terms-walk, row-end-walk}
-use Rattle.mpslp_lp_grammar.specs.Rows.{AreNew}
+use Rattle.mpslp_lp_grammar.specs.Points.{at, AreNew}
 use Rattle.mpslp_lp_tokens.specs.declared.words.Section.TheVariants as sections
 use Rattle.mpslp_lp_tokens.specs.declared.words.SectionWord.TheVariants as section_words
 use Prelude.{Fault}

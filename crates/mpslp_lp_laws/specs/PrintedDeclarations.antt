@@ -14,9 +14,10 @@ use Rattle.mpslp_builder.specs.Refusal.{refusals_in_turn}
 use Rattle.mpslp_lp_grammar.specs.Rules.{phrases, made_by}
 use Rattle.mpslp_lp_grammar.specs.Rules.Outcome.{Finished}
 use Rattle.mpslp_lp_grammar.specs.Terminal.{TerminalAt, line_terminals, lexical_fault}
-use Rattle.mpslp_lp_grammar.specs.Phrase.{Point, point_at, start, no_section_seen, with_section, section_fault}
+use Rattle.mpslp_lp_grammar.specs.Phrase.{Point, start, no_section_seen, with_section, section_fault}
+use Rattle.mpslp_lp_grammar.specs.Points.{point_at, AreNew}
 use Rattle.mpslp_lp_grammar.specs.Grammar.{phrase_at, may_begin_section}
-use Rattle.mpslp_lp_grammar.specs.Rows.{AreNew, objective_declared, term_declared}
+use Rattle.mpslp_lp_grammar.specs.Rows.{objective_declared, term_declared}
 use Rattle.mpslp_lp_grammar.specs.declared.sections_seen.SectionsSeen.{SectionsSeen}
 use Rattle.mpslp_lp_grammar.specs.declared.states.Place.{Place}
 use Rattle.mpslp_lp_grammar.specs.declared.states.Place.TheVariants.{BeforeItems, InObjective, BetweenRows, InBounds, InGenerals, InSemis}

@@ -27,10 +27,8 @@ pub use Rattle.mpslp_builder.specs.Refusal.{refusals_in_turn, bounds_refusals, h
 pub use Rattle.mpslp_lines.specs.FaultTests.{kind_of_build_fault, fault_on_line, is_kind, number_fault, FaultTests, first_held}
 pub use Rattle.mpslp_lines.specs.FaultTests.{has_legal_length, is_legal_byte}
 pub use Rattle.mpslp_builder.proofs.MadeDrafts.parts-taken
-pub use Rattle.mpslp_lp_grammar.specs.Terminal.{at}
 pub use Rattle.std.proofs.lemmas.List.{map-append as mapped-append}
-pub use Rattle.mpslp_lp_grammar.specs.Phrase.{point_at}
-pub use Rattle.mpslp_lp_grammar.specs.Rows.{AreNew}
+pub use Rattle.mpslp_lp_grammar.specs.Points.{at, point_at, AreNew}
 pub use Rattle.mpslp_lp.specs.{FirstFault.{fault_of, first_lp_fault}, LpText.outcome}
 pub use Rattle.mpslp_lp.specs.LpText.{numbered_lines, sound_terminals, first_own_fault, or_else, is_finished, declarations_of, is_lp_text}
 pub use Rattle.mpslp_lp_grammar.specs.AfterToken.{AfterToken, Goes, Refuses, refuse, with_made, declare_unless_refused}

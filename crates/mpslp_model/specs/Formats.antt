@@ -1,4 +1,4 @@
--- What formats give, and the results of their calls.
+-- The results of a format's calls.
 use Rattle.std.specs.Prelude.{◌≡◌, ℕ, List, Bool, true, Option, None, Some, Result, Ok, Err}
 use Rattle.mpslp_model_core.specs.Model.{LinearModel}
 use Rattle.mpslp_io.specs.Devices.{Grows, TookFirst}
@@ -8,20 +8,6 @@ use Rattle.mpslp_types.specs.declared.faults.ReadFault.{ReadFault}
 use Rattle.mpslp_types.specs.declared.faults.ReadFault.TheVariants.{File, Failed, OutOfMemory}
 use Rattle.mpslp_types.specs.declared.faults.WriteFault.{WriteFault}
 use Rattle.mpslp_types.specs.declared.faults.WriteFault.TheVariants.{Write, NotLp}
-
--- Which model bytes declare in a format, which first error they have, the first name of a model that is not legal in a format,
--- and the text of a model.
-abbrev pub Declares : Type 1
-Declares = List ℕ → LinearModel → Type 0
-
-abbrev pub HasFirstFault : Type 1
-HasFirstFault = List ℕ → Fault → Type 0
-
-abbrev pub Unfit : Type 0
-Unfit = LinearModel → Option NameAt
-
-abbrev pub TextOf : Type 0
-TextOf = LinearModel → List ℕ
 
 -- The model that the bytes declare, or their first error. Out of memory says nothing about the bytes.
 abbrev pub IsAnswerTo : (List ℕ → LinearModel → Type 0) → (List ℕ → Fault → Type 0) → List ℕ → Result LinearModel ReadFault → Type 0

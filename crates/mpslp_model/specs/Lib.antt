@@ -1,3 +1,4 @@
 pub mod Formats
+pub mod FormatParts
 pub mod Readers
 pub mod CompleteLines

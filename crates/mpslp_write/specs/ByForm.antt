@@ -2,7 +2,7 @@
 use Rattle.std.specs.Prelude.{None}
 use Rattle.mpslp_types.specs.declared.forms.Form.{Form}
 use Rattle.mpslp_types.specs.declared.forms.Form.TheVariants.{Mps, Lp}
-use Rattle.mpslp_model.specs.Formats.{Declares, HasFirstFault, Unfit, TextOf}
+use Rattle.mpslp_model.specs.FormatParts.{Declares, HasFirstFault, Unfit, TextOf}
 use Rattle.mpslp_mps.specs.MpsText.{DeclaresMps}
 use Rattle.mpslp_mps.specs.FirstFault.{IsFirstMpsFault}
 use Rattle.mpslp_lp.specs.LpText.{DeclaresLp}
