@@ -3,7 +3,6 @@ use Rattle.std.specs.Prelude.{◌≡◌, ◌≢◌, ◌⊎◌, ℕ, List, Bool, 
 use Rattle.std.specs.Bool.{Decides}
 use Rattle.std.specs.declared.alloc.Global.{Global}
 use Rattle.mpslp_model_core.specs.Model.{LinearModel}
-use Rattle.mpslp_types.specs.declared.faults.Fault.{Fault}
 use Rattle.mpslp_conversions.specs.declared.faults.ConvertFault.{ConvertFault}
 use Rattle.mpslp_conversions.specs.declared.faults.ConvertFault.TheVariants.{First, Second, NotLp, OutOfMemory}
 use Rattle.mpslp_model.specs.FormatParts.{Declares, HasFirstFault, Unfit, TextOf}

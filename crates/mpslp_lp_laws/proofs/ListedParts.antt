@@ -6,9 +6,9 @@ use Prelude.{by_limits, Declaration, declare_sense, declare_objective, declare_c
 use Prelude.{Limit, MinusInf, Finite, PlusInf, flat_map-flat_map, flat_map-none, named, Limits, row_limits, term_declared}
 use Prelude.{objective_declared, Term, objective_terms, row_terms, is_integer_column, is_semi_column, map, CoefficientKey}
 use Prelude.{row_part, rhs_part, column_part, coefficient_part, lower_part, upper_part, marked_part}
-use Prelude.{integer_part, binary_part, semi_part, stated, all_stated, flat_map_single, Bool, not, ◌&&◌, is_sorted, entries, entries_sorted}
-use Prelude.{IsDecimal, is_decimal, is_one_of, bytes_cmp, LinearModel, key_cmp, is_sound_row, is_sound_column, is_sound_coefficient}
-use Prelude.{IsSound, listing_of, at_name, names_in, true_from, Each-both, Each-from_list_all, own-found, sym, is_some, filter_map}
+use Prelude.{integer_part, binary_part, semi_part, stated, all_stated, flat_map_single, Bool, ◌&&◌}
+use Prelude.{is_one_of, key_cmp, is_sound_column}
+use Prelude.{at_name, names_in, Each-both, own-found, sym, is_some, filter_map}
 use Prelude.{◌||◌, list_any, cons_option, IsTotalOrder, first_so, second_so, Ordering, find, zero_number, same_bytes}
 use Prelude.{or_left, or_right, equal_from, find-front, some_cons, some_append_left, some_append_right, same_key, itself_named, any-name}
 use Prelude.{same_name, key_total, term_in, has_coefficients, objective_term, some_term, found-each}

@@ -1,13 +1,13 @@
 -- The slots that the canonical text of a listing fills: none twice.
 use Rattle.mpslp_lp_laws.proofs.Prelude
-use Prelude.{rules, ◌≡◌, refl, sym, ap, ◌∙◌, ℕ, suc, ◌<◌, arith, List, [], ◌∷◌, ◌++◌, true, false, append_assoc, ◌&&◌, Option, Some, None}
-use Prelude.{list_any, flat_map, second_so, is_sorted, is_lt, same_bytes, bytes_cmp, both_so, both_false, so_not, Each-weaker, Each-append}
-use Prelude.{are_distinct, Declarations, names_in, Slot, row_slot, rhs_slot, range_slot, coefficient_slot, lower_slot}
-use Prelude.{upper_slot, same_slot, slots_of, all_slots, IsNew, Apart, distinct-append, same_name, bytes_total, itself_named, subst, length}
+use Prelude.{◌≡◌, refl, ap, ◌∙◌, ℕ, ◌<◌, arith, List, [], ◌∷◌, ◌++◌, true, false, append_assoc, ◌&&◌, Option, Some, None}
+use Prelude.{list_any, flat_map, same_bytes, both_so, both_false, so_not, Each-weaker}
+use Prelude.{are_distinct, Declarations, names_in, Slot, row_slot, rhs_slot, range_slot, coefficient_slot}
+use Prelude.{same_slot, all_slots, itself_named, subst, length}
 use Prelude.{filter_map, if◌then◌else◌, cons_option, option_map, find, Number, zero_number, Each-both, Each-all, Column, key_cmp, Listing}
 use Prelude.{Term, term_in, has_coefficients, objective_term, objective_terms, some_term, row_terms, ◌||◌, Bool, not, map}
 use Prelude.{Each-flat_map, Row, sense_slot, objective_slot, constant_slot, distinct-flat_map}
-use Rattle.std.{specs.FinMap.Entries.below_all, proofs.lemmas.List.Folds.list_any-append}
+use Rattle.std.{proofs.lemmas.List.Folds.list_any-append}
 use Rattle.mpslp_types.proofs.EachLemmas.{Each}
 use Rattle.mpslp_lp_laws.proofs.{LineLemmas.{IsTerm, IsFit, terms-fit, some-fits}, PhraseWalk.{terms_declared}}
 use Rattle.mpslp_builder.proofs.RankedSlots.{Section, Sections, joined-once, AreOther, names-distinct, owner, owners-apart, slots-append}

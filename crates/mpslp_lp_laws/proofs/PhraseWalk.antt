@@ -4,13 +4,13 @@ pub use Rattle.mpslp_lp_laws.specs.PrintedDeclarations.{constant_declared}
 use Rattle.mpslp_lp_laws.proofs.Prelude
 use Prelude.{arith, ◌≡◌, refl, ℕ, List, [], ◌∷◌, ◌++◌, true, false, append_assoc, Some, None, codes, Decimal}
 use Prelude.{limit_of, Draft, empty_draft, Declarations, declare_column, bounds_declared, with_declarations, refusals_in_turn}
-use Prelude.{bounds_refusals, Sense, Minimize, Maximize, Limit, MinusInf, SignOf, Minus, TerminalAt, Opens, Name, Sign, Compares, Colon}
+use Prelude.{Sense, Minimize, Maximize, Limit, MinusInf, SignOf, Minus, TerminalAt, Opens, Name, Sign, Compares, Colon}
 use Prelude.{Infinity, phrases, made_by, Finished, no_section_seen, with_section, section_fault, Point, start, SectionsSeen, PartialRow}
 use Prelude.{Place, BeforeItems, InObjective, BetweenRows, InRow, InBounds, InGenerals, InSemis, apply_sign, Limits, limits_by}
 use Prelude.{term_declared, objective_declared, fits_left, row_limits, row_declared, may_begin_section, phrase_at, Relation, sym, ap, subst}
-use Prelude.{◌∙◌, ◌+◌, Bool, map, if◌then◌else◌, flat_map, is_negative, size_of, with_declarations-append, refusals_in_turn-append, Each}
+use Prelude.{◌∙◌, ◌+◌, Bool, map, if◌then◌else◌, flat_map, is_negative, size_of, with_declarations-append, Each}
 use Prelude.{word_terminal, AtStart, PrintedLine, Listing, Lines, Term, heading, label_line, sense_word, term_line, objective_terms}
-use Prelude.{constant_lines, objective_section, ◌||◌, is_some, append-nil, is_zero, have_same_value, Column, Finite, PlusInf, class_of}
+use Prelude.{constant_lines, objective_section, ◌||◌, append-nil, is_zero, have_same_value, Column, Finite, PlusInf, class_of}
 use Prelude.{Terminal, no_limits, AtMost, AtLeast, EqualTo, Lexeme, word, number, sense, minus_infinity, bound_lexemes, line_of_some}
 use Prelude.{bound_lines, rules, Option, option_map, long_line, right_line, declare_integer, declare_semi, under_heading, name_line}
 use Prelude.{under_semi_heading}

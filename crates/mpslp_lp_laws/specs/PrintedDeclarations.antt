@@ -1,5 +1,5 @@
 -- What each printed phrase declares, at any point where it is allowed, if nothing that it declares is rejected.
-use Rattle.std.specs.Prelude.{◌≡◌, ℕ, Bool, true, false, ◌&&◌, IsTrue, List, [], ◌∷◌, ◌++◌, map, None, is_none, if◌then◌else◌, codes}
+use Rattle.std.specs.Prelude.{◌≡◌, ℕ, Bool, true, ◌&&◌, IsTrue, List, [], ◌∷◌, ◌++◌, map, None, is_none, if◌then◌else◌, codes}
 use Rattle.std.specs.List.{flat_map, list_all, enumerate_from}
 use Rattle.mpslp_decimal.specs.Decimal.{Number, IsDecimal, is_decimal, is_zero, is_negative, size_of}
 use Rattle.mpslp_types.specs.Name.{is_lp_name}

@@ -1,15 +1,16 @@
 -- The lists of columns by rows: how they are filled, and the model.
 use Rattle.std.proofs.Common.{◌≡◌, refl, sym, ap, subst, ◌∙◌, ℕ, zero, suc, ◌+◌, ◌-◌, ◌<◌, ◌≤◌, List, [], ◌∷◌, ◌++◌, length, map, Bool}
 use Rattle.std.proofs.{Common.{true, false, cond, arith, rules, take, drop, get_or, sum, add-one, add-zero}, lemmas.List.append-nil}
-use Rattle.std.proofs.lemmas.List.{map-id, length-map, append_assoc, length-append, length-drop, length-take-le, take-append-drop, take_all}
+use Rattle.std.proofs.lemmas.List.{length-map, append_assoc, length-append, length-drop, length-take-le, take-append-drop, take_all}
 use Rattle.std.proofs.lemmas.List.{take_more, get_or-map, get_or_append_left, get_or_push, get_or-take, get_or-drop}
-use Rattle.std.proofs.lemmas.List.{FromFn.{length-range_with_len, get_or-range_with_len, map-range_with_len_more}, Elements.filter-append}
+use Rattle.std.proofs.lemmas.List.{FromFn.{length-range_with_len, get_or-range_with_len}, Elements.filter-append}
 use Rattle.std.proofs.lemmas.{List.Sums.fold_push, Option.{same_Some, slice_get-map, slice_get_within, get_or_from_slice_get}}
 use Rattle.std.proofs.lemmas.{Option.slice_get-get_or, Bool.{cases_order, cases_lt, cases_Bool}, Grind.same_number_lists}
 use Rattle.std.specs.{Prelude.{Option, Some, is_some, filter, slice_get, unwrap_or, None}, List.{All, list_all, range_with_len}}
 use Rattle.std.specs.{Option.{option_map, option_map_or}, Ordering.{nat_cmp, eq_by_cmp}, FinMap.{find, is_sorted}}
 use Rattle.std.specs.Cmp.{first_so, second_so, nat_cmp_total}
 use Rattle.mpslp_decimal.specs.Decimal.{Number, zero_number}
+use Rattle.mpslp_types.proofs.RangeLemmas.{range_more}
 use Rattle.mpslp_model_core.specs.{Model.LinearModel, Views.{num_rows, num_columns, row_name, column_name, has_coefficient, row_columns}}
 use Rattle.mpslp_model_core.specs.{Views.coefficient_at, Numbered.{name_of, IsOnceBy}, ModelParts.{linear_model, AreModelParts, cells_in}}
 use Rattle.mpslp_model_core.specs.ByRow.{list_at, column_if, has_number, cells_of, columns_with, AreIndexed, AreListed, HasList, AreWithin}

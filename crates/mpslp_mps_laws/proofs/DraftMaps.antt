@@ -1,20 +1,20 @@
 -- The declarations of the canonical text of a listing, and the draft that they make, map by map.
 use Rattle.mpslp_mps_laws.proofs.Prelude
 use Prelude.{Bool, CoefficientKey, Column, Continuous, Declaration, Declarations, Draft, Each, Each-all, Each-append, Each-flat_map}
-use Prelude.{Each-from_list_all, Finite, Integer, IsDecimal, IsSound, Kind, Limit, LinearModel, List, Listing, MinusInf, None, Number}
+use Prelude.{Finite, Integer, Kind, Limit, List, Listing, MinusInf, None, Number}
 use Prelude.{Option, PlusInf, PrintedBound, Row, RowDefinition, Semi, Sense, Some, T_from, [], all_stated, any-name, ap, append-nil}
 use Prelude.{append_assoc, arith, at-mapped, at_name, binaries-all, binary_part, by_type, bytes_cmp, bytes_total, cell_at, coefficient_part}
 use Prelude.{coefficients-all, column_coefficients, column_part, columns-all, cond, cons_option, declare_lower, declare_objective}
-use Prelude.{declare_range, declare_rhs, declare_row, declare_semi, declare_sense, declare_upper, draft_of, empty_draft, entries_sorted}
+use Prelude.{declare_range, declare_rhs, declare_row, declare_semi, declare_sense, declare_upper, draft_of, empty_draft}
 use Prelude.{false, filter, filter-not_not, filter_map, find, find-front, find-kept, find-puts, find-stated, first_so, first_there}
 use Prelude.{flat-none, flat-same, flat_map, flat_map-append, flat_map-flat_map, found-each, found-either, has_integer_kind, has_name}
-use Prelude.{have_same_value, integers-all, is_decimal, is_integer_column, is_mps_name, is_one_of, is_plain_column, is_semi_kind, is_some}
-use Prelude.{is_sorted, is_sound_column, is_sound_row, is_zero, key_cmp, key_total, listing_of, lower_part, lower_stated, lowers-all, map}
+use Prelude.{have_same_value, integers-all, is_decimal, is_integer_column, is_one_of, is_plain_column, is_semi_kind, is_some}
+use Prelude.{is_sorted, is_zero, key_cmp, key_total, lower_part, lower_stated, lowers-all, map}
 use Prelude.{marked-all, marked_part, named, names_in, names_sorted, negated, not, option_map, parted-give, printed_bounds}
 use Prelude.{printed_coefficients, printed_range, printed_rhs, printed_type, puts, puts-append, puts-kept, puts-own, range_part, ranges-all}
 use Prelude.{refl, rhs_part, rhs_values-all, row_part, rows-all, same_bytes, same_key, same_name, second_so, semi_part, semis-all}
 use Prelude.{some_append_left, some_append_right, some_cons, sorted-kept, sorted-stated, stated, suits, sym, then_stated, tied_names, true}
-use Prelude.{true_from, upper_part, upper_stated, uppers-all, value_in, ℕ, ◌&&◌, ◌++◌, ◌||◌, ◌∙◌, ◌∷◌, ◌≡◌}
+use Prelude.{upper_part, upper_stated, uppers-all, value_in, ℕ, ◌&&◌, ◌++◌, ◌||◌, ◌∙◌, ◌∷◌, ◌≡◌}
 use Rattle.mpslp_builder.proofs.{DraftEntries.{integer_part}, ListingLemmas.{IsSoundListing, is_sound_entry, place_at}}
 use Rattle.mpslp_mps_laws.proofs.SectionWalks.{Bound, Cell, RowItem, Side, bound_decl, cell_decl, cells_of, range_decl, row_decl}
 use Rattle.mpslp_mps_laws.proofs.{SectionWalks.side_decl, WholeWalk.{Whole, bounds_in, cells_in, group_in, row_range, row_side}}

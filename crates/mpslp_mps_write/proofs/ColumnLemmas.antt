@@ -1,17 +1,17 @@
 -- The lines of columns, printed one after another.
-use Rattle.std.proofs.Common.{◌≡◌, refl, sym, ap, ◌∙◌, ℕ, ◌<◌, ◌≤◌, Bool, true, false, not, cond, List, [], ◌∷◌, ◌++◌, length, map, arith}
+use Rattle.std.proofs.Common.{◌≡◌, refl, sym, ap, ◌∙◌, ℕ, ◌<◌, ◌≤◌, Bool, false, cond, List, [], ◌∷◌, ◌++◌, length, map, arith}
 use Rattle.std.proofs.lemmas.{List.Quantifiers.{position-Some}, Option.{slice_get-map, get_or_from_slice_get}}
 use Rattle.std.specs.{Prelude.{Option, Some, None, slice_get, unwrap_or}, List.{flat_map, cons_option}, Option.{option_map}}
-use Rattle.std.specs.{Cmp.{first_so, second_so}, FinMap.{find, entries}}
-use Rattle.mpslp_decimal.specs.Decimal.{Number, is_decimal, is_zero, zero_number}
-use Rattle.mpslp_types.{specs.{Name.{same_bytes}, declared.kinds.{Kind.{Kind}, Limit.{Limit}}}, proofs.BoolLemmas.{not_so}}
+use Rattle.std.specs.{FinMap.{find, entries}}
+use Rattle.mpslp_decimal.specs.Decimal.{Number, is_zero, zero_number}
+use Rattle.mpslp_types.{specs.{Name.{same_bytes}, declared.kinds.{Kind.{Kind}, Limit.{Limit}}}}
 use Rattle.mpslp_model_core.specs.Model.{LinearModel, CoefficientKey, Column, key_cmp, IsSound, is_integer_column as has_integer_kind}
 use Rattle.mpslp_model_core.specs.{Model.{listing_of}, Views.{column_elements}}
-use Rattle.mpslp_builder.proofs.{DraftEntries.{same_key, key_total_sorted as key_total}, SlotLemmas.{same_name}, EntryLemmas.{found-each}}
+use Rattle.mpslp_builder.proofs.{SlotLemmas.{same_name}}
 use Rattle.mpslp_mps_text.specs.CanonicalMps.{Lines, bound_line, column_bound_lines, coefficient_line, column_coefficients}
 use Rattle.mpslp_mps_text.specs.CanonicalMps.{printed_coefficients, is_integer_column}
 use Rattle.mpslp_mps_text.specs.PrintedValues.{PrintedBound, printed_bounds}
-use Rattle.mpslp_builder.proofs.ListingLemmas.{place_at, is_sound_entry, sound-listing}
+use Rattle.mpslp_builder.proofs.ListingLemmas.{place_at, coefficient-not_zero}
 use Rattle.mpslp_io.{specs.LinesAt.{lines_at}, proofs.LinesAtLemmas.{lines_seen}}
 use Rattle.mpslp_mps_write.specs.MpsLinesAt.{is_wanted, of_part, element_lines, objective_line_at, objective_lines}
 use Rattle.mpslp_mps_write.{specs.declared.mps.columns.Part.{Part}, proofs.CellLemmas.{by_row, column-cells}}

@@ -1,6 +1,6 @@
 use Rattle.std.proofs.{Common.{Some, string_bytes, sym, ◌∙◌, ap}, lemmas.{Option.{slice_get-map}, Slice.Eq.{bytes_eq-Decides}}}
 use Rattle.std.specs.Prelude.{option_map}
-use Rattle.mpslp_command.proofs.Words.{slice_get_at}
+use Rattle.mpslp_command.proofs.SameWords.{slice_get_at}
 use Rattle.mpslp_command.proofs.parsing.is_at.Goals as goal
 
 pub returns-in-Some : goal.returns-in-Some
