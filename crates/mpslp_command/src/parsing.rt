@@ -173,7 +173,7 @@ fn is_plain_word(word: &str) -> bool
 }
 
 /// Whether the arguments are the command of a job.
-#[tactic(auto, using(crate::proofs::Words::three_words, crate::proofs::Words::four_words, crate::proofs::Words::five_words, crate::proofs::Words::map_len))]
+#[tactic(auto, using(crate::proofs::SameWords::three_words, crate::proofs::SameWords::four_words, crate::proofs::SameWords::five_words, crate::proofs::SameWords::map_len))]
 fn are_words_of(words: &[String], job: &Job) -> bool
     ensures { result ≡ true → map string_bytes words.now ≡ words_of job.now }
 {
