@@ -3,7 +3,7 @@ use Rattle.mpslp_builder.proofs.Prelude
 use Prelude.{arith, rules, ◌≡◌, refl, sym, ap, subst, ◌∙◌, ℕ, List, [], ◌∷◌, ◌++◌, Bool, true, false, not, ◌&&◌, Option, None}
 use Prelude.{is_some, list_all, option_map_or, append-nil, append_assoc, list_all-append, Number, LinearModel, RowDefinition, Declaration}
 use Prelude.{declare_objective, declare_row, declare_rhs, Declarations, Draft, with_declaration, with_declarations, draft_of, has_name}
-use Prelude.{has_row, is_free_row, bounds_declared, is_given}
+use Prelude.{has_row, is_free_row, bounds_declared, is_given, ◌||◌}
 use Prelude.{has_objective, AreConsistent, refusals, refusals_in_turn, bounds_refusals, is_legal, HasNoFreeRhs, IsMade, model_of}
 use Prelude.{DraftMeans, file_fault, Limit, BuildFault, UnknownColumn, DuplicateBound, InfiniteValue, both_so, or_right, back}
 use Prelude.{both_false, Some, Result, IfOk, MatchResult, Fault, ReadFault, Finishes, Means, IsAnswerOf, cond, IsTrue, Ok, Err, IsErrAnd}
