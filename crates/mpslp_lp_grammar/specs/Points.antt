@@ -2,8 +2,9 @@
 use Rattle.std.specs.Prelude.{◌≡◌, ℕ, Bool, false, List, [], ◌∷◌, ◌++◌}
 use Rattle.mpslp_types.specs.Basics.{list_any, Number as Decimal, same_bytes}
 use Rattle.mpslp_builder.specs.Declaration.{Draft}
-use Rattle.mpslp_lp_grammar.specs.Phrase.{Point, Place, Terminal, TerminalAt}
-use Rattle.mpslp_lp_grammar.specs.declared.sections_seen.SectionsSeen.{SectionsSeen}
+use Rattle.mpslp_lp_grammar.specs.Phrase.{Point}
+use Rattle.mpslp_lp_grammar.specs.Terminal.{Terminal, TerminalAt}
+use Rattle.mpslp_lp_grammar.specs.declared.{sections_seen.SectionsSeen.{SectionsSeen}, states.Place.{Place}}
 
 abbrev pub at : ℕ → Terminal → TerminalAt
 at n terminal = record { line = n; terminal = terminal }
