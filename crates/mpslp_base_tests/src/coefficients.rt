@@ -31,8 +31,8 @@ fn three_columns(alloc: Global) -> Result<ColumnTable, Fail> {
 
 /// Puts a coefficient, unless the column is not there or has one of this row.
 fn put(table: &mut ColumnTable, column: usize, row: u32, literal: &str) -> Result<(), AllocError> {
-    if table.name_at(column).is_some() && !table.has_cell(column, row) {
-        table.put_cell(column, row, number(literal))?;
+    if table.name_at(column).is_some() {
+        table.put_if_free(column, row, number(literal))?;
     }
     Ok(())
 }

@@ -637,18 +637,19 @@ unless_err t u ds es fault (inl before) = inl (record {
 unless_err t u ds es fault (inr none) = inr (none.0, part_more t u ds es none.1)
 
 -- the coefficient is declared already
-pub taken_place : (t : Tables) (once : IsOnceEach t) (numbered : IsNumbered t) (n i : ℕ) (r c : List ℕ) (x : Number) →
-    column_name t i ≡ Some c → row_name t n ≡ Some r → true ≡ is_some (find nat_cmp n (cells_at t i)) →
-    AreDeclaredUnless t (entry_declared c (r, x)) (Err DuplicateEntry) t
-taken_place t once numbered n i r c x column row stated = inl (record {
+pub taken_place : (t u : Tables) (once : IsOnceEach t) (numbered : IsNumbered t) (n i : ℕ) (r c : List ℕ) (x : Number) →
+    column_name t i ≡ Some c → row_name t n ≡ Some r → is_some (find nat_cmp n (cells_at t i)) ≡ true → IsSameTables t u →
+    AreDeclaredUnless t (entry_declared c (r, x)) (Err DuplicateEntry) u
+taken_place t u once numbered n i r c x column row stated same = inl (record {
   made = [];
   rejected = declare_coefficient (at r c) x;
   left = [];
   parts = refl;
-  declared = laid_none t;
-  error = λ sense constant. ap head_of
-      (cell_stated constant t once i c column (number_there no_part t.columns.entries i c column) n r true numbered row
-      (row_there None constant t n r row) stated);
+  declared = laid_same t t u [] (laid_none t) same;
+  error = λ sense constant.
+      ap (λ (all : Draft). head_of (refusals all (declare_coefficient (at r c) x))) (same_tables sense constant t u same)
+      ∙ ap head_of (cell_stated constant t once i c column (number_there no_part t.columns.entries i c column) n r true
+      numbered row (row_there None constant t n r row) (sym stated));
 })
 
 -- a coefficient of any row that there is

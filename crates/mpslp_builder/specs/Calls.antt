@@ -1,6 +1,9 @@
 -- What tables state by number, and what each call changes in them.
 use Rattle.std.specs.Prelude.{◌≡◌, ◌<◌, ℕ, zero, suc, Bool, true, false, ◌&&◌, ◌||◌, List, [], ◌∷◌, ◌++◌, Option, None, Some, is_some, length, slice_get, Result, Ok, Err}
 use Rattle.std.specs.Option.{option_map, option_map_or}
+use Rattle.std.specs.Ordering.{nat_cmp}
+use Rattle.std.specs.FinMap.{find}
+use Rattle.std.specs.declared.alloc.AllocError.{AllocError}
 use Rattle.indexmap.specs.IndexMap.{set_value_at}
 use Rattle.mpslp_decimal.specs.Decimal.{Number}
 use Rattle.mpslp_types.specs.declared.faults.BuildFault.{BuildFault}
@@ -134,6 +137,12 @@ pub record HasColumnChanged (old : Tables) (i : ℕ) (change : ColumnParts → C
   pub parts : ColumnParts
   pub was : slice_get old.columns.entries i ≡ Some (key, parts)
   pub written : HasColumnWritten old i (change parts) new
+
+-- a coefficient is stored, or the column of a number has one in the row and no declaration has changed
+abbrev pub PutsIfFree : Tables → ℕ → ℕ → Number → Result Bool AllocError → Tables → Type 0
+PutsIfFree old i row value (Ok true) new = (find nat_cmp row (cells_at old i) ≡ None) × HasColumnChanged old i (with_cell row value) new
+PutsIfFree old i row value (Ok false) new = (is_some (find nat_cmp row (cells_at old i)) ≡ true) × IsSameTables old new
+PutsIfFree old i row value (Err _) new = IsSameTables old new
 
 -- only the row at an index is changed, in this way
 pub record HasRowChanged (old : Tables) (i : ℕ) (change : RowParts → RowParts) (new : Tables) : Type 0 where

@@ -11,14 +11,14 @@ ghost use Rattle.mpslp_model_core.specs.Numbered.{IsOnce, each_part};
 ghost use Rattle.mpslp_builder_parts.specs.Parts.{cells_of, no_part, parts_with, with_cell, with_bounds, definition_in, bounds_of, moved_in};
 ghost use Rattle.mpslp_builder_parts.specs.CoefficientLog.{IsLog};
 ghost use Rattle.mpslp_builder_parts.specs.Grouping.{HaveNumbers};
-ghost use Rattle.mpslp_builder_parts.specs.ColumnTable.{name_in, cells_in_column, number_inserted, Inserts, IsChanged};
+ghost use Rattle.mpslp_builder_parts.specs.ColumnTable.{name_in, cells_in_column, number_inserted, Inserts, IsChanged, PutsIfFree, PutsAtOnce};
 ghost use Rattle.mpslp_builder_parts.specs.StoredColumns.{parts_of, definition_of_stored, last_of, IsWhole};
 
 use crate::coefficient_log::CoefficientLog;
 use crate::grouping::places_of;
 use crate::known_pairs::{
-    Columns, KnownPairs, MOST_COLUMNS, StoredColumn, drop_known, forget_pairs, has_cell, last_of,
-    note, prepare, put_known, set_last,
+    Columns, KnownPairs, MOST_COLUMNS, StoredColumn, ask, drop_known, forget_pairs, has_cell,
+    is_last_row, is_ready, last_of, note, prepare, put_known, set_last,
 };
 use crate::moving::{at_places, in_order_between, nonzero_first, renumbered};
 use crate::parts::ColumnDefinition;
@@ -187,7 +187,16 @@ impl ColumnTable {
     pub fn has_cell(&self, column: usize, row: u32) -> bool
         ensures { result ≡ is_some (find nat_cmp row (cells_in_column self.now column)) }
     {
-        has_cell(&self.columns, &self.log, &self.known, column, row)
+        let told = ask(&self.columns, &self.log, &self.known, column, row);
+        has_cell(&self.columns, &self.log, &self.known, column, row, told)
+    }
+
+    /// Whether the last coefficient of the column of a number is in the row of a number. This reads only the column.
+    #[inline(always)]
+    pub fn is_last_row(&self, column: usize, row: u32) -> bool
+        ensures { IsTrue result → is_some (find nat_cmp row (cells_in_column self.now column)) ≡ true }
+    {
+        is_last_row(&self.columns, &self.log, &self.known, column, row)
     }
 
     /// Adds a column of which only the name is declared, if no column has this name. Returns whether the column of this name is new, and
@@ -214,18 +223,45 @@ impl ColumnTable {
         Ok(Inserted::There(number))
     }
 
-    /// Puts a coefficient of the column of a number. Its row must not have one yet.
+    /// Puts a coefficient of the column of a number, if the last coefficients of the column and of the row tell that there is none of
+    /// both, and nothing has to be allocated. Returns whether it was put, as most are. If not, nothing changes.
+    #[inline(always)]
+    fn put_at_once(&mut self, column: usize, row: u32, value: Decimal) -> bool
+        requires { is_some (name_in self.old column) ≡ true }
+        ensures { PutsAtOnce self.old column row value result self.new }
+    {
+        if !is_ready(&self.columns, &self.log, &self.known, column, row) {
+            return false;
+        }
+        let last = last_of(&self.columns, column);
+        let Some(place) = self.log.push_within_room(last, row, value) else {
+            return false;
+        };
+        note(&mut self.known, column as u32, row, last);
+        set_last(&mut self.columns, column, place, row);
+        true
+    }
+
+    /// Puts a coefficient of the column of a number, unless it has one in the row, in any case: it searches for it and allocates if it
+    /// has to. Returns whether it was put.
     ///
     /// # Errors
     ///
-    /// [`AllocError`] if the allocation fails, for a column of number 4,294,967,295 or more, or for as many coefficients: their
-    /// places would not fit. Then nothing changes.
-    pub fn put_cell(&mut self, column: usize, row: u32, value: Decimal) -> Result<(), AllocError>
-        requires column { is_some (name_in self.old column) ≡ true }
-        requires absent { find nat_cmp row (cells_in_column self.old column) ≡ None }
-        ensures ok { OnOk result (IsChanged column (with_cell row value) self.old self.new) }
-        ensures err { OnErr result (self.new.entries ≡ self.old.entries) }
+    /// Those of [`put_if_free`](Self::put_if_free). Then nothing changes.
+    #[inline(never)]
+    fn put_any_if_free(
+        &mut self,
+        column: usize,
+        row: u32,
+        value: Decimal,
+    ) -> Result<bool, AllocError>
+        requires { is_some (name_in self.old column) ≡ true }
+        ensures { PutsIfFree self.old column row value result self.new }
     {
+        let told = ask(&self.columns, &self.log, &self.known, column, row);
+        if has_cell(&self.columns, &self.log, &self.known, column, row, told) {
+            return Ok(false);
+        }
         if column >= MOST_COLUMNS {
             return Err(AllocError);
         }
@@ -234,8 +270,8 @@ impl ColumnTable {
             &self.columns,
             &self.log,
             &mut self.known,
-            column,
             row,
+            told,
         )?;
         put_known(&mut self.known, column as u32, row)?;
         let last = last_of(&self.columns, column);
@@ -248,7 +284,30 @@ impl ColumnTable {
         };
         note(&mut self.known, column as u32, row, last);
         set_last(&mut self.columns, column, place, row);
-        Ok(())
+        Ok(true)
+    }
+
+    /// Puts a coefficient of the column of a number, unless it has one in the row. Returns whether it was put. The column and the row
+    /// are looked at only once.
+    ///
+    /// # Errors
+    ///
+    /// [`AllocError`] if the allocation fails, for a column of number 4,294,967,295 or more, or for as many coefficients: their
+    /// places would not fit. Then nothing changes.
+    #[inline(always)]
+    pub fn put_if_free(
+        &mut self,
+        column: usize,
+        row: u32,
+        value: Decimal,
+    ) -> Result<bool, AllocError>
+        requires { is_some (name_in self.old column) ≡ true }
+        ensures { PutsIfFree self.old column row value result self.new }
+    {
+        if self.put_at_once(column, row, value) {
+            return Ok(true);
+        }
+        self.put_any_if_free(column, row, value)
     }
 
     /// Stores the given bounds of the column of a number.

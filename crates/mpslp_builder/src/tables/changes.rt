@@ -7,7 +7,7 @@ ghost use Rattle.indexmap.specs.IndexMap.{index_map_len};
 ghost use Rattle.mpslp_types.specs.declared.faults.BuildFault.TheVariants.{DuplicateRow, OutOfMemory};
 ghost use Rattle.mpslp_builder.specs.Declaration.{has_row};
 ghost use Rattle.mpslp_builder.specs.Tables.{draft};
-ghost use Rattle.mpslp_builder.specs.Calls.{row_key_of, row_name, column_name, has_limits, cells_at, with_cell, with_bounds, IsSameTables, HasObjective, AddsRow, HasRowChanged, HasColumnChanged, HasRhsPut};
+ghost use Rattle.mpslp_builder.specs.Calls.{row_key_of, row_name, column_name, has_limits, cells_at, with_cell, with_bounds, IsSameTables, PutsIfFree, HasObjective, AddsRow, HasRowChanged, HasColumnChanged, HasRhsPut};
 
 use crate::tables::{RowRef, Tables};
 use mpslp_builder_parts::{ObjectiveParts, RowParts};
@@ -63,6 +63,22 @@ impl Tables {
         Err(BuildFault::DuplicateRow)
     }
 
+    /// Stores a coefficient, unless the column has one in the row. Returns whether it was stored.
+    #[inline(always)]
+    pub(crate) fn put_if_free(
+        &mut self,
+        column: usize,
+        row: u32,
+        value: Decimal,
+    ) -> Result<bool, AllocError>
+        requires { is_some (column_name self.old column) ≡ true }
+        ensures { PutsIfFree self.old column row value result self.new }
+    {
+        self.recent_row = row.saturating_sub(1) as usize;
+        self.recent = column;
+        self.columns.put_if_free(column, row, value)
+    }
+
     /// Stores a coefficient at a free place.
     pub(crate) fn put_cell(
         &mut self,
@@ -75,9 +91,8 @@ impl Tables {
         ensures ok { OnOk result (HasColumnChanged self.old column (with_cell row value) self.new) }
         ensures err { OnErr result (IsSameTables self.old self.new) }
     {
-        self.recent_row = row.saturating_sub(1) as usize;
-        self.recent = column;
-        self.columns.put_cell(column, row, value)
+        self.put_if_free(column, row, value)?;
+        Ok(())
     }
 
     /// Stores the right-hand side of the row at an index, which must be declared by its type.
