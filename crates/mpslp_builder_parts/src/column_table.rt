@@ -18,7 +18,7 @@ use crate::coefficient_log::CoefficientLog;
 use crate::grouping::places_of;
 use crate::known_pairs::{
     Columns, KnownPairs, MOST_COLUMNS, StoredColumn, ask, drop_known, forget_pairs, has_cell,
-    is_last_row, is_ready, last_of, note, prepare, put_known, set_last,
+    is_last_row, is_ready, last_of, note_put, prepare, put_known,
 };
 use crate::moving::{at_places, in_order_between, nonzero_first, renumbered};
 use crate::parts::ColumnDefinition;
@@ -237,8 +237,7 @@ impl ColumnTable {
         let Some(place) = self.log.push_within_room(last, row, value) else {
             return false;
         };
-        note(&mut self.known, column as u32, row, last);
-        set_last(&mut self.columns, column, place, row);
+        note_put(&mut self.columns, &mut self.known, column, row, last, place);
         true
     }
 
@@ -282,8 +281,7 @@ impl ColumnTable {
                 return Err(error);
             }
         };
-        note(&mut self.known, column as u32, row, last);
-        set_last(&mut self.columns, column, place, row);
+        note_put(&mut self.columns, &mut self.known, column, row, last, place);
         Ok(true)
     }
 

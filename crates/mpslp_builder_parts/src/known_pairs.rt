@@ -357,7 +357,7 @@ fn opened(open: &Option<u32>, number: u32, had_none: bool) -> Option<u32>
 
 /// Notes that the last coefficient of a row is in this column. `last` is the place of the one before it in the column, or 0.
 #[inline(always)]
-pub(crate) fn note(known: &mut KnownPairs, column: u32, row: u32, last: u32)
+fn note(known: &mut KnownPairs, column: u32, row: u32, last: u32)
     requires column { column < 4294967295 }
     requires room { row < length known.old.stamps.items }
     ensures here { slice_index known.new.stamps.items row ≡ suc column }
@@ -373,13 +373,37 @@ pub(crate) fn note(known: &mut KnownPairs, column: u32, row: u32, last: u32)
 
 /// Sets the place and the row of the last coefficient of a column.
 #[inline(always)]
-pub(crate) fn set_last(columns: &mut Columns, column: usize, place: u32, row: u32)
+fn set_last(columns: &mut Columns, column: usize, place: u32, row: u32)
     requires { column < length columns.old.entries }
     ensures { HasLast column place row columns.old.entries columns.new.entries }
 {
     let (_name, stored) = columns.pair_mut(column);
     stored.last = place;
     stored.last_row = row;
+}
+
+/// Notes that the last coefficient of a row and of a column is at this place. `last` is that of the one before it in the column, or 0.
+#[inline(always)]
+pub(crate) fn note_put(
+    columns: &mut Columns,
+    known: &mut KnownPairs,
+    column: usize,
+    row: u32,
+    last: u32,
+    place: u32,
+)
+    requires few { column < 4294967295 }
+    requires there { column < length columns.old.entries }
+    requires room { row < length known.old.stamps.items }
+    ensures here { slice_index known.new.stamps.items row ≡ suc column }
+    ensures others { (r : ℕ) → r ≢ row → slice_index known.new.stamps.items r ≡ slice_index known.old.stamps.items r }
+    ensures open_row { IsOpened known.old.open_row known.new.open_row row (slice_index known.old.stamps.items row ≡ 0) }
+    ensures open_column { IsOpened known.old.open_column known.new.open_column column (last ≡ 0) }
+    ensures pairs { known.new.pairs ≡ known.old.pairs }
+    ensures last { HasLast column place row columns.old.entries columns.new.entries }
+{
+    note(known, column as u32, row, last);
+    set_last(columns, column, place, row);
 }
 
 /// Drops what is known of the pairs.
