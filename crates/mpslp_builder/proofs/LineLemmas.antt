@@ -22,6 +22,8 @@ use Rattle.mpslp_builder_parts.specs.ColumnTable.{Inserts, number_inserted}
 use Rattle.mpslp_builder_parts.specs.declared.column_table.Inserted.{Inserted, TheVariants.{New, There}}
 use Prelude.{find-sorted_of, each_part, first_refusal}
 use Rattle.mpslp_builder_parts.specs.Parts.{new_row}
+use Rattle.mpslp_builder.specs.Calls.{declare_property, with_property}
+use Rattle.mpslp_builder_parts.specs.declared.parts.Property.{Property, TheVariants.{Marked, Integer, Binary, Semi}}
 use Rattle.mpslp_builder.{specs.declared.tables.RowRef.TheVariants.Row, proofs.TableDrafts.{column_draft, column_numbered, kept_numbered}}
 use Rattle.mpslp_builder.proofs.TableDrafts.{mark_draft, integer_draft, binary_draft, semi_draft, sides_draft, cell_draft, cell_numbered}
 use Rattle.mpslp_builder.proofs.TableDrafts.{row_draft, row_numbered, written_numbered, range_draft, rhs_draft, objective_draft}
@@ -244,6 +246,13 @@ module _ (sense : Option Sense) (constant : Option Number) (t u : Tables) where
         → draft sense constant u ≡ with_declaration (draft sense constant t) (declare_semi c)
     semi_added h = by_name (λ parts. record parts { semi = true }) h (λ name. with_declaration _ (declare_semi name))
         (semi_draft sense constant t.objective t.rows.entries t.columns.entries i h.key h.parts h.was once.columns)
+
+    pub property_added : (property : Property) → HasColumnChanged t i (with_property property) u
+        → draft sense constant u ≡ with_declaration (draft sense constant t) (declare_property property c)
+    property_added Marked h = mark_added h
+    property_added Integer h = integer_added h
+    property_added Binary h = binary_added h
+    property_added Semi h = semi_added h
 
     pub sides_added : (lower upper : Option Limit) → HasColumnChanged t i (with_bounds lower upper) u
         → draft sense constant u ≡ with_declarations (draft sense constant t) (bounds_declared c lower upper)

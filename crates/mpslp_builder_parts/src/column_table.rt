@@ -8,7 +8,7 @@ ghost use Rattle.std.specs.FinMap.{find};
 ghost use Rattle.mpslp_types.specs.Name.{bytes_cmp};
 ghost use Rattle.mpslp_model_core.specs.ModelColumns.{IsWithin, span_bounds, span_cells};
 ghost use Rattle.mpslp_model_core.specs.Numbered.{IsOnce, each_part};
-ghost use Rattle.mpslp_builder_parts.specs.Parts.{cells_of, no_part, parts_with, with_cell, with_bounds, definition_in, bounds_of, moved_in};
+ghost use Rattle.mpslp_builder_parts.specs.Parts.{cells_of, no_part, parts_with, with_cell, with_bounds, with_property, definition_in, bounds_of, moved_in};
 ghost use Rattle.mpslp_builder_parts.specs.CoefficientLog.{IsLog};
 ghost use Rattle.mpslp_builder_parts.specs.Grouping.{HaveNumbers};
 ghost use Rattle.mpslp_builder_parts.specs.ColumnTable.{name_in, cells_in_column, number_inserted, Inserts, IsChanged, PutsIfFree, PutsAtOnce};
@@ -21,7 +21,7 @@ use crate::known_pairs::{
     is_last_row, is_ready, last_of, note_put, prepare, put_known,
 };
 use crate::moving::{at_places, in_order_between, nonzero_first, renumbered};
-use crate::parts::ColumnDefinition;
+use crate::parts::{ColumnDefinition, Property};
 use indexmap::IndexMap;
 use mpslp_decimal::{Decimal, PackedDecimal};
 use mpslp_model_core::{ColumnSpan, ModelBounds};
@@ -328,40 +328,13 @@ impl ColumnTable {
         stored.definition.sides.put(alloc, lower, upper)
     }
 
-    /// Marks the column of a number.
-    pub fn mark(&mut self, column: usize)
+    /// Adds a property to what is declared of the column of a number.
+    pub fn add_property(&mut self, column: usize, property: Property)
         requires { is_some (name_in self.old column) ≡ true }
-        ensures { IsChanged column (λ parts. record parts { marked = true }) self.old self.new }
+        ensures { IsChanged column (with_property property) self.old self.new }
     {
         let (_name, stored) = self.columns.pair_mut(column);
-        stored.definition.marked = true;
-    }
-
-    /// Makes the column of a number integer.
-    pub fn make_integer(&mut self, column: usize)
-        requires { is_some (name_in self.old column) ≡ true }
-        ensures { IsChanged column (λ parts. record parts { integer = true }) self.old self.new }
-    {
-        let (_name, stored) = self.columns.pair_mut(column);
-        stored.definition.integer = true;
-    }
-
-    /// Makes the column of a number binary.
-    pub fn make_binary(&mut self, column: usize)
-        requires { is_some (name_in self.old column) ≡ true }
-        ensures { IsChanged column (λ parts. record parts { binary = true }) self.old self.new }
-    {
-        let (_name, stored) = self.columns.pair_mut(column);
-        stored.definition.binary = true;
-    }
-
-    /// Makes the column of a number semi-continuous.
-    pub fn make_semi(&mut self, column: usize)
-        requires { is_some (name_in self.old column) ≡ true }
-        ensures { IsChanged column (λ parts. record parts { semi = true }) self.old self.new }
-    {
-        let (_name, stored) = self.columns.pair_mut(column);
-        stored.definition.semi = true;
+        stored.definition.add(property);
     }
 
     /// The name of the column of a number, moved out without a copy.
