@@ -29,12 +29,17 @@ fn three_columns(alloc: Global) -> Result<ColumnTable, Fail> {
     Ok(table)
 }
 
-/// Puts a coefficient, unless the column is not there or has one of this row.
-fn put(table: &mut ColumnTable, column: usize, row: u32, literal: &str) -> Result<(), AllocError> {
-    if table.name_at(column).is_some() && !table.has_cell(column, row) {
-        table.put_cell(column, row, number(literal))?;
+/// Puts a coefficient, unless the column is not there or has one of this row. Returns whether it was put.
+fn put(
+    table: &mut ColumnTable,
+    column: usize,
+    row: u32,
+    literal: &str,
+) -> Result<bool, AllocError> {
+    if table.name_at(column).is_none() {
+        return Ok(false);
     }
-    Ok(())
+    table.put_if_free(column, row, number(literal))
 }
 
 /// The columns with coefficients of these pairs of a column and a row, put in turn.
@@ -111,6 +116,24 @@ fn keeps_coefficients_row_by_row(rt: HostRuntime) -> Result<(), Fail> {
     let falling = [(2, 3), (0, 3), (1, 2), (2, 1), (0, 1), (1, 0)];
     let rows = presence_of(rt.alloc(), &falling)?;
     assert_eq!(rt; rows, [ODD, EVEN, ODD, NONE]);
+    Ok(())
+}
+
+/// Whether each of three coefficients of x was put, of which the last one is in the row of the first one, and whether the last one of x
+/// is in row 2.
+fn put_twice(alloc: Global) -> Result<([bool; 3], bool), Fail> {
+    let mut table = three_columns(alloc)?;
+    let first = put(&mut table, 0, 1, "1")?;
+    let second = put(&mut table, 0, 2, "2")?;
+    let third = put(&mut table, 0, 1, "3")?;
+    Ok(([first, second, third], table.is_last_row(0, 2)))
+}
+
+#[test]
+fn coefficient_is_put_once(rt: HostRuntime) -> Result<(), Fail> {
+    let (were_put, is_last) = put_twice(rt.alloc())?;
+    assert_eq!(rt; were_put, [true, true, false]);
+    assert_eq!(rt; is_last, true);
     Ok(())
 }
 

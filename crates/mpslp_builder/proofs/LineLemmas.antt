@@ -22,6 +22,8 @@ use Rattle.mpslp_builder_parts.specs.ColumnTable.{Inserts, number_inserted}
 use Rattle.mpslp_builder_parts.specs.declared.column_table.Inserted.{Inserted, TheVariants.{New, There}}
 use Prelude.{find-sorted_of, each_part, first_refusal}
 use Rattle.mpslp_builder_parts.specs.Parts.{new_row}
+use Rattle.mpslp_builder.specs.Calls.{declare_property, with_property}
+use Rattle.mpslp_builder_parts.specs.declared.parts.Property.{Property, TheVariants.{Marked, Integer, Binary, Semi}}
 use Rattle.mpslp_builder.{specs.declared.tables.RowRef.TheVariants.Row, proofs.TableDrafts.{column_draft, column_numbered, kept_numbered}}
 use Rattle.mpslp_builder.proofs.TableDrafts.{mark_draft, integer_draft, binary_draft, semi_draft, sides_draft, cell_draft, cell_numbered}
 use Rattle.mpslp_builder.proofs.TableDrafts.{row_draft, row_numbered, written_numbered, range_draft, rhs_draft, objective_draft}
@@ -244,6 +246,13 @@ module _ (sense : Option Sense) (constant : Option Number) (t u : Tables) where
         → draft sense constant u ≡ with_declaration (draft sense constant t) (declare_semi c)
     semi_added h = by_name (λ parts. record parts { semi = true }) h (λ name. with_declaration _ (declare_semi name))
         (semi_draft sense constant t.objective t.rows.entries t.columns.entries i h.key h.parts h.was once.columns)
+
+    pub property_added : (property : Property) → HasColumnChanged t i (with_property property) u
+        → draft sense constant u ≡ with_declaration (draft sense constant t) (declare_property property c)
+    property_added Marked h = mark_added h
+    property_added Integer h = integer_added h
+    property_added Binary h = binary_added h
+    property_added Semi h = semi_added h
 
     pub sides_added : (lower upper : Option Limit) → HasColumnChanged t i (with_bounds lower upper) u
         → draft sense constant u ≡ with_declarations (draft sense constant t) (bounds_declared c lower upper)
@@ -637,18 +646,19 @@ unless_err t u ds es fault (inl before) = inl (record {
 unless_err t u ds es fault (inr none) = inr (none.0, part_more t u ds es none.1)
 
 -- the coefficient is declared already
-pub taken_place : (t : Tables) (once : IsOnceEach t) (numbered : IsNumbered t) (n i : ℕ) (r c : List ℕ) (x : Number) →
-    column_name t i ≡ Some c → row_name t n ≡ Some r → true ≡ is_some (find nat_cmp n (cells_at t i)) →
-    AreDeclaredUnless t (entry_declared c (r, x)) (Err DuplicateEntry) t
-taken_place t once numbered n i r c x column row stated = inl (record {
+pub taken_place : (t u : Tables) (once : IsOnceEach t) (numbered : IsNumbered t) (n i : ℕ) (r c : List ℕ) (x : Number) →
+    column_name t i ≡ Some c → row_name t n ≡ Some r → is_some (find nat_cmp n (cells_at t i)) ≡ true → IsSameTables t u →
+    AreDeclaredUnless t (entry_declared c (r, x)) (Err DuplicateEntry) u
+taken_place t u once numbered n i r c x column row stated same = inl (record {
   made = [];
   rejected = declare_coefficient (at r c) x;
   left = [];
   parts = refl;
-  declared = laid_none t;
-  error = λ sense constant. ap head_of
-      (cell_stated constant t once i c column (number_there no_part t.columns.entries i c column) n r true numbered row
-      (row_there None constant t n r row) stated);
+  declared = laid_same t t u [] (laid_none t) same;
+  error = λ sense constant.
+      ap (λ (all : Draft). head_of (refusals all (declare_coefficient (at r c) x))) (same_tables sense constant t u same)
+      ∙ ap head_of (cell_stated constant t once i c column (number_there no_part t.columns.entries i c column) n r true
+      numbered row (row_there None constant t n r row) (sym stated));
 })
 
 -- a coefficient of any row that there is

@@ -1,20 +1,25 @@
 -- What tables state by number, and what each call changes in them.
 use Rattle.std.specs.Prelude.{◌≡◌, ◌<◌, ℕ, zero, suc, Bool, true, false, ◌&&◌, ◌||◌, List, [], ◌∷◌, ◌++◌, Option, None, Some, is_some, length, slice_get, Result, Ok, Err}
 use Rattle.std.specs.Option.{option_map, option_map_or}
+use Rattle.std.specs.Ordering.{nat_cmp}
+use Rattle.std.specs.FinMap.{find}
+use Rattle.std.specs.declared.alloc.AllocError.{AllocError}
 use Rattle.indexmap.specs.IndexMap.{set_value_at}
 use Rattle.mpslp_decimal.specs.Decimal.{Number}
 use Rattle.mpslp_types.specs.declared.faults.BuildFault.{BuildFault}
 use Rattle.mpslp_model_core.specs.Numbered.{IsOnce, each_part}
 use Rattle.mpslp_model_core.specs.Model.{CoefficientKey}
 use Rattle.mpslp_model_core.specs.Limits.{is_definition_by_limits}
-pub use Rattle.mpslp_builder_parts.specs.Parts.{new_column, with_bounds, with_cell}
+pub use Rattle.mpslp_builder_parts.specs.Parts.{new_column, with_bounds, with_cell, with_property}
 use Rattle.mpslp_builder_parts.specs.Parts.{ColumnParts}
 use Rattle.mpslp_types.specs.Lists.{those_of}
 use Rattle.mpslp_builder.specs.Answer.{Answer, Answers}
 use Rattle.mpslp_builder.specs.Refusal.{row_tests}
-use Rattle.mpslp_builder.specs.Declaration.{Draft, has_row, has_column, has_coefficient}
+use Rattle.mpslp_builder.specs.Declaration.{Declaration, declare_marked, declare_integer, declare_binary, declare_semi, Draft, has_row, has_column, has_coefficient}
 use Rattle.mpslp_builder.specs.Tables.{definition_of, cells_of, draft, name_of_row_key, cells_by_name}
 use Rattle.mpslp_builder_parts.specs.declared.parts.ObjectiveParts.{ObjectiveParts}
+use Rattle.mpslp_builder_parts.specs.declared.parts.Property.{Property}
+use Rattle.mpslp_builder_parts.specs.declared.parts.Property.TheVariants.{Marked, Integer, Binary, Semi}
 use Rattle.mpslp_builder_parts.specs.RowParts.{RowParts}
 use Rattle.mpslp_builder.specs.declared.tables.RowRef.{RowRef}
 use Rattle.mpslp_builder.specs.declared.tables.RowRef.TheVariants.{Objective, Row}
@@ -62,6 +67,13 @@ has_upper_at t i = column_satisfies t i (λ column. is_some column.sides.upper)
 -- the coefficients of the column of a number
 abbrev pub cells_at : Tables → ℕ → List (ℕ × Number)
 cells_at t i = option_map_or (λ e. cells_of e.1) (slice_get t.columns.entries i) []
+
+-- the declaration that a column has a property
+abbrev pub declare_property : Property → List ℕ → Declaration
+declare_property Marked column = declare_marked column
+declare_property Integer column = declare_integer column
+declare_property Binary column = declare_binary column
+declare_property Semi column = declare_semi column
 
 -- success if something is found, otherwise the error
 abbrev pub answer_of : {X : Type 0} → Result X BuildFault → Answer
@@ -134,6 +146,12 @@ pub record HasColumnChanged (old : Tables) (i : ℕ) (change : ColumnParts → C
   pub parts : ColumnParts
   pub was : slice_get old.columns.entries i ≡ Some (key, parts)
   pub written : HasColumnWritten old i (change parts) new
+
+-- a coefficient is stored, or the column of a number has one in the row and no declaration has changed
+abbrev pub PutsIfFree : Tables → ℕ → ℕ → Number → Result Bool AllocError → Tables → Type 0
+PutsIfFree old i row value (Ok true) new = (find nat_cmp row (cells_at old i) ≡ None) × HasColumnChanged old i (with_cell row value) new
+PutsIfFree old i row value (Ok false) new = (is_some (find nat_cmp row (cells_at old i)) ≡ true) × IsSameTables old new
+PutsIfFree old i row value (Err _) new = IsSameTables old new
 
 -- only the row at an index is changed, in this way
 pub record HasRowChanged (old : Tables) (i : ℕ) (change : RowParts → RowParts) (new : Tables) : Type 0 where

@@ -9,10 +9,11 @@ ghost use Rattle.mpslp_types.specs.Limit.{is_given};
 ghost use Rattle.mpslp_builder.specs.Declaration.{empty_draft, declare_sense, declare_objective, declare_constant, declare_row, by_type, by_limits, declare_rhs, declare_range, declare_column, declare_coefficient, declare_marked, declare_integer, declare_binary, declare_semi, is_free_row, rhs_declared, bounds_declared};
 ghost use Rattle.mpslp_builder.specs.Refusal.{refusals, bounds_refusals};
 ghost use Rattle.mpslp_builder.specs.Answer.{AnswersTo, AnswersToAll, IsNotOutOfMemory};
+ghost use Rattle.mpslp_builder.specs.Calls.{declare_property};
 
 use crate::builder::queries::have_infinite_limit;
 use crate::tables::Tables;
-use mpslp_builder_parts::RowParts;
+use mpslp_builder_parts::{Property, RowParts};
 use mpslp_decimal::Decimal;
 use mpslp_decimal::laws::each_value_is_a_decimal;
 use mpslp_types::laws::each_name_is_legal;
@@ -247,6 +248,16 @@ impl Builder {
         Ok(())
     }
 
+    /// Declares that a column has a property.
+    fn declare(&mut self, column: &[u8], property: Property) -> Result<(), BuildFault>
+        ensures answers { AnswersTo self.old (declare_property property column.now) result self.new }
+        ensures memory { IsNotOutOfMemory result }
+    {
+        let number = self.tables.property_target(column, property)?;
+        self.tables.put_property(number, property);
+        Ok(())
+    }
+
     /// Declares that a column is in an integer block of an MPS file. It is integer, and its upper bound is 1 if it has no
     /// declared bound. The call may be repeated.
     ///
@@ -257,9 +268,7 @@ impl Builder {
         ensures answers { AnswersTo self.old (declare_marked column.now) result self.new }
         ensures memory { IsNotOutOfMemory result }
     {
-        let number = self.tables.integer_target(column)?;
-        self.tables.put_mark(number);
-        Ok(())
+        self.declare(column, Property::Marked)
     }
 
     /// Declares that a column is integer. The call may be repeated.
@@ -271,9 +280,7 @@ impl Builder {
         ensures answers { AnswersTo self.old (declare_integer column.now) result self.new }
         ensures memory { IsNotOutOfMemory result }
     {
-        let number = self.tables.integer_target(column)?;
-        self.tables.put_integer(number);
-        Ok(())
+        self.declare(column, Property::Integer)
     }
 
     /// Declares that a column is binary: it is integer, its upper bound is 1 if none is declared, and its bounds must be within
@@ -286,9 +293,7 @@ impl Builder {
         ensures answers { AnswersTo self.old (declare_binary column.now) result self.new }
         ensures memory { IsNotOutOfMemory result }
     {
-        let number = self.tables.integer_target(column)?;
-        self.tables.put_binary(number);
-        Ok(())
+        self.declare(column, Property::Binary)
     }
 
     /// Declares that a column is semi-continuous: it is 0 or within its bounds. Before or after this call its upper bound must be
@@ -302,8 +307,6 @@ impl Builder {
         ensures answers { AnswersTo self.old (declare_semi column.now) result self.new }
         ensures memory { IsNotOutOfMemory result }
     {
-        let number = self.tables.semi_target(column)?;
-        self.tables.put_semi(number);
-        Ok(())
+        self.declare(column, Property::Semi)
     }
 }

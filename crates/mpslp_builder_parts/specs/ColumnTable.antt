@@ -1,13 +1,14 @@
 -- The columns by number, in the order of their declarations.
-use Rattle.std.specs.Prelude.{◌≡◌, ℕ, true, List, [], ◌∷◌, ◌++◌, Option, Some, None, Result, Ok, Err, is_some, length, slice_get}
+use Rattle.std.specs.Prelude.{◌≡◌, ℕ, Bool, true, false, List, [], ◌∷◌, ◌++◌, Option, Some, None, Result, Ok, Err, is_some, length, slice_get}
 use Rattle.std.specs.Option.{option_map, option_map_or}
+use Rattle.std.specs.Ordering.{nat_cmp}
 use Rattle.std.specs.FinMap.{find}
 use Rattle.std.specs.declared.alloc.AllocError.{AllocError}
 use Rattle.indexmap.specs.IndexMap.{set_value_at}
 use Rattle.mpslp_decimal.specs.Decimal.{Number}
 use Rattle.mpslp_types.specs.Name.{bytes_cmp}
 use Rattle.mpslp_model_core.specs.Numbered.{each_part}
-use Rattle.mpslp_builder_parts.specs.Parts.{ColumnParts, cells_of, new_column, no_part}
+use Rattle.mpslp_builder_parts.specs.Parts.{ColumnParts, cells_of, new_column, no_part, with_cell}
 use Rattle.mpslp_builder_parts.specs.declared.column_table.Inserted.{Inserted}
 use Rattle.mpslp_builder_parts.specs.declared.column_table.Inserted.TheVariants.{New, There}
 
@@ -41,3 +42,14 @@ pub record IsChanged (i : ℕ) (change : ColumnParts → ColumnParts) (old new :
   pub parts : ColumnParts
   pub was : slice_get old.entries i ≡ Some (key, parts)
   pub written : new.entries ≡ set_value_at old.entries i (change parts)
+
+-- a coefficient is put where there was none, or nothing changes
+abbrev pub PutsAtOnce : ColumnEntries → ℕ → ℕ → Number → Bool → ColumnEntries → Type 0
+PutsAtOnce old i row value true new = (find nat_cmp row (cells_in_column old i) ≡ None) × IsChanged i (with_cell row value) old new
+PutsAtOnce old i row value false new = new.entries ≡ old.entries
+
+-- a coefficient is put, or the column of a number has one in the row and nothing changes
+abbrev pub PutsIfFree : ColumnEntries → ℕ → ℕ → Number → Result Bool AllocError → ColumnEntries → Type 0
+PutsIfFree old i row value (Ok true) new = (find nat_cmp row (cells_in_column old i) ≡ None) × IsChanged i (with_cell row value) old new
+PutsIfFree old i row value (Ok false) new = (is_some (find nat_cmp row (cells_in_column old i)) ≡ true) × (new.entries ≡ old.entries)
+PutsIfFree old i row value (Err _) new = new.entries ≡ old.entries

@@ -7,10 +7,18 @@ use Rattle.std.specs.BTreeSet.{BTreeSet, contains, IsUnchanged}
 use Rattle.mpslp_model_core.specs.Numbered.{IsOnceBy}
 use Rattle.mpslp_builder_parts.specs.CoefficientLog.{LogEntries, chain, IsLog}
 use Rattle.mpslp_builder_parts.specs.Grouping.{HaveNumbers}
+use Rattle.mpslp_builder_parts.specs.declared.known_pairs.Told.{Told}
+use Rattle.mpslp_builder_parts.specs.declared.known_pairs.Told.TheVariants.{There, Free, Nothing}
 
 -- whether there is a coefficient of a row in the chain that begins at the place of a column
 abbrev pub has_pair : LogEntries → (ℕ → ℕ) → ℕ → ℕ → Bool
 has_pair log last column row = is_some (find nat_cmp row (chain log (last column)))
+
+-- what is told of a pair is so
+abbrev pub IsTold : Told → Bool → Type 0
+IsTold There has = has ≡ true
+IsTold Free has = has ≡ false
+IsTold Nothing has = Unit {0}
 
 -- a pair as one number
 abbrev pub pair_key : ℕ → ℕ → ℕ

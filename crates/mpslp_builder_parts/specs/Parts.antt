@@ -1,5 +1,5 @@
 -- What is declared of the objective, of a row and of a column, and what it becomes in a model.
-use Rattle.std.specs.Prelude.{ℕ, Bool, false, List, [], Option, Some, None, unwrap_or, if◌then◌else◌}
+use Rattle.std.specs.Prelude.{ℕ, Bool, true, false, List, [], Option, Some, None, unwrap_or, if◌then◌else◌}
 use Rattle.std.specs.Ordering.{nat_cmp}
 use Rattle.std.specs.FinMap.{put}
 use Rattle.mpslp_decimal.specs.Decimal.{Number, zero_number}
@@ -13,6 +13,8 @@ use Rattle.mpslp_builder_parts.specs.DeclaredBounds.{LowerAndUpper, no_sides, si
 use Rattle.mpslp_builder_parts.specs.declared.parts.ObjectiveParts.{ObjectiveParts}
 use Rattle.mpslp_builder_parts.specs.RowParts.{RowParts}
 use Rattle.mpslp_builder_parts.specs.declared.parts.ColumnDefinition.{ColumnDefinition}
+use Rattle.mpslp_builder_parts.specs.declared.parts.Property.{Property}
+use Rattle.mpslp_builder_parts.specs.declared.parts.Property.TheVariants.{Marked, Integer, Binary, Semi}
 
 -- ---- what is declared of a row or of a column
 
@@ -71,6 +73,13 @@ new_column = record { cells = []; sides = no_sides; marked = false; integer = fa
 abbrev pub with_bounds : Option Limit → Option Limit → ColumnParts → ColumnParts
 with_bounds lower upper column = record column { sides = sides_put lower upper column.sides }
 
+-- with a property
+abbrev pub with_property : Property → ColumnParts → ColumnParts
+with_property Marked column = record column { marked = true }
+with_property Integer column = record column { integer = true }
+with_property Binary column = record column { binary = true }
+with_property Semi column = record column { semi = true }
+
 -- what is declared, apart from the coefficients
 abbrev pub declared_in : ColumnParts → DeclaredColumn
 declared_in column = record {
@@ -102,6 +111,13 @@ definition_in column = record {
   binary = column.binary;
   semi = column.semi;
 }
+
+-- with a property
+abbrev pub defined_with : Property → ColumnDefinition → ColumnDefinition
+defined_with Marked definition = record definition { marked = true }
+defined_with Integer definition = record definition { integer = true }
+defined_with Binary definition = record definition { binary = true }
+defined_with Semi definition = record definition { semi = true }
 
 -- with one more coefficient
 abbrev pub with_cell : ℕ → Number → ColumnParts → ColumnParts

@@ -1,5 +1,5 @@
 -- Columns in their form in the code.
-use Rattle.std.specs.Prelude.{◌≡◌, ◌≤◌, ℕ, List, Some, slice_get, length}
+use Rattle.std.specs.Prelude.{◌≡◌, ◌≤◌, ◌<◌, ℕ, false, List, None, Some, slice_get, length}
 use Rattle.std.specs.Option.{option_map_or}
 use Rattle.std.specs.Ordering.{nat_cmp}
 use Rattle.indexmap.specs.IndexMap.{set_value_at}
@@ -7,7 +7,7 @@ use Rattle.mpslp_model_core.specs.Numbered.{each_part, sorted_of, IsOnceBy}
 use Rattle.mpslp_builder_parts.specs.Parts.{ColumnParts, parts_with}
 use Rattle.mpslp_builder_parts.specs.ColumnTable.{ColumnEntries}
 use Rattle.mpslp_builder_parts.specs.CoefficientLog.{LogEntries, chain}
-use Rattle.mpslp_builder_parts.specs.KnownPairs.{AreKnown}
+use Rattle.mpslp_builder_parts.specs.KnownPairs.{AreKnown, has_pair}
 use Rattle.mpslp_builder_parts.specs.declared.parts.ColumnDefinition.{ColumnDefinition}
 use Rattle.mpslp_builder_parts.specs.declared.known_pairs.StoredColumn.{StoredColumn}
 use Rattle.mpslp_builder_parts.specs.declared.known_pairs.KnownPairs.{KnownPairs}
@@ -43,3 +43,10 @@ pub record HasLast (i place row : ℕ) (old new : List (List ℕ × StoredColumn
 pub record IsWhole (log : LogEntries) (column : StoredColumn) : Type 0 where
   pub place : column.last ≤ length log.cells
   pub once : IsOnceBy nat_cmp (chain log column.last)
+
+-- there is no coefficient of the column and the row, and one can be noted where there is no set of pairs
+pub record IsReady (columns : List (List ℕ × StoredColumn)) (log : LogEntries) (known : KnownPairs) (column row : ℕ) : Type 0 where
+  pub absent : has_pair log (last_of columns) column row ≡ false
+  pub few : column < 4294967295
+  pub room : row < length known.stamps.items
+  pub pairs : known.pairs ≡ None

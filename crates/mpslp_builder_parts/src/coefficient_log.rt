@@ -1,6 +1,6 @@
 //! The coefficients of all columns in one log.
 
-ghost use Rattle.std.specs.Prelude.{◌≡◌, ◌≤◌, ◌<◌, ◌||◌, ◌++◌, ◌∷◌, [], ℕ, suc, IfOk, OnOk, OnErr, length, is_some};
+ghost use Rattle.std.specs.Prelude.{◌≡◌, ◌≤◌, ◌<◌, ◌||◌, ◌++◌, ◌∷◌, [], ℕ, suc, None, IfOk, IfSome, OnOk, OnErr, OnSome, length, is_some};
 ghost use Rattle.std.specs.Ordering.{nat_cmp, eq_by_cmp};
 ghost use Rattle.std.specs.FinMap.{find};
 ghost use Rattle.mpslp_builder_parts.specs.CoefficientLog.{chain};
@@ -61,6 +61,27 @@ impl CoefficientLog {
         self.earlier.push(earlier)?;
         self.cells.push((row, PackedDecimal::of(value)))?;
         Ok(len as u32 + 1)
+    }
+
+    /// Puts a coefficient without an allocation, and returns its place. If there is no room for it, nothing changes.
+    #[inline(always)]
+    pub(crate) fn push_within_room(&mut self, earlier: u32, row: u32, value: Decimal) -> Option<u32>
+        requires { earlier ≤ length self.old.cells }
+        ensures place { IfSome result (λ place. place ≡ suc (length self.old.cells)) }
+        ensures cells { OnSome result (self.new.cells ≡ self.old.cells ++ (row, value) ∷ []) }
+        ensures earlier { OnSome result (self.new.earlier ≡ self.old.earlier ++ earlier ∷ []) }
+        ensures none { result ≡ None → self.new ≡ self.old }
+    {
+        let len = self.cells.len();
+        if len >= u32::MAX as usize
+            || len >= self.cells.capacity()
+            || self.earlier.len() >= self.earlier.capacity()
+        {
+            return None;
+        }
+        self.earlier.push_reserved(earlier);
+        self.cells.push_reserved((row, PackedDecimal::of(value)));
+        Some(len as u32 + 1)
     }
 
     /// The row of the coefficient at a place, and the place of the one before it in its column.

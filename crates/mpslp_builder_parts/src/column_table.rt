@@ -8,20 +8,20 @@ ghost use Rattle.std.specs.FinMap.{find};
 ghost use Rattle.mpslp_types.specs.Name.{bytes_cmp};
 ghost use Rattle.mpslp_model_core.specs.ModelColumns.{IsWithin, span_bounds, span_cells};
 ghost use Rattle.mpslp_model_core.specs.Numbered.{IsOnce, each_part};
-ghost use Rattle.mpslp_builder_parts.specs.Parts.{cells_of, no_part, parts_with, with_cell, with_bounds, definition_in, bounds_of, moved_in};
+ghost use Rattle.mpslp_builder_parts.specs.Parts.{cells_of, no_part, parts_with, with_cell, with_bounds, with_property, definition_in, bounds_of, moved_in};
 ghost use Rattle.mpslp_builder_parts.specs.CoefficientLog.{IsLog};
 ghost use Rattle.mpslp_builder_parts.specs.Grouping.{HaveNumbers};
-ghost use Rattle.mpslp_builder_parts.specs.ColumnTable.{name_in, cells_in_column, number_inserted, Inserts, IsChanged};
+ghost use Rattle.mpslp_builder_parts.specs.ColumnTable.{name_in, cells_in_column, number_inserted, Inserts, IsChanged, PutsIfFree, PutsAtOnce};
 ghost use Rattle.mpslp_builder_parts.specs.StoredColumns.{parts_of, definition_of_stored, last_of, IsWhole};
 
 use crate::coefficient_log::CoefficientLog;
 use crate::grouping::places_of;
 use crate::known_pairs::{
-    Columns, KnownPairs, MOST_COLUMNS, StoredColumn, drop_known, forget_pairs, has_cell, last_of,
-    note, prepare, put_known, set_last,
+    Columns, KnownPairs, MOST_COLUMNS, StoredColumn, ask, drop_known, forget_pairs, has_cell,
+    is_last_row, is_ready, last_of, note_put, prepare, put_known,
 };
 use crate::moving::{at_places, in_order_between, nonzero_first, renumbered};
-use crate::parts::ColumnDefinition;
+use crate::parts::{ColumnDefinition, Property};
 use indexmap::IndexMap;
 use mpslp_decimal::{Decimal, PackedDecimal};
 use mpslp_model_core::{ColumnSpan, ModelBounds};
@@ -187,7 +187,16 @@ impl ColumnTable {
     pub fn has_cell(&self, column: usize, row: u32) -> bool
         ensures { result ≡ is_some (find nat_cmp row (cells_in_column self.now column)) }
     {
-        has_cell(&self.columns, &self.log, &self.known, column, row)
+        let told = ask(&self.columns, &self.log, &self.known, column, row);
+        has_cell(&self.columns, &self.log, &self.known, column, row, told)
+    }
+
+    /// Whether the last coefficient of the column of a number is in the row of a number. This reads only the column.
+    #[inline(always)]
+    pub fn is_last_row(&self, column: usize, row: u32) -> bool
+        ensures { IsTrue result → is_some (find nat_cmp row (cells_in_column self.now column)) ≡ true }
+    {
+        is_last_row(&self.columns, &self.log, &self.known, column, row)
     }
 
     /// Adds a column of which only the name is declared, if no column has this name. Returns whether the column of this name is new, and
@@ -214,18 +223,44 @@ impl ColumnTable {
         Ok(Inserted::There(number))
     }
 
-    /// Puts a coefficient of the column of a number. Its row must not have one yet.
+    /// Puts a coefficient of the column of a number, if the last coefficients of the column and of the row tell that there is none of
+    /// both, and nothing has to be allocated. Returns whether it was put, as most are. If not, nothing changes.
+    #[inline(always)]
+    fn put_at_once(&mut self, column: usize, row: u32, value: Decimal) -> bool
+        requires { is_some (name_in self.old column) ≡ true }
+        ensures { PutsAtOnce self.old column row value result self.new }
+    {
+        if !is_ready(&self.columns, &self.log, &self.known, column, row) {
+            return false;
+        }
+        let last = last_of(&self.columns, column);
+        let Some(place) = self.log.push_within_room(last, row, value) else {
+            return false;
+        };
+        note_put(&mut self.columns, &mut self.known, column, row, last, place);
+        true
+    }
+
+    /// Puts a coefficient of the column of a number, unless it has one in the row, in any case: it searches for it and allocates if it
+    /// has to. Returns whether it was put.
     ///
     /// # Errors
     ///
-    /// [`AllocError`] if the allocation fails, for a column of number 4,294,967,295 or more, or for as many coefficients: their
-    /// places would not fit. Then nothing changes.
-    pub fn put_cell(&mut self, column: usize, row: u32, value: Decimal) -> Result<(), AllocError>
-        requires column { is_some (name_in self.old column) ≡ true }
-        requires absent { find nat_cmp row (cells_in_column self.old column) ≡ None }
-        ensures ok { OnOk result (IsChanged column (with_cell row value) self.old self.new) }
-        ensures err { OnErr result (self.new.entries ≡ self.old.entries) }
+    /// Those of [`put_if_free`](Self::put_if_free). Then nothing changes.
+    #[inline(never)]
+    fn put_any_if_free(
+        &mut self,
+        column: usize,
+        row: u32,
+        value: Decimal,
+    ) -> Result<bool, AllocError>
+        requires { is_some (name_in self.old column) ≡ true }
+        ensures { PutsIfFree self.old column row value result self.new }
     {
+        let told = ask(&self.columns, &self.log, &self.known, column, row);
+        if has_cell(&self.columns, &self.log, &self.known, column, row, told) {
+            return Ok(false);
+        }
         if column >= MOST_COLUMNS {
             return Err(AllocError);
         }
@@ -234,8 +269,8 @@ impl ColumnTable {
             &self.columns,
             &self.log,
             &mut self.known,
-            column,
             row,
+            told,
         )?;
         put_known(&mut self.known, column as u32, row)?;
         let last = last_of(&self.columns, column);
@@ -246,9 +281,31 @@ impl ColumnTable {
                 return Err(error);
             }
         };
-        note(&mut self.known, column as u32, row, last);
-        set_last(&mut self.columns, column, place, row);
-        Ok(())
+        note_put(&mut self.columns, &mut self.known, column, row, last, place);
+        Ok(true)
+    }
+
+    /// Puts a coefficient of the column of a number, unless it has one in the row. Returns whether it was put. The column and the row
+    /// are looked at only once.
+    ///
+    /// # Errors
+    ///
+    /// [`AllocError`] if the allocation fails, for a column of number 4,294,967,295 or more, or for as many coefficients: their
+    /// places would not fit. Then nothing changes.
+    #[inline(always)]
+    pub fn put_if_free(
+        &mut self,
+        column: usize,
+        row: u32,
+        value: Decimal,
+    ) -> Result<bool, AllocError>
+        requires { is_some (name_in self.old column) ≡ true }
+        ensures { PutsIfFree self.old column row value result self.new }
+    {
+        if self.put_at_once(column, row, value) {
+            return Ok(true);
+        }
+        self.put_any_if_free(column, row, value)
     }
 
     /// Stores the given bounds of the column of a number.
@@ -271,40 +328,13 @@ impl ColumnTable {
         stored.definition.sides.put(alloc, lower, upper)
     }
 
-    /// Marks the column of a number.
-    pub fn mark(&mut self, column: usize)
+    /// Adds a property to what is declared of the column of a number.
+    pub fn add_property(&mut self, column: usize, property: Property)
         requires { is_some (name_in self.old column) ≡ true }
-        ensures { IsChanged column (λ parts. record parts { marked = true }) self.old self.new }
+        ensures { IsChanged column (with_property property) self.old self.new }
     {
         let (_name, stored) = self.columns.pair_mut(column);
-        stored.definition.marked = true;
-    }
-
-    /// Makes the column of a number integer.
-    pub fn make_integer(&mut self, column: usize)
-        requires { is_some (name_in self.old column) ≡ true }
-        ensures { IsChanged column (λ parts. record parts { integer = true }) self.old self.new }
-    {
-        let (_name, stored) = self.columns.pair_mut(column);
-        stored.definition.integer = true;
-    }
-
-    /// Makes the column of a number binary.
-    pub fn make_binary(&mut self, column: usize)
-        requires { is_some (name_in self.old column) ≡ true }
-        ensures { IsChanged column (λ parts. record parts { binary = true }) self.old self.new }
-    {
-        let (_name, stored) = self.columns.pair_mut(column);
-        stored.definition.binary = true;
-    }
-
-    /// Makes the column of a number semi-continuous.
-    pub fn make_semi(&mut self, column: usize)
-        requires { is_some (name_in self.old column) ≡ true }
-        ensures { IsChanged column (λ parts. record parts { semi = true }) self.old self.new }
-    {
-        let (_name, stored) = self.columns.pair_mut(column);
-        stored.definition.semi = true;
+        stored.definition.add(property);
     }
 
     /// The name of the column of a number, moved out without a copy.

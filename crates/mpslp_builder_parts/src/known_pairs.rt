@@ -8,8 +8,8 @@ ghost use Rattle.std.specs.Prelude.{◌≡◌, ◌≢◌, ◌≤◌, ◌<◌, �
 ghost use Rattle.std.specs.Ordering.{nat_cmp};
 ghost use Rattle.std.specs.FinMap.{find};
 ghost use Rattle.mpslp_builder_parts.specs.CoefficientLog.{chain};
-ghost use Rattle.mpslp_builder_parts.specs.KnownPairs.{has_pair, in_pairs, IsPutIfSome, IsSameIfSome, IsOpened};
-ghost use Rattle.mpslp_builder_parts.specs.StoredColumns.{IsKnown, HasLast, last_of};
+ghost use Rattle.mpslp_builder_parts.specs.KnownPairs.{has_pair, in_pairs, IsTold, IsPutIfSome, IsSameIfSome, IsOpened};
+ghost use Rattle.mpslp_builder_parts.specs.StoredColumns.{IsKnown, IsReady, HasLast, last_of};
 
 use crate::coefficient_log::CoefficientLog;
 use crate::pair_set::{is_in, put_pair};
@@ -49,6 +49,7 @@ pub(crate) struct KnownPairs {
 }
 
 /// Whether it is this number.
+#[inline(always)]
 fn is_number(number: &Option<u32>, other: usize) -> bool
     ensures { IsTrue result → number.now ≡ Some other }
 {
@@ -75,6 +76,7 @@ impl KnownPairs {
     }
 
     /// The number of the column of the last coefficient of a row, plus 1, or 0 if it has none.
+    #[inline(always)]
     fn stamp(&self, row: u32) -> u32
         ensures { result ≡ slice_index self.now.stamps.items row }
     {
@@ -85,29 +87,10 @@ impl KnownPairs {
     }
 }
 
-/// Whether there is a coefficient of a row in a chain, in the set of pairs if there is one.
+/// Whether the column of a number has a coefficient in the row of a number, by the set of pairs if there is one, or else by the chain
+/// of the column.
+#[inline(never)]
 fn search(
-    columns: &Columns,
-    log: &CoefficientLog,
-    known: &KnownPairs,
-    column: usize,
-    row: u32,
-    last: u32,
-) -> bool
-    requires known { IsKnown columns.now.entries log.now known.now }
-    requires last { last ≡ last_of columns.now.entries column }
-    ensures { result ≡ has_pair log.now (last_of columns.now.entries) column row }
-{
-    if let Some(pairs) = &known.pairs {
-        if column < MOST_COLUMNS {
-            return is_in(pairs, column as u32, row);
-        }
-    }
-    log.has(last, row)
-}
-
-/// Whether the column of a number has a coefficient in the row of a number.
-pub(crate) fn has_cell(
     columns: &Columns,
     log: &CoefficientLog,
     known: &KnownPairs,
@@ -117,29 +100,100 @@ pub(crate) fn has_cell(
     requires { IsKnown columns.now.entries log.now known.now }
     ensures { result ≡ has_pair log.now (last_of columns.now.entries) column row }
 {
+    if let Some(pairs) = &known.pairs {
+        if column < MOST_COLUMNS {
+            return is_in(pairs, column as u32, row);
+        }
+    }
+    log.has(last_of(columns, column), row)
+}
+
+/// What the last coefficients of a row and of a column tell of a coefficient of both.
+#[derive(Clone, Copy)]
+pub(crate) enum Told {
+    /// It is there.
+    There,
+    /// It is not there. After it is put, they tell as much of the next one of the row or of the column.
+    Free,
+    /// Nothing.
+    Nothing,
+}
+
+/// What they tell of the pair of a column and a row.
+#[inline(always)]
+pub(crate) fn ask(
+    columns: &Columns,
+    log: &CoefficientLog,
+    known: &KnownPairs,
+    column: usize,
+    row: u32,
+) -> Told
+    requires { IsKnown columns.now.entries log.now known.now }
+    ensures { IsTold result (has_pair log.now (last_of columns.now.entries) column row) }
+{
     let Some((_name, stored)) = columns.get_index(column) else {
-        return false;
+        return Told::Free;
     };
     if stored.last == 0 {
-        return false;
+        return Told::Free;
     }
     if stored.last_row == row {
-        return true;
+        return Told::There;
     }
     let stamp = known.stamp(row);
     if stamp == 0 {
-        return false;
+        return Told::Free;
     }
     if stamp as usize - 1 == column {
-        return true;
+        return Told::There;
     }
     if is_number(&known.open_row, row as usize) || is_number(&known.open_column, column) {
-        return false;
+        return Told::Free;
     }
-    search(columns, log, known, column, row, stored.last)
+    Told::Nothing
 }
 
-/// Room for the stamp of a row.
+/// Whether the column of a number has a coefficient in the row of a number, by what is told of it.
+#[inline(always)]
+pub(crate) fn has_cell(
+    columns: &Columns,
+    log: &CoefficientLog,
+    known: &KnownPairs,
+    column: usize,
+    row: u32,
+    told: Told,
+) -> bool
+    requires known { IsKnown columns.now.entries log.now known.now }
+    requires told { IsTold told (has_pair log.now (last_of columns.now.entries) column row) }
+    ensures { result ≡ has_pair log.now (last_of columns.now.entries) column row }
+{
+    match told {
+        Told::There => true,
+        Told::Free => false,
+        Told::Nothing => search(columns, log, known, column, row),
+    }
+}
+
+/// Whether the last coefficient of the column of a number is in the row of a number.
+#[inline(always)]
+pub(crate) fn is_last_row(
+    columns: &Columns,
+    log: &CoefficientLog,
+    known: &KnownPairs,
+    column: usize,
+    row: u32,
+) -> bool
+    requires { IsKnown columns.now.entries log.now known.now }
+    ensures { IsTrue result → has_pair log.now (last_of columns.now.entries) column row ≡ true }
+{
+    match columns.get_index(column) {
+        Some((_name, stored)) => stored.last != 0 && stored.last_row == row,
+        None => false,
+    }
+}
+
+/// Room for the stamp of a row, and of as many as there are, so that this is seldom done.
+#[inline(never)]
 fn make_room(known: &mut KnownPairs, row: u32) -> Result<(), AllocError>
     ensures stamps { (r : ℕ) → slice_index known.new.stamps.items r ≡ slice_index known.old.stamps.items r }
     ensures room { OnOk result (row < length known.new.stamps.items) }
@@ -147,8 +201,9 @@ fn make_room(known: &mut KnownPairs, row: u32) -> Result<(), AllocError>
     ensures open_column { known.new.open_column ≡ known.old.open_column }
     ensures pairs { known.new.pairs ≡ known.old.pairs }
 {
-    let needed = row as usize + 1;
-    if known.stamps.len() < needed {
+    let len = known.stamps.len();
+    let needed = (row as usize + 1).max(len.saturating_add(len));
+    if len < needed {
         known.stamps.resize(needed, 0)?;
     }
     Ok(())
@@ -175,6 +230,7 @@ fn add_chain(
 }
 
 /// The place of the last coefficient of the column of a number, 0 if there is none.
+#[inline(always)]
 pub(crate) fn last_of(columns: &Columns, column: usize) -> u32
     ensures { result ≡ last_of columns.now.entries column }
 {
@@ -201,31 +257,68 @@ fn pairs_of(
     Ok(pairs)
 }
 
-/// Makes room for a coefficient of a row and a column, and all pairs if they will be needed.
-pub(crate) fn prepare(
+/// Makes the set of all pairs, unless there is one.
+#[inline(never)]
+fn add_pairs(
     alloc: Global,
     columns: &Columns,
     log: &CoefficientLog,
     known: &mut KnownPairs,
-    column: usize,
-    row: u32,
 ) -> Result<(), AllocError>
     requires { IsKnown columns.now.entries log.now known.old }
     ensures kept { IsKnown columns.now.entries log.now known.new }
-    ensures room { OnOk result (row < length known.new.stamps.items) }
+    ensures stamps { known.new.stamps.items ≡ known.old.stamps.items }
 {
-    make_room(known, row)?;
-    let is_open = known.stamp(row) == 0
-        || last_of(columns, column) == 0
-        || is_number(&known.open_row, row as usize)
-        || is_number(&known.open_column, column);
-    if !is_open && known.pairs.is_none() {
+    if known.pairs.is_none() {
         known.pairs = Some(pairs_of(alloc, columns, log)?);
     }
     Ok(())
 }
 
+/// Makes room for a coefficient of a row and a column, and all pairs if they will be needed.
+#[inline(always)]
+pub(crate) fn prepare(
+    alloc: Global,
+    columns: &Columns,
+    log: &CoefficientLog,
+    known: &mut KnownPairs,
+    row: u32,
+    told: Told,
+) -> Result<(), AllocError>
+    requires { IsKnown columns.now.entries log.now known.old }
+    ensures kept { IsKnown columns.now.entries log.now known.new }
+    ensures room { OnOk result (row < length known.new.stamps.items) }
+{
+    if row as usize >= known.stamps.len() {
+        make_room(known, row)?;
+    }
+    if let Told::Nothing = told {
+        add_pairs(alloc, columns, log, known)?;
+    }
+    Ok(())
+}
+
+/// Whether the last coefficients of a row and a column tell that there is none of both, and the next one can be noted at once: there is
+/// room for its stamp, and no set of pairs.
+#[inline(always)]
+pub(crate) fn is_ready(
+    columns: &Columns,
+    log: &CoefficientLog,
+    known: &KnownPairs,
+    column: usize,
+    row: u32,
+) -> bool
+    requires { IsKnown columns.now.entries log.now known.now }
+    ensures { IsTrue result → IsReady columns.now.entries log.now known.now column row }
+{
+    let is_plain = column < MOST_COLUMNS
+        && (row as usize) < known.stamps.len()
+        && known.pairs.is_none();
+    is_plain && matches!(ask(columns, log, known, column, row), Told::Free)
+}
+
 /// Puts a pair into the set of all pairs, if there is one.
+#[inline(always)]
 pub(crate) fn put_known(known: &mut KnownPairs, column: u32, row: u32) -> Result<(), AllocError>
     ensures stamps { known.new.stamps.items ≡ known.old.stamps.items }
     ensures open_row { known.new.open_row ≡ known.old.open_row }
@@ -240,6 +333,7 @@ pub(crate) fn put_known(known: &mut KnownPairs, column: u32, row: u32) -> Result
 }
 
 /// Forgets the set of all pairs. It is made again when it is needed.
+#[inline(never)]
 pub(crate) fn forget_pairs(known: &mut KnownPairs)
     ensures stamps { known.new.stamps.items ≡ known.old.stamps.items }
     ensures open_row { known.new.open_row ≡ known.old.open_row }
@@ -250,6 +344,7 @@ pub(crate) fn forget_pairs(known: &mut KnownPairs)
 }
 
 /// The number, if all coefficients of its row or column are the last ones of their columns or rows also after one more.
+#[inline(always)]
 fn opened(open: &Option<u32>, number: u32, had_none: bool) -> Option<u32>
     ensures { IsOpened open.now result number (had_none ≡ true) }
 {
@@ -261,7 +356,8 @@ fn opened(open: &Option<u32>, number: u32, had_none: bool) -> Option<u32>
 }
 
 /// Notes that the last coefficient of a row is in this column. `last` is the place of the one before it in the column, or 0.
-pub(crate) fn note(known: &mut KnownPairs, column: u32, row: u32, last: u32)
+#[inline(always)]
+fn note(known: &mut KnownPairs, column: u32, row: u32, last: u32)
     requires column { column < 4294967295 }
     requires room { row < length known.old.stamps.items }
     ensures here { slice_index known.new.stamps.items row ≡ suc column }
@@ -276,13 +372,38 @@ pub(crate) fn note(known: &mut KnownPairs, column: u32, row: u32, last: u32)
 }
 
 /// Sets the place and the row of the last coefficient of a column.
-pub(crate) fn set_last(columns: &mut Columns, column: usize, place: u32, row: u32)
+#[inline(always)]
+fn set_last(columns: &mut Columns, column: usize, place: u32, row: u32)
     requires { column < length columns.old.entries }
     ensures { HasLast column place row columns.old.entries columns.new.entries }
 {
     let (_name, stored) = columns.pair_mut(column);
     stored.last = place;
     stored.last_row = row;
+}
+
+/// Notes that the last coefficient of a row and of a column is at this place. `last` is that of the one before it in the column, or 0.
+#[inline(always)]
+pub(crate) fn note_put(
+    columns: &mut Columns,
+    known: &mut KnownPairs,
+    column: usize,
+    row: u32,
+    last: u32,
+    place: u32,
+)
+    requires few { column < 4294967295 }
+    requires there { column < length columns.old.entries }
+    requires room { row < length known.old.stamps.items }
+    ensures here { slice_index known.new.stamps.items row ≡ suc column }
+    ensures others { (r : ℕ) → r ≢ row → slice_index known.new.stamps.items r ≡ slice_index known.old.stamps.items r }
+    ensures open_row { IsOpened known.old.open_row known.new.open_row row (slice_index known.old.stamps.items row ≡ 0) }
+    ensures open_column { IsOpened known.old.open_column known.new.open_column column (last ≡ 0) }
+    ensures pairs { known.new.pairs ≡ known.old.pairs }
+    ensures last { HasLast column place row columns.old.entries columns.new.entries }
+{
+    note(known, column as u32, row, last);
+    set_last(columns, column, place, row);
 }
 
 /// Drops what is known of the pairs.

@@ -22,6 +22,6 @@ pub use declared_bounds::DeclaredBounds;
 pub use known_pairs::StoredColumn;
 pub use model_rows_and_columns::{ordered, row_of};
 pub use order::order_of;
-pub use parts::{ColumnDefinition, ObjectiveParts};
+pub use parts::{ColumnDefinition, ObjectiveParts, Property};
 pub use ranks::ranks_of;
 pub use row_parts::RowParts;

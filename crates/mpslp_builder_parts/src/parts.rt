@@ -1,7 +1,7 @@
 //! What is declared of the objective and of a column.
 
 ghost use Rattle.std.specs.Prelude.{◌≡◌, []};
-ghost use Rattle.mpslp_builder_parts.specs.Parts.{new_column, definition_in, parts_with, declared_in};
+ghost use Rattle.mpslp_builder_parts.specs.Parts.{new_column, definition_in, parts_with, declared_in, defined_with};
 
 use crate::declared_bounds::DeclaredBounds;
 use mpslp_decimal::PackedDecimal;
@@ -13,6 +13,19 @@ use mpslp_types::Name;
 pub struct ObjectiveParts {
     pub name: Name,
     pub rhs: Option<PackedDecimal>,
+}
+
+/// What is declared of a column by its name only.
+#[derive(Clone, Copy)]
+pub enum Property {
+    /// It is in an integer block of an MPS file.
+    Marked,
+    /// It is integer.
+    Integer,
+    /// It is binary.
+    Binary,
+    /// It is semi-continuous.
+    Semi,
 }
 
 /// What is declared of a column, apart from its name and its coefficients.
@@ -36,6 +49,18 @@ impl ColumnDefinition {
             integer: false,
             binary: false,
             semi: false,
+        }
+    }
+
+    /// Adds a property.
+    pub(crate) fn add(&mut self, property: Property)
+        ensures { self.new ≡ defined_with property self.old }
+    {
+        match property {
+            Property::Marked => self.marked = true,
+            Property::Integer => self.integer = true,
+            Property::Binary => self.binary = true,
+            Property::Semi => self.semi = true,
         }
     }
 

@@ -7,10 +7,10 @@ ghost use Rattle.indexmap.specs.IndexMap.{index_map_len};
 ghost use Rattle.mpslp_types.specs.declared.faults.BuildFault.TheVariants.{DuplicateRow, OutOfMemory};
 ghost use Rattle.mpslp_builder.specs.Declaration.{has_row};
 ghost use Rattle.mpslp_builder.specs.Tables.{draft};
-ghost use Rattle.mpslp_builder.specs.Calls.{row_key_of, row_name, column_name, has_limits, cells_at, with_cell, with_bounds, IsSameTables, HasObjective, AddsRow, HasRowChanged, HasColumnChanged, HasRhsPut};
+ghost use Rattle.mpslp_builder.specs.Calls.{row_key_of, row_name, column_name, has_limits, cells_at, with_cell, with_bounds, with_property, IsSameTables, PutsIfFree, HasObjective, AddsRow, HasRowChanged, HasColumnChanged, HasRhsPut};
 
 use crate::tables::{RowRef, Tables};
-use mpslp_builder_parts::{ObjectiveParts, RowParts};
+use mpslp_builder_parts::{ObjectiveParts, Property, RowParts};
 use mpslp_decimal::{Decimal, PackedDecimal};
 use mpslp_types::{BuildFault, Limit, Name};
 use std::alloc::AllocError;
@@ -63,6 +63,22 @@ impl Tables {
         Err(BuildFault::DuplicateRow)
     }
 
+    /// Stores a coefficient, unless the column has one in the row. Returns whether it was stored.
+    #[inline(always)]
+    pub(crate) fn put_if_free(
+        &mut self,
+        column: usize,
+        row: u32,
+        value: Decimal,
+    ) -> Result<bool, AllocError>
+        requires { is_some (column_name self.old column) ≡ true }
+        ensures { PutsIfFree self.old column row value result self.new }
+    {
+        self.recent_row = row.saturating_sub(1) as usize;
+        self.recent = column;
+        self.columns.put_if_free(column, row, value)
+    }
+
     /// Stores a coefficient at a free place.
     pub(crate) fn put_cell(
         &mut self,
@@ -75,9 +91,8 @@ impl Tables {
         ensures ok { OnOk result (HasColumnChanged self.old column (with_cell row value) self.new) }
         ensures err { OnErr result (IsSameTables self.old self.new) }
     {
-        self.recent_row = row.saturating_sub(1) as usize;
-        self.recent = column;
-        self.columns.put_cell(column, row, value)
+        self.put_if_free(column, row, value)?;
+        Ok(())
     }
 
     /// Stores the right-hand side of the row at an index, which must be declared by its type.
@@ -124,40 +139,13 @@ impl Tables {
         row.put_range(value);
     }
 
-    /// Marks a column.
-    pub(crate) fn put_mark(&mut self, column: usize)
+    /// Adds a property to what is declared of a column.
+    pub(crate) fn put_property(&mut self, column: usize, property: Property)
         requires { is_some (column_name self.old column) ≡ true }
-        ensures { HasColumnChanged self.old column (λ parts. record parts { marked = true }) self.new }
+        ensures { HasColumnChanged self.old column (with_property property) self.new }
     {
         self.recent = column;
-        self.columns.mark(column);
-    }
-
-    /// Makes a column integer.
-    pub(crate) fn put_integer(&mut self, column: usize)
-        requires { is_some (column_name self.old column) ≡ true }
-        ensures { HasColumnChanged self.old column (λ parts. record parts { integer = true }) self.new }
-    {
-        self.recent = column;
-        self.columns.make_integer(column);
-    }
-
-    /// Makes a column binary.
-    pub(crate) fn put_binary(&mut self, column: usize)
-        requires { is_some (column_name self.old column) ≡ true }
-        ensures { HasColumnChanged self.old column (λ parts. record parts { binary = true }) self.new }
-    {
-        self.recent = column;
-        self.columns.make_binary(column);
-    }
-
-    /// Makes a column semi-continuous.
-    pub(crate) fn put_semi(&mut self, column: usize)
-        requires { is_some (column_name self.old column) ≡ true }
-        ensures { HasColumnChanged self.old column (λ parts. record parts { semi = true }) self.new }
-    {
-        self.recent = column;
-        self.columns.make_semi(column);
+        self.columns.add_property(column, property);
     }
 
     /// Stores the given bounds of a column.

@@ -14,7 +14,7 @@ ghost use Rattle.mpslp_builder.specs.LineTables.{AreRows, AreKnownRows, AreFree,
 
 use crate::entries::Entries;
 use crate::tables::Tables;
-use mpslp_builder_parts::Inserted;
+use mpslp_builder_parts::{Inserted, Property};
 use mpslp_decimal::Decimal;
 use mpslp_decimal::laws::each_value_is_a_decimal;
 use mpslp_types::Name;
@@ -123,7 +123,7 @@ impl Tables {
     {
         self.each_name_occurs_once();
         if is_marked {
-            self.put_mark(column);
+            self.put_property(column, Property::Marked);
         }
     }
 

@@ -10,13 +10,43 @@ use crate::tables::{RowRef, Tables};
 use mpslp_types::NameBytes;
 
 /// Whether two names are the same. Their last bytes are compared first, because most names that differ have other ones.
+#[inline(always)]
 pub(crate) fn is_same_name(name: &[u8], other: &[u8]) -> bool
     ensures { result ≡ same_bytes name.now other.now }
 {
     match (name, other) {
         ([.., last], [.., other_last]) if last != other_last => false,
-        _ => name == other,
+        _ => have_same_bytes(name, other),
     }
+}
+
+/// Whether two names have the same bytes. Those of 8 to 16 bytes are compared in two parts, which overlap.
+#[inline(always)]
+fn have_same_bytes(name: &[u8], other: &[u8]) -> bool
+    ensures { result ≡ same_bytes name.now other.now }
+{
+    if name.len() != other.len() {
+        return false;
+    }
+    if name.len() > 16 {
+        return name == other;
+    }
+    let Some(end) = name.last_chunk::<8>() else {
+        return name == other;
+    };
+    let Some(other_end) = other.last_chunk::<8>() else {
+        return name == other;
+    };
+    if *end != *other_end {
+        return false;
+    }
+    let Some(start) = name.first_chunk::<8>() else {
+        return name == other;
+    };
+    let Some(other_start) = other.first_chunk::<8>() else {
+        return name == other;
+    };
+    *start == *other_start
 }
 
 impl Tables {
@@ -70,6 +100,7 @@ impl Tables {
     }
 
     /// Whether the row at an index has this name.
+    #[inline(always)]
     fn is_row_at(&self, index: usize, name: &[u8]) -> bool
         ensures { IsTrue result → row_name self.now (suc index) ≡ Some name.now }
     {
@@ -114,6 +145,7 @@ impl Tables {
     }
 
     /// Whether the column of a number has this name.
+    #[inline(always)]
     pub(crate) fn is_column(&self, column: usize, name: &[u8]) -> bool
         ensures { IsTrue result → column_name self.now column ≡ Some name.now }
     {

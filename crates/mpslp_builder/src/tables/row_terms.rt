@@ -15,6 +15,7 @@ use crate::tables::Tables;
 use crate::tables::hints::hash_of;
 use indexmap::IndexMap;
 use mpslp_decimal::Decimal;
+use mpslp_decimal::laws::each_value_is_a_decimal;
 use mpslp_types::laws::each_name_is_legal;
 use mpslp_types::{BuildFault, HashSeed, Name};
 use std::alloc::{AllocError, Global};
@@ -112,7 +113,7 @@ impl Tables {
         // the misses of the cache overlap. A number that no column has remains, since the column is then probably new.
         for i in 0..terms.count_ahead(from) {
             let is_found = self.is_column(guesses[i], terms.name_at(from.saturating_add(i)));
-            if is_found && self.has_cell(guesses[i], row) {
+            if is_found && self.columns.is_last_row(guesses[i], row) {
                 guesses[i] = 0;
             }
         }
@@ -190,11 +191,12 @@ impl Tables {
         ensures rows { self.new.rows.entries ≡ self.old.rows.entries }
         ensures declared { EntryIsDeclaredUnless self.old column row value result self.new }
     {
+        each_value_is_a_decimal(value);
         self.each_name_occurs_once();
-        if self.has_cell(column, row) {
+        let is_put = self.put_if_free(column, row, value)?;
+        if !is_put {
             return Err(BuildFault::DuplicateEntry);
         }
-        self.put_value(column, row, value)?;
         Ok(())
     }
 

@@ -10,11 +10,12 @@ ghost use Rattle.std.specs.FinMap.{find};
 ghost use Rattle.mpslp_types.specs.Limit.{is_plus_infinite, is_minus_infinite};
 ghost use Rattle.mpslp_builder.specs.Declaration.{declare_range, has_coefficient};
 ghost use Rattle.mpslp_builder.specs.Refusal.{rhs_tests, integer_tests, semi_tests, coefficient_tests, refusals, bounds_refusals};
-ghost use Rattle.mpslp_builder.specs.Answer.{first_refusal, refused_by};
+ghost use Rattle.mpslp_builder.specs.Answer.{first_refusal, refused_by, IsNotOutOfMemory};
 ghost use Rattle.mpslp_builder.specs.Tables.{draft, IsNumbered};
-ghost use Rattle.mpslp_builder.specs.Calls.{CoefficientsAreKnown, row_key_of, row_name, column_name, has_limits, has_rhs_at, has_lower_at, has_upper_at, cells_at, answer_of, IsOnceEach};
+ghost use Rattle.mpslp_builder.specs.Calls.{CoefficientsAreKnown, row_key_of, row_name, column_name, has_limits, has_rhs_at, has_lower_at, has_upper_at, cells_at, answer_of, declare_property, IsOnceEach};
 
 use crate::tables::{RowRef, Tables};
+use mpslp_builder_parts::Property;
 use mpslp_decimal::Decimal;
 use mpslp_types::{BuildFault, Limit};
 
@@ -191,5 +192,24 @@ impl Tables {
             return Err(BuildFault::SemiContinuous);
         }
         Ok(number)
+    }
+
+    /// The number of the column that may be declared to have a property.
+    pub(crate) fn property_target(
+        &self,
+        column: &[u8],
+        property: Property,
+    ) -> Result<usize, BuildFault>
+        ensures number { IfOk result (λ i. column_name self.now i ≡ Some column.now) }
+        ensures once { IsOnceEach self.now }
+        ensures answer { answer_of result ≡ first_refusal (refusals (draft None None self.now) (declare_property property column.now)) }
+        ensures memory { IsNotOutOfMemory (answer_of result) }
+    {
+        match property {
+            Property::Marked => self.integer_target(column),
+            Property::Integer => self.integer_target(column),
+            Property::Binary => self.integer_target(column),
+            Property::Semi => self.semi_target(column),
+        }
     }
 }

@@ -10,7 +10,7 @@ returns-then-is_marked-clause-kept c =
     let semi : column_satisfies t c.args.column (λ parts. parts.semi)
     ≡ false = ap (λ (b : Bool). b && column_satisfies t c.args.column (λ parts. parts.semi)) (sym c.if-is_marked.true)
     ∙ c.requires.apart in
-    mark_follows t c.put_mark.new.self c.requires.numbered c.each_name_occurs_once.ensures c.args.column c.put_mark.ensures semi
+    mark_follows t c.put_property.new.self c.requires.numbered c.each_name_occurs_once.ensures c.args.column c.put_property.ensures semi
 
 pub returns-then-is_marked-clause-declared : goal.returns-then-is_marked-clause-declared
 returns-then-is_marked-clause-declared c =
@@ -18,9 +18,9 @@ returns-then-is_marked-clause-declared c =
     let semi : column_satisfies t c.args.column (λ parts. parts.semi)
     ≡ false = ap (λ (b : Bool). b && column_satisfies t c.args.column (λ parts. parts.semi)) (sym c.if-is_marked.true)
     ∙ c.requires.apart in
-    λ name is. subst (λ (b : Bool). AreDeclared t (when b (declare_marked name)) c.put_mark.new.self) (sym c.if-is_marked.true)
-    (mark_laid t c.put_mark.new.self c.requires.numbered c.each_name_occurs_once.ensures c.args.column
-    c.put_mark.ensures semi name is)
+    λ name is. subst (λ (b : Bool). AreDeclared t (when b (declare_marked name)) c.put_property.new.self) (sym c.if-is_marked.true)
+    (mark_laid t c.put_property.new.self c.requires.numbered c.each_name_occurs_once.ensures c.args.column
+    c.put_property.ensures semi name is)
 
 pub returns-then-is_marked-clause-cells : goal.returns-then-is_marked-clause-cells
 returns-then-is_marked-clause-cells c =
@@ -28,4 +28,4 @@ returns-then-is_marked-clause-cells c =
     let semi : column_satisfies t c.args.column (λ parts. parts.semi)
     ≡ false = ap (λ (b : Bool). b && column_satisfies t c.args.column (λ parts. parts.semi)) (sym c.if-is_marked.true)
     ∙ c.requires.apart in
-    mark_cells t c.put_mark.new.self c.requires.numbered c.each_name_occurs_once.ensures c.args.column c.put_mark.ensures semi
+    mark_cells t c.put_property.new.self c.requires.numbered c.each_name_occurs_once.ensures c.args.column c.put_property.ensures semi
