@@ -1,7 +1,7 @@
 //! The inputs of a job: files, standard input, and stand-ins for missing ones.
 
 use mpslp_convert::{Job, JobFault, perform_seeded};
-use mpslp_model::{FromRead, HashSeed, Sink, Source};
+use mpslp_model::{FromRead, HashSeed, Sink};
 use std::io::{Error, ErrorKind, Read};
 use std::rt::Files;
 use std::{fs, io};
@@ -9,22 +9,40 @@ use std::{fs, io};
 /// The maximum length of an input in bytes.
 const MAX_BYTES: u64 = 1_073_741_824;
 
-/// The stand-in for an input without a file.
+/// An input of a job, opened.
 #[derive(Drop)]
-enum NoFile {
+enum Opened<I, F> {
     /// The job has no such input: there are no bytes.
-    Empty,
+    Nothing,
     /// The file could not be opened: each read fails.
     Missing,
+    /// Standard input.
+    Standard(I),
+    /// A file.
+    File(F),
 }
 
-impl Read for NoFile {
-    fn read(&mut self, _: &mut [u8]) -> io::Result<usize> {
+impl<I: Read, F: Read> Read for Opened<I, F> {
+    fn read(&mut self, buffer: &mut [u8]) -> io::Result<usize> {
         match self {
-            NoFile::Empty => Ok(0),
-            NoFile::Missing => Err(Error::from(ErrorKind::NotFound)),
+            Opened::Nothing => Ok(0),
+            Opened::Missing => Err(Error::from(ErrorKind::NotFound)),
+            Opened::Standard(input) => input.read(buffer),
+            Opened::File(file) => file.read(buffer),
         }
     }
+}
+
+/// Opens the input at this path, if the job has one. Standard input is named `-`.
+fn open<R: Input + Files>(rt: &R, path: Option<&str>) -> FromRead<Opened<R::Reader, R::File>> {
+    FromRead::new(match path {
+        None => Opened::Nothing,
+        Some("-") => Opened::Standard(rt.reader()),
+        Some(path) => match fs::open(rt, path) {
+            Ok(file) => Opened::File(file),
+            Err(_) => Opened::Missing,
+        },
+    })
 }
 
 /// The paths of a job's first and second input, if it has them.
@@ -45,75 +63,17 @@ pub(crate) fn perform_on_inputs<R: Input + Files + AllocGlobal, W: Sink, E: Sink
     out: &mut W,
     err: &mut E,
 ) -> u8 {
-    match paths(job).0 {
-        None => perform_from_first(rt, seed, job, &mut FromRead::new(NoFile::Empty), out, err),
-        Some("-") => perform_from_first(rt, seed, job, &mut FromRead::new(rt.reader()), out, err),
-        Some(path) => match fs::open(rt, path) {
-            Ok(file) => perform_from_first(rt, seed, job, &mut FromRead::new(file), out, err),
-            Err(_) => perform_from_first(
-                rt,
-                seed,
-                job,
-                &mut FromRead::new(NoFile::Missing),
-                out,
-                err,
-            ),
-        },
-    }
-}
-
-/// Opens the second input, does the job, and returns the exit status.
-fn perform_from_first<R: Input + Files + AllocGlobal, I: Source, W: Sink, E: Sink>(
-    rt: &R,
-    seed: HashSeed,
-    job: &Result<Job, JobFault>,
-    first: &mut I,
-    out: &mut W,
-    err: &mut E,
-) -> u8 {
-    let alloc = rt.alloc();
-    match paths(job).1 {
-        None => perform_seeded(
-            alloc,
-            seed,
-            MAX_BYTES,
-            job,
-            first,
-            &mut FromRead::new(NoFile::Empty),
-            out,
-            err,
-        ),
-        Some("-") => perform_seeded(
-            alloc,
-            seed,
-            MAX_BYTES,
-            job,
-            first,
-            &mut FromRead::new(rt.reader()),
-            out,
-            err,
-        ),
-        Some(path) => match fs::open(rt, path) {
-            Ok(file) => perform_seeded(
-                alloc,
-                seed,
-                MAX_BYTES,
-                job,
-                first,
-                &mut FromRead::new(file),
-                out,
-                err,
-            ),
-            Err(_) => perform_seeded(
-                alloc,
-                seed,
-                MAX_BYTES,
-                job,
-                first,
-                &mut FromRead::new(NoFile::Missing),
-                out,
-                err,
-            ),
-        },
-    }
+    let (first, second) = paths(job);
+    let mut first = open(rt, first);
+    let mut second = open(rt, second);
+    perform_seeded(
+        rt.alloc(),
+        seed,
+        MAX_BYTES,
+        job,
+        &mut first,
+        &mut second,
+        out,
+        err,
+    )
 }

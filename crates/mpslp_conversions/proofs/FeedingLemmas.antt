@@ -1,5 +1,5 @@
 -- A source whose bytes are fed to a reader, piece by piece.
-use Rattle.std.proofs.Common.{◌≡◌, ℕ, ◌+◌, ◌^◌, ◌<◌, ◌≤◌, List, [], Bool, true, false, subst, refl, length, take, arith, append-nil}
+use Rattle.std.proofs.Common.{◌≡◌, ℕ, ◌+◌, ◌^◌, ◌<◌, ◌≤◌, List, [], Bool, false, subst, refl, length, take, arith, append-nil}
 use Rattle.std.proofs.Common.{le_refl, Option, Result, Ok, Vec}
 use Rattle.std.specs.{declared.alloc.Global.{Global}, Prelude.{is_err, OnOk}, Io.KnownBytes.{Consumes, IsAtEnd}}
 use denote.RawPtr.{null_ptr}
@@ -33,18 +33,15 @@ reading-of = grind arith
 
 -- ---- a source that is read to its end
 
-not_true : (b : Bool) → (b ≡ true → ⊥) → b ≡ false
-not_true = grind arith
-
 all-given : (left left_then left_now : Option (List ℕ)) (bytes : List ℕ) → Consumes left left_then bytes →
     Consumes left_then left_now [] → IsAtEnd left_now → IsAll left bytes
 all-given = grind (arith, append-nil)
 
 pub gave-all : (left left_then left_now : Option (List ℕ)) (failed : Bool) (room limit n : ℕ) (bytes buffer : List ℕ)
-    → Consumes left left_then bytes → length bytes + room ≡ limit → (failed ≡ true → ⊥) → n ≡ 0
+    → Consumes left left_then bytes → length bytes + room ≡ limit → failed ≡ false → n ≡ 0
     → Consumes left_then left_now (take n buffer) → IsAtEnd left_now → SourceGave left left_now failed limit bytes
 gave-all left left_then left_now failed room limit n bytes buffer before counted works none now at_end = record {
-  works = not_true failed works;
+  works = works;
   within = omega arith;
   all = all-given left left_then left_now bytes before
       (subst (λ (i : ℕ). Consumes left_then left_now (take i buffer)) none now) at_end;

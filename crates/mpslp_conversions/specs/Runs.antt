@@ -1,5 +1,5 @@
 -- The results of reading a source to its end, and of writing a model's text to a sink.
-use Rattle.std.specs.Prelude.{◌≡◌, ℕ, ◌+◌, ◌<◌, ◌≤◌, List, Bool, true, false, Option, None, Some, Result, Ok, Err, Vec, IfSome, length}
+use Rattle.std.specs.Prelude.{◌≡◌, ℕ, ◌+◌, ◌<◌, ◌≤◌, List, Bool, true, false, Option, None, Some, Result, Ok, Err, Vec, IfSome, length, take}
 use Rattle.std.specs.Io.KnownBytes.{Consumes, IsAtEnd}
 use Rattle.std.specs.declared.alloc.Global.{Global}
 use Rattle.mpslp_io.specs.Devices.{Grows, TookFirst}
@@ -45,6 +45,18 @@ pub record SourceHeldMore (left : Option (List ℕ)) (failed : Bool) (limit : �
   pub left_is : left ≡ Some bytes
   pub beyond : limit < length bytes
   pub works : failed ≡ false
+
+-- The next piece of a source that may have `room` bytes left, at the start of a buffer, or the error. `failed` is whether the source
+-- has failed in the end.
+abbrev pub IsPiece : Option (List ℕ) → Option (List ℕ) → Bool → ℕ → ℕ → List ℕ → Result ℕ RunFault → Type 0
+IsPiece left left_now failed room room_now buffer (Ok n) =
+    (failed ≡ false) × (n ≤ length buffer) × (n + room_now ≡ room) × Consumes left left_now (take n buffer) × (n ≡ 0 → IsAtEnd left_now)
+IsPiece left left_now failed room room_now buffer (Err Read) = failed ≡ true
+IsPiece left left_now failed room room_now buffer (Err TooLong) = (failed ≡ false) × IsLonger left room
+IsPiece left left_now failed room room_now buffer (Err (File fault)) = ⊥
+IsPiece left left_now failed room room_now buffer (Err (NotLp name_at)) = ⊥
+IsPiece left left_now failed room room_now buffer (Err (Write written)) = ⊥
+IsPiece left left_now failed room room_now buffer (Err OutOfMemory) = ⊥
 
 -- All remaining bytes of a source, or the error. `failed` is whether the source has failed in the end.
 abbrev pub IsLoad : Option (List ℕ) → Option (List ℕ) → Bool → ℕ → Result (Vec ℕ Global) RunFault → Type 0

@@ -5,7 +5,7 @@ ghost use Rattle.mpslp_conversions.specs.Feeding.{IsFedOn, IsModelOf, IsReading,
 ghost use Rattle.mpslp_conversions.specs.Runs.{ReadsWithin, TakesAtMost};
 
 use crate::faults::RunFault;
-use crate::source_to_sink::{PIECE, bytes_to_ask};
+use crate::source_to_sink::{PIECE, read_piece};
 use mpslp_model::{Fault, Format, HashSeed, Model, ModelReader, ReadFault, Source};
 use std::alloc::{AllocError, Global};
 
@@ -66,16 +66,10 @@ pub(crate) fn read_model<A: Format, R: Source>(
     let mut room = max_bytes;
     let mut buffer = [0u8; PIECE];
     'reads: loop {
-        let ask = bytes_to_ask(room);
-        let taken = match source.read(&mut buffer[..ask]) {
-            Ok(0) => return finish_fed(reader, fault),
-            Ok(taken) => taken,
-            Err(_) => return Err(RunFault::Read),
-        };
-        if taken as u64 > room {
-            return Err(RunFault::TooLong);
+        let taken = read_piece(source, &mut room, &mut buffer)?;
+        if taken == 0 {
+            return finish_fed(reader, fault);
         }
-        room -= taken as u64;
         if feed_on(&mut reader, &mut fault, &buffer[..taken]).is_err() {
             return Err(RunFault::OutOfMemory);
         }

@@ -8,7 +8,7 @@ ghost use Rattle.mpslp_types.specs.declared.faults.NameAt.{NameAt};
 ghost use Rattle.mpslp_conversions.specs.Conversions.{IsErrUnless};
 ghost use Rattle.mpslp_conversions.specs.declared.source_to_sink.TheConstants.{PIECE};
 ghost use Rattle.mpslp_conversions.specs.Feeding.{IsReading};
-ghost use Rattle.mpslp_conversions.specs.Runs.{SourceHeld, SourceHeldMore, IsLoad, IsPut, IsRun, TakesAtMost};
+ghost use Rattle.mpslp_conversions.specs.Runs.{SourceHeld, SourceHeldMore, IsPiece, IsLoad, IsPut, IsRun, TakesAtMost};
 
 use crate::counting_sink::Counter;
 use crate::faults::RunFault;
@@ -21,7 +21,7 @@ pub(crate) const PIECE: usize = 65_536;
 
 /// How many bytes a read of a source requests that may have this many left: one more, so that a longer source is noticed, but at
 /// most a piece.
-pub(crate) fn bytes_to_ask(room: u64) -> usize
+fn bytes_to_ask(room: u64) -> usize
     ensures { result ≡ min (room + 1) PIECE }
 {
     if room < PIECE as u64 {
@@ -29,6 +29,34 @@ pub(crate) fn bytes_to_ask(room: u64) -> usize
     } else {
         PIECE
     }
+}
+
+/// Reads the next piece of a source that may have this many bytes left, and takes its length off them. Returns the length, which is
+/// 0 at the end of the source.
+///
+/// # Errors
+///
+/// [`Read`](RunFault::Read) if the source has failed, [`TooLong`](RunFault::TooLong) if it has more bytes.
+pub(crate) fn read_piece<R: Source>(
+    source: &mut R,
+    room: &mut u64,
+    buffer: &mut [u8; PIECE],
+) -> Result<usize, RunFault>
+    ensures answer { IsPiece (R.left source.old) (R.left source.new) (R.failed source.new) room.old room.new buffer.new result }
+    ensures asked { TakesAtMost (room.old + 1) (R.left source.old) (R.left source.new) }
+    ensures calls { R.count source.new ≤ R.count source.old + 1 }
+    ensures stays { R.failed source.old ≡ true → R.failed source.new ≡ true }
+{
+    let ask = bytes_to_ask(*room);
+    let taken = match source.read(&mut buffer[..ask]) {
+        Ok(taken) => taken,
+        Err(_) => return Err(RunFault::Read),
+    };
+    if taken as u64 > *room {
+        return Err(RunFault::TooLong);
+    }
+    *room -= taken as u64;
+    Ok(taken)
 }
 
 /// Returns all bytes of a source.
@@ -56,16 +84,10 @@ pub fn load<R: Source>(alloc: Global, max_bytes: u64, source: &mut R) -> Result<
     let mut room = max_bytes;
     let mut buffer = [0u8; PIECE];
     'reads: loop {
-        let ask = bytes_to_ask(room);
-        let taken = match source.read(&mut buffer[..ask]) {
-            Ok(0) => return Ok(bytes),
-            Ok(taken) => taken,
-            Err(_) => return Err(RunFault::Read),
-        };
-        if taken as u64 > room {
-            return Err(RunFault::TooLong);
+        let taken = read_piece(source, &mut room, &mut buffer)?;
+        if taken == 0 {
+            return Ok(bytes);
         }
-        room -= taken as u64;
         if bytes.extend_from_slice(&buffer[..taken]).is_err() {
             return Err(RunFault::OutOfMemory);
         }

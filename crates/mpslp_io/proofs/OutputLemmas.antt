@@ -1,5 +1,5 @@
 -- How the text that was put to an output grows, piece by piece and line by line.
-use Rattle.std.proofs.Common.{arith, ◌≡◌, refl, ap, subst, ℕ, true, List, [], ◌∷◌, ◌++◌, take, append_assoc, append-nil}
+use Rattle.std.proofs.Common.{arith, ◌≡◌, ◌∙◌, refl, ap, subst, ℕ, true, List, [], ◌∷◌, ◌++◌, take, append_assoc, append-nil}
 use Rattle.std.specs.List.{flat_map}
 use Rattle.mpslp_io.specs.declared.devices.Sink.{Ghosts as SinkOf}
 use Rattle.mpslp_io.specs.{TextBuffer.{text_by, text_under}, Printing.{IsSameOutput, Holds, Puts, PutsWaiting, HasHeader, Prints}}
@@ -20,6 +20,12 @@ module _ {W : Type 0} {k : SinkOf W} where
 
   pub puts_same : {a b : Output W} {piece other : List ℕ} → piece ≡ other → Puts k a b piece → Puts k a b other
   puts_same {a} {b} same h = subst (Puts k a b) same h
+
+  -- a piece between two others, and what follows them
+  pub puts_between : {a b c : Output W} {rest : List ℕ} (front piece back : List ℕ) → Puts k a b (front ++ (piece ++ back))
+      → Puts k b c rest → Puts k a c (front ++ (piece ++ (back ++ rest)))
+  puts_between {rest = rest} front piece back before after = puts_same (append_assoc front (piece ++ back) rest
+      ∙ ap (λ (l : List ℕ). front ++ l) (append_assoc piece back rest)) (puts_then before after)
 
   pub puts_nothing : (o : Output W) → Puts k o o []
   puts_nothing = grind (arith, same_always, put_same, append-nil)

@@ -5,12 +5,13 @@
 //! writers of std, and [`put_all`] writes a whole piece to a sink.
 //!
 //! An [`Output`] is a sink with the [`Buffer`] before it. Functions that print take it, and state which text or which lines they
-//! append to what was put before (`specs/Printing.antt`). [`put_each`] prints entry after entry. Everything is stated for lines of
-//! any kind, so the crate knows no format.
+//! append to what was put before (`specs/Printing.antt`). [`put_number`] prints a number, [`put_each`] entry after entry. Everything
+//! is stated for lines of any kind, so the crate knows no format.
 #![tactic(auto)]
 
 mod devices;
 mod each;
+mod numbers;
 mod output;
 mod put;
 mod streams;
@@ -18,6 +19,7 @@ mod text_buffer;
 
 pub use devices::{IoFailed, Sink, Source};
 pub use each::{CanFail, put_each};
+pub use numbers::{put_number, put_size};
 pub use output::Output;
 pub use put::put_all;
 pub use streams::{FromRead, ToWrite};

@@ -1,6 +1,6 @@
 //! Where a text is printed: a sink, and the buffer before it.
 
-ghost use Rattle.std.specs.Prelude.{◌≡◌, ◌+◌, ◌<◌, ◌≤◌, List, [], ℕ, true, false, not, ◌&&◌, ◌==◌, length, IsOk};
+ghost use Rattle.std.specs.Prelude.{◌≡◌, ◌+◌, ◌<◌, ◌≤◌, List, [], ◌++◌, ℕ, true, false, not, ◌&&◌, ◌==◌, length, IsOk};
 ghost use Rattle.mpslp_io.specs.Devices.{IsTaken};
 ghost use Rattle.mpslp_io.specs.TextBuffer.{empty_buffer};
 ghost use Rattle.mpslp_io.specs.Printing.{IsSameOutput, Holds, Puts, PutsWaiting, HasHeader};
@@ -33,6 +33,14 @@ impl<'a, W: Sink> Output<'a, W> {
         ensures { Puts W.Sink self.old self.new piece.now }
     {
         self.buffer.put(self.sink, piece);
+    }
+
+    /// Appends a piece between two others, which is quickest if these are short.
+    #[inline(always)]
+    pub fn put_between(&mut self, front: &[u8], piece: &[u8], back: &[u8])
+        ensures { Puts W.Sink self.old self.new (front.now ++ (piece.now ++ back.now)) }
+    {
+        self.buffer.put_between(self.sink, front, piece, back);
     }
 
     /// Begins a section. Its header waits for the first line.

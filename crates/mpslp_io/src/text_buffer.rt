@@ -13,6 +13,9 @@ use std::marker::Model;
 /// The most bytes that wait for the sink.
 const CAPACITY: usize = 65536;
 
+/// The most bytes of a short piece.
+const SHORT: usize = 32;
+
 /// What was sent to a sink: how many bytes it accepted, at most 2^64 - 1, and whether it failed. A sink that has failed is
 /// not called again.
 #[derive(Clone, Copy)]
@@ -88,6 +91,31 @@ impl Buffer {
         } else {
             self.put_after_others(sink, piece);
         }
+    }
+
+    /// Appends a piece between two others, with one test for room if these are short.
+    #[inline(always)]
+    pub fn put_between<W: Sink>(&mut self, sink: &mut W, front: &[u8], piece: &[u8], back: &[u8])
+        ensures { Emits W.holds W.failed W.count sink.old sink.new self.old self.new (front.now ++ (piece.now ++ back.now)) }
+    {
+        if front.len() <= SHORT
+            && (back.len() <= SHORT
+                && front.len() + piece.len() + back.len() <= CAPACITY - self.len())
+        {
+            self.append_between(front, piece, back);
+        } else {
+            self.put_in_turn(sink, front, piece, back);
+        }
+    }
+
+    /// Appends three pieces, with a test for room for each.
+    #[inline(never)]
+    fn put_in_turn<W: Sink>(&mut self, sink: &mut W, first: &[u8], second: &[u8], third: &[u8])
+        ensures { Emits W.holds W.failed W.count sink.old sink.new self.old self.new (first.now ++ (second.now ++ third.now)) }
+    {
+        self.put(sink, first);
+        self.put(sink, second);
+        self.put(sink, third);
     }
 
     /// Sends the bytes that wait, and appends a piece. [`put`](Buffer::put) is part of each caller, so what it does once for many
@@ -174,6 +202,17 @@ impl Buffer {
         let end = self.len + piece.len();
         self.bytes[self.len..end].copy_from_slice(piece);
         self.len = end;
+    }
+
+    /// Appends a piece between two others to the waiting bytes.
+    #[inline(always)]
+    fn append_between(&mut self, front: &[u8], piece: &[u8], back: &[u8])
+        requires { length self.old.waiting + (length front.now + (length piece.now + length back.now)) ≤ CAPACITY }
+        ensures { self.new ≡ with_waiting (self.old.waiting ++ (front.now ++ (piece.now ++ back.now))) self.old }
+    {
+        self.append(front);
+        self.append(piece);
+        self.append(back);
     }
 
     /// Sends the waiting bytes to the sink.

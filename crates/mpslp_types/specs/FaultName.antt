@@ -1,5 +1,7 @@
--- The names of the kinds of errors.
+-- The names of the kinds of errors, and of the errors of a builder's calls.
 use Rattle.std.specs.Prelude.{ℕ, List, codes}
+use Rattle.mpslp_types.specs.declared.faults.BuildFault.{BuildFault}
+use Rattle.mpslp_types.specs.declared.faults.BuildFault.TheVariants as builds
 use Rattle.mpslp_types.specs.declared.faults.FaultKind.{FaultKind}
 use Rattle.mpslp_types.specs.declared.faults.FaultKind.TheVariants.{LineTooLong, BadByte, Quadratic, Sos, Indicator, SemiContinuous, UnknownSection, SectionOrder, SectionRepeated, FieldCount, BadToken, BadType, BadMarker, NameLength, NameByte, NameMarker, NameLikeExponent, BadNumber, LongNumber, TooManyDigits, ExponentRange, SecondSet, UnknownRow, UnknownColumn, ColumnSplit, DuplicateRow, DuplicateEntry, DuplicateRhs, DuplicateRange, DuplicateBound, RangeOnFree, ConstantInRow, MixedSenses, InfiniteValue, MissingEnd, NoColumns, InfiniteLimit, RangeInexact, LimitTooLarge, LimitsCrossed, NegativeUpper, BoundsCrossed, BinaryBounds, SemiBounds}
 
@@ -49,3 +51,19 @@ kind_name NegativeUpper = codes "NegativeUpper"
 kind_name BoundsCrossed = codes "BoundsCrossed"
 kind_name BinaryBounds = codes "BinaryBounds"
 kind_name SemiBounds = codes "SemiBounds"
+
+-- the name of an error of a builder's call
+abbrev pub build_fault_name : BuildFault → List ℕ
+build_fault_name builds.DuplicateSense = codes "DuplicateSense"
+build_fault_name builds.SecondObjective = codes "SecondObjective"
+build_fault_name builds.UnknownRow = codes "UnknownRow"
+build_fault_name builds.UnknownColumn = codes "UnknownColumn"
+build_fault_name builds.DuplicateRow = codes "DuplicateRow"
+build_fault_name builds.DuplicateEntry = codes "DuplicateEntry"
+build_fault_name builds.DuplicateRhs = codes "DuplicateRhs"
+build_fault_name builds.DuplicateRange = codes "DuplicateRange"
+build_fault_name builds.DuplicateBound = codes "DuplicateBound"
+build_fault_name builds.RangeOnFree = codes "RangeOnFree"
+build_fault_name builds.SemiContinuous = codes "SemiContinuous"
+build_fault_name builds.InfiniteValue = codes "InfiniteValue"
+build_fault_name builds.OutOfMemory = codes "OutOfMemory"

@@ -1,7 +1,7 @@
 //! The errors of files, of calls of the builder, and of models that are to be written.
 
 ghost use Rattle.std.specs.Prelude.{◌≡◌};
-ghost use Rattle.mpslp_types.specs.FaultName.{kind_name};
+ghost use Rattle.mpslp_types.specs.FaultName.{build_fault_name, kind_name};
 ghost use Rattle.mpslp_types.specs.FaultOrder.{kind_rank};
 
 use crate::names::Name;
@@ -50,6 +50,29 @@ pub enum BuildFault {
     /// Out of memory.
     #[error("out of memory")]
     OutOfMemory,
+}
+
+impl BuildFault {
+    /// The name of the fault.
+    pub fn text(self) -> &'static str
+        ensures { result.now ≡ build_fault_name self }
+    {
+        match self {
+            BuildFault::DuplicateSense => "DuplicateSense",
+            BuildFault::SecondObjective => "SecondObjective",
+            BuildFault::UnknownRow => "UnknownRow",
+            BuildFault::UnknownColumn => "UnknownColumn",
+            BuildFault::DuplicateRow => "DuplicateRow",
+            BuildFault::DuplicateEntry => "DuplicateEntry",
+            BuildFault::DuplicateRhs => "DuplicateRhs",
+            BuildFault::DuplicateRange => "DuplicateRange",
+            BuildFault::DuplicateBound => "DuplicateBound",
+            BuildFault::RangeOnFree => "RangeOnFree",
+            BuildFault::SemiContinuous => "SemiContinuous",
+            BuildFault::InfiniteValue => "InfiniteValue",
+            BuildFault::OutOfMemory => "OutOfMemory",
+        }
+    }
 }
 
 impl From<AllocError> for BuildFault {

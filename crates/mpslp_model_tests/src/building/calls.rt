@@ -174,23 +174,9 @@ pub(super) fn built(alloc: Global, calls: &str) -> Result<Builder, BuildFault> {
 
 /// The name of the error of a call, or none.
 fn fault_of(answer: &Result<(), BuildFault>) -> &'static str {
-    let Err(fault) = answer else {
-        return "";
-    };
-    match fault {
-        BuildFault::DuplicateSense => "DuplicateSense",
-        BuildFault::SecondObjective => "SecondObjective",
-        BuildFault::UnknownRow => "UnknownRow",
-        BuildFault::UnknownColumn => "UnknownColumn",
-        BuildFault::DuplicateRow => "DuplicateRow",
-        BuildFault::DuplicateEntry => "DuplicateEntry",
-        BuildFault::DuplicateRhs => "DuplicateRhs",
-        BuildFault::DuplicateRange => "DuplicateRange",
-        BuildFault::DuplicateBound => "DuplicateBound",
-        BuildFault::RangeOnFree => "RangeOnFree",
-        BuildFault::SemiContinuous => "SemiContinuous",
-        BuildFault::InfiniteValue => "InfiniteValue",
-        BuildFault::OutOfMemory => "OutOfMemory",
+    match answer {
+        Ok(()) => "",
+        Err(fault) => fault.text(),
     }
 }
 

@@ -236,23 +236,10 @@ impl<'a> BuilderCall<'a> {
 
 /// The result of a call, in words.
 fn text_of(answer: &Result<(), BuildFault>) -> &'static str {
-    let Err(fault) = answer else {
-        return "Ok";
-    };
-    match fault {
-        BuildFault::DuplicateSense => "DuplicateSense",
-        BuildFault::SecondObjective => "SecondObjective",
-        BuildFault::UnknownRow => "UnknownRow",
-        BuildFault::UnknownColumn => "UnknownColumn",
-        BuildFault::DuplicateRow => "DuplicateRow",
-        BuildFault::DuplicateEntry => "DuplicateEntry",
-        BuildFault::DuplicateRhs => "DuplicateRhs",
-        BuildFault::DuplicateRange => "DuplicateRange",
-        BuildFault::DuplicateBound => "DuplicateBound",
-        BuildFault::RangeOnFree => "RangeOnFree",
-        BuildFault::SemiContinuous => "SemiContinuous",
-        BuildFault::InfiniteValue => "InfiniteValue",
-        BuildFault::OutOfMemory => "out of memory",
+    match answer {
+        Ok(()) => "Ok",
+        Err(BuildFault::OutOfMemory) => "out of memory",
+        Err(fault) => fault.text(),
     }
 }
 
