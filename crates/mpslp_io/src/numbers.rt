@@ -5,9 +5,9 @@ ghost use Rattle.mpslp_decimal.specs.Decimal.{size_of};
 ghost use Rattle.mpslp_decimal.specs.NumberText.{number_text};
 ghost use Rattle.mpslp_io.specs.Printing.{Puts};
 
+use crate::devices::Sink;
 use crate::output::Output;
 use mpslp_decimal::{Decimal, DecimalText};
-use mpslp_model::Sink;
 
 /// The whole numbers of at most two digits, each in two digits at twice its value.
 const PAIRS: &[u8] =

@@ -7,7 +7,7 @@ use Prelude.{operator_kind, kind_of, Front, longest_within, longest_token, token
 use Prelude.{front-kind, TokenKind, map, Err, if◌then◌else◌, BadByte}
 use Prelude.{has_legal_length, LineError, Fault, Terminal, terminal_of, as_terminal, terminals, Other, AfterToken}
 use Prelude.{Goes, Refuses, begin}
-use Prelude.{take as take_illegal, TakesToken}
+use Prelude.{step as take_illegal, TakesToken}
 use Prelude.{Context, Place, State, take_all, take_tokens, take_line, rules}
 use Rattle.std.proofs.{Common.take, lemmas.Bool.Decides.nat_tests}
 use Rattle.mpslp_decimal.{proofs.GrammarLemmas.before-here, specs.Literal.{is_digit, is_point, is_sign, is_exponent_mark}}

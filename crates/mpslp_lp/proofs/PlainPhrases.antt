@@ -1,14 +1,14 @@
 -- Lines whose phrases are plain: the code that takes them declares what the grammar does.
 use Rattle.mpslp_lp.proofs.Prelude
 use Prelude.{◌≡◌, refl, sym, ap, ◌∙◌, List, [], ◌∷◌, map, Option, Some, None, Err, cons_option, least_kind, FaultKind, LineError}
-use Prelude.{OutOfMemory, Token, as_terminal, token_fault, Context, State, AfterToken, Goes, Refuses, take, take_all, token_faults}
+use Prelude.{OutOfMemory, Token, as_terminal, token_fault, Context, State, AfterToken, Goes, Refuses, step, take_all, token_faults}
 use Prelude.{take_tokens, TakesToken, error_before, lower_ranked_of, IsLeastError, subst, ℕ, inl, inr, Result, Ok, codes, none-some}
 use Prelude.{value_of, number_fault, Decimal, SignOf, one, apply_sign, PartialRow, Terminal, Sign, Number, Name, AddsTerm, Begins}
-use Prelude.{BeginsWithNumber, IsPlainTerm, LeadsTo, take_term, InRow, InObjective, OfRow, OfObjective, Between, Signs, ItemNumber}
+use Prelude.{BeginsWithNumber, IsPlainTerm, LeadsTo, end_term, InRow, InObjective, OfRow, OfObjective, Between, Signs, ItemNumber}
 use Prelude.{RowLabel, RowSign, RowNumber, without_terms, ◌≤◌, arith, length, true, false, Limit, declare_column, Plus, Relation}
 use Prelude.{BetweenRows, InBounds, SideOfRow, SideOfBound, BoundName, BoundSign, BoundLeft, BoundLeftRelation, AtSide, SideSign, Compares}
-use Prelude.{Free, Colon, limit_of_terminal, terminal_fault, limits_by, flip, fits_second, fits_left, no_limits, take_side_value, take_side}
-use Prelude.{take_bound, listed_at, kind_declared, name_taken, BeginsWithSide, BeginsWithRight, TakesSome, MatchResult, BeginsWithColumn}
+use Prelude.{Free, Colon, limit_of_terminal, terminal_fault, limits_by, flip, fits_second, fits_left, no_limits, step_at_side_value, end_side}
+use Prelude.{end_bound, listed_at, kind_declared, name_taken, BeginsWithSide, BeginsWithRight, TakesSome, MatchResult, BeginsWithColumn}
 use Prelude.{BeginsWithTerm, row_of_term, rules}
 use Rattle.mpslp_decimal.specs.Decimal.{trailing_zeros}
 use Rattle.mpslp_lines.proofs.LeastLemmas.{least-append}
@@ -37,7 +37,7 @@ tokens-own = grind arith
 
 -- a token without a lexical error that causes another error
 pub tokens-refused : (context after : Context) (state : State) (token : Token) (more : List Token) (error : LineError)
-    → token_fault token.kind token.text ≡ None → TakesToken (take context state (as_terminal token)) (Err error) after
+    → token_fault token.kind token.text ≡ None → TakesToken (step context state (as_terminal token)) (Err error) after
     → TakesToken (take_tokens context state (token ∷ more)) (Err (error_before (token_faults more) error)) after
 tokens-refused = grind arith
 
@@ -45,7 +45,7 @@ tokens-refused = grind arith
 
 -- a terminal that is accepted
 pub step : (context after : Context) (state next : State) (found more : List Token) (terminal : Terminal) →
-    Begins found terminal more → take context state terminal ≡ Goes after next →
+    Begins found terminal more → step context state terminal ≡ Goes after next →
     take_tokens context state found ≡ take_tokens after next more
 step = grind arith
 
@@ -66,7 +66,7 @@ record BeforeName (context : Context) (start : State) (found following : List To
     (result : AfterToken) : Type 0 where
   state : State
   comes : take_tokens context start found ≡ take_tokens context state following
-  takes : take context state (Name column) ≡ result
+  takes : step context state (Name column) ≡ result
 
 module _ (context : Context) (start : State) (taken : Decimal → AfterToken) (found more : List Token) (sign : SignOf)
     (literal column : List ℕ) (p : IsPlainTerm found sign literal column more)
@@ -121,7 +121,7 @@ module _ (context : Context) (start : State) (taken : Decimal → AfterToken) (f
 -- ---- from where terms are taken
 
 pub in-row : (context : Context) (row : PartialRow) (sign : SignOf) (column : List ℕ)
-    → LeadsTo context (Between (InRow row)) sign column (λ value. take_term context (OfRow row) column value (Name column))
+    → LeadsTo context (Between (InRow row)) sign column (λ value. end_term context (OfRow row) column value (Name column))
 in-row context row sign column = record {
   signs = Signs (OfRow row) sign;
   numbered = λ value. ItemNumber (OfRow row) sign value;
@@ -132,7 +132,7 @@ in-row context row sign column = record {
 }
 
 pub after-label : (context : Context) (name : List ℕ) (sign : SignOf) (column : List ℕ)
-    → LeadsTo context (RowLabel name) sign column (λ value. take_term context (OfRow (without_terms name None)) column
+    → LeadsTo context (RowLabel name) sign column (λ value. end_term context (OfRow (without_terms name None)) column
     value (Name column))
 after-label context name sign column = record {
   signs = RowSign name sign;
@@ -144,7 +144,7 @@ after-label context name sign column = record {
 }
 
 pub in-objective : (context : Context) (objective : List ℕ) (sign : SignOf) (column : List ℕ) → LeadsTo context
-    (Between (InObjective objective)) sign column (λ value. take_term context (OfObjective objective) column value (Name column))
+    (Between (InObjective objective)) sign column (λ value. end_term context (OfObjective objective) column value (Name column))
 in-objective context objective sign column = record {
   signs = Signs (OfObjective objective) sign;
   numbered = λ value. ItemNumber (OfObjective objective) sign value;
@@ -159,12 +159,12 @@ in-objective context objective sign column = record {
 -- a column that is new in the row, and one that has a term in the row
 pub row-taken : (context : Context) (row longer : PartialRow) (column : List ℕ) (value : Decimal) →
     AddsTerm row column value (Ok longer) →
-    take_term context (OfRow row) column value (Name column) ≡ Goes context (Between (InRow longer))
+    end_term context (OfRow row) column value (Name column) ≡ Goes context (Between (InRow longer))
 row-taken = grind arith
 
 pub row-refused : (context : Context) (row : PartialRow) (column : List ℕ) (value : Decimal) (error : LineError)
     → AddsTerm row column value (Err error) →
-    TakesToken (take_term context (OfRow row) column value (Name column)) (Err error) context
+    TakesToken (end_term context (OfRow row) column value (Name column)) (Err error) context
 row-refused = grind arith
 
 -- ---- taking a phrase as a whole is the same as taking its tokens one after another
@@ -183,7 +183,7 @@ pub record BeforeLast (context : Context) (start : State) (found more : List Tok
   pub comes : take_tokens context start found ≡ take_tokens context state rest
   pub fewer : length rest ≤ length found
   pub unopened : terminal_fault context terminal ≡ None
-  pub takes : take context state terminal ≡ taken terminal
+  pub takes : step context state terminal ≡ taken terminal
 
 module _ (context : Context) (start : State) (found more : List Token) (taken : Terminal →
     AfterToken) (last : BeforeLast context start found more taken) where
@@ -207,7 +207,7 @@ some-after = grind arith
 
 -- one token before others
 pub some-after-one : (context after : Context) (start middle next : State) (found rest : List Token) (terminal : Terminal)
-    (result : Result (List Token) LineError) → Begins found terminal rest → take context start terminal ≡ Goes context middle
+    (result : Result (List Token) LineError) → Begins found terminal rest → step context start terminal ≡ Goes context middle
     → TakesSome context middle rest result after next → TakesSome context start found result after next
 some-after-one = search (rules, some-after, step, begins-fewer)
 
@@ -216,7 +216,7 @@ some-after-one = search (rules, some-after, step, begins-fewer)
 -- what a number or an infinity does where a limit is taken
 record LimitOf (context : Context) (sign : SignOf) (terminal : Terminal) (limit : Limit) : Type 0 where
   unopened : terminal_fault context terminal ≡ None
-  takes : (goes : Limit → AfterToken) → take_side_value goes context sign terminal ≡ goes limit
+  takes : (goes : Limit → AfterToken) → step_at_side_value goes context sign terminal ≡ goes limit
 
 limit-of : (context : Context) (sign : SignOf) (terminal : Terminal) (limit : Limit)
     → limit_of_terminal sign terminal ≡ Some limit → LimitOf context sign terminal limit
@@ -225,11 +225,11 @@ limit-of = grind arith
 -- a state in which a limit begins, and what is taken for the limit
 record TakesLimit (context : Context) (start : State) (taken : Limit → Terminal → AfterToken) : Type 0 where
   signed : SignOf → State
-  to_signed : (sign : SignOf) → take context start (Sign sign) ≡ Goes context (signed sign)
+  to_signed : (sign : SignOf) → step context start (Sign sign) ≡ Goes context (signed sign)
   after_sign : (sign : SignOf) (terminal : Terminal) →
-      take context (signed sign) terminal ≡ take_side_value (λ limit. taken limit terminal) context sign terminal
+      step context (signed sign) terminal ≡ step_at_side_value (λ limit. taken limit terminal) context sign terminal
   unsigned : (terminal : Terminal) (limit : Limit) → limit_of_terminal Plus terminal ≡ Some limit →
-      take context start terminal ≡ taken limit terminal
+      step context start terminal ≡ taken limit terminal
 
 side-last : (context : Context) (start : State) (taken : Limit → Terminal → AfterToken) (found more : List Token) (limit : Limit)
     → TakesLimit context start taken → BeginsWithSide found limit more → BeforeLast context start found more (taken limit)
@@ -258,13 +258,13 @@ side-last context start taken found more limit way side =
       }
     ]
 
-at-side : (context : Context) (sided : SideOwner) → TakesLimit context (AtSide sided) (take_side context sided)
+at-side : (context : Context) (sided : SideOwner) → TakesLimit context (AtSide sided) (end_side context sided)
 at-side context sided =
     record { signed = SideSign sided; to_signed = λ sign. refl; after_sign = λ sign terminal. refl; unsigned = unsigned_side }
   where
     unsigned_side : (terminal : Terminal) (limit : Limit)
         → limit_of_terminal Plus terminal ≡ Some limit →
-        take context (AtSide sided) terminal ≡ take_side context sided limit terminal
+        step context (AtSide sided) terminal ≡ end_side context sided limit terminal
     unsigned_side = grind arith
 
 in-bounds : (context : Context) (before : Option (List ℕ × Relation))
@@ -274,13 +274,13 @@ in-bounds context before =
   where
     unsigned_left : (terminal : Terminal) (limit : Limit)
         → limit_of_terminal Plus terminal ≡ Some limit →
-        take context (Between (InBounds before)) terminal ≡ Goes context (BoundLeft limit)
+        step context (Between (InBounds before)) terminal ≡ Goes context (BoundLeft limit)
     unsigned_left = grind arith
 
 -- a relation and the side after it
 pub right-last : (context : Context) (start : State) (sided : SideOwner) (found more : List Token) (relation : Relation)
-    (limit : Limit) → take context start (Compares relation) ≡ Goes context (AtSide sided)
-    → BeginsWithRight found relation limit more → BeforeLast context start found more (take_side context sided limit)
+    (limit : Limit) → step context start (Compares relation) ≡ Goes context (AtSide sided)
+    → BeginsWithRight found relation limit more → BeforeLast context start found more (end_side context sided limit)
 right-last context start sided found more relation limit goes right = let side = side-last _ _ _ _ _ _ (at-side _ _) right.side in
     let shorter = begins-fewer _ _ _ right.compares in record {
       state = side.state;
@@ -295,11 +295,11 @@ right-last context start sided found more relation limit goes right = let side =
 
 -- the relation before the right-hand side of a row, and before the second side of a bound
 pub row-compared : (context : Context) (row : PartialRow) (relation : Relation) → fits_left row.left relation ≡ true
-    → take context (Between (InRow row)) (Compares relation) ≡ Goes context (AtSide (SideOfRow row relation))
+    → step context (Between (InRow row)) (Compares relation) ≡ Goes context (AtSide (SideOfRow row relation))
 row-compared = grind arith
 
 pub bound-compared : (context : Context) (column : List ℕ) (first second : Relation) → fits_second first second ≡ true
-    → take context (Between (InBounds (Some (column, first)))) (Compares second) ≡ Goes context
+    → step context (Between (InBounds (Some (column, first)))) (Compares second) ≡ Goes context
     (AtSide (SideOfBound false column second))
 bound-compared = grind arith
 
@@ -311,7 +311,7 @@ pub left-last : (context : Context) (before : Option (List ℕ × Relation))
     → BeginsWithSide found limit after_limit → Begins after_limit (Compares relation) after_relation
     → Begins after_relation (Name column) more →
     BeforeLast context (Between (InBounds before)) found more
-    (λ terminal. take_bound context (declare_column column ∷ []) column (limits_by (flip relation) limit)
+    (λ terminal. end_bound context (declare_column column ∷ []) column (limits_by (flip relation) limit)
     terminal (InBounds (Some (column, relation))))
 left-last context before found after_limit after_relation more limit relation column side compares name =
     let start = Between (InBounds before) in
@@ -334,7 +334,7 @@ left-last context before found after_limit after_relation more limit relation co
 pub free-last : (context : Context) (before : Option (List ℕ × Relation)) (found after_name more : List Token) (column : List ℕ)
     → Begins found (Name column) after_name → Begins after_name Free more →
     BeforeLast context (Between (InBounds before)) found more
-    (λ terminal. take_bound context (declare_column column ∷ []) column no_limits Free (InBounds None))
+    (λ terminal. end_bound context (declare_column column ∷ []) column no_limits Free (InBounds None))
 free-last _ _ _ after_name _ _ name free = record {
   state = BoundName _;
   rest = after_name;
@@ -363,7 +363,7 @@ name-last context section found more column name = record {
   takes = by _;
 }
   where
-    by : (s : ListSection) → take context (Between (listed_at s)) (Name column) ≡ name_taken (listed_at s)
+    by : (s : ListSection) → step context (Between (listed_at s)) (Name column) ≡ name_taken (listed_at s)
         (kind_declared s) context (Name column)
     by = grind arith
 
@@ -388,7 +388,7 @@ after_first token more first = elim (least_kind (token_faults (token ∷ more)))
 ]
 
 pub same-first : (context : Context) (one other : State) (found more : List Token) (terminal : Terminal) →
-    Begins found terminal more → take context one terminal ≡ take context other terminal →
+    Begins found terminal more → step context one terminal ≡ step context other terminal →
     take_tokens context one found ≡ take_tokens context other found
 same-first = grind arith
 
@@ -402,8 +402,8 @@ same-start = grind arith
 -- after the sign, or where there is none
 from-sign : (context : Context) (name : List ℕ) (sign : SignOf) (start : State) (found more : List Token)
     (size : Decimal) (column : List ℕ) → BeginsWithColumn found size column more →
-    ((value : Decimal) → take context start (Number value) ≡ Goes context (RowNumber name sign value)) →
-    take context start (Name column) ≡ take_term context (OfRow (without_terms name None)) column
+    ((value : Decimal) → step context start (Number value) ≡ Goes context (RowNumber name sign value)) →
+    step context start (Name column) ≡ end_term context (OfRow (without_terms name None)) column
     (apply_sign sign one) (Name column) →
     take_tokens context start found ≡ take_tokens context
     (Between (InRow (row_of_term name column (apply_sign sign size)))) more

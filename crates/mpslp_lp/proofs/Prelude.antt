@@ -23,8 +23,8 @@ pub use Rattle.mpslp_lp.specs.LpText.{declarations_of, DeclaresLp, is_lp_text}
 pub use Rattle.mpslp_lp.specs.PlainPhrase.{BeginsWithSide, BeginsWithRight, TakesSome, BeginsWithLimit}
 pub use Rattle.mpslp_lp.specs.PlainStart.{BeginsWithColumn, BeginsWithTerm, row_of_term}
 pub use Rattle.mpslp_lp.specs.{PlainTerm.{Begins, BeginsWithNumber, IsPlainTerm, LeadsTo}, ReadAnswer.{ReadsLp}}
-pub use Rattle.mpslp_lp_grammar.specs.AfterToken.{AfterToken, with_made, take_after_declarations, Goes, Refuses, refuse, take_side_value}
-pub use Rattle.mpslp_lp_grammar.specs.AfterToken.{take_side, take_bound, take_term}
+pub use Rattle.mpslp_lp_grammar.specs.AfterToken.{AfterToken, with_made, step_after_declarations, Goes, Refuses, refuse, step_at_side_value}
+pub use Rattle.mpslp_lp_grammar.specs.AfterToken.{end_side, end_bound, end_term}
 pub use Rattle.mpslp_lp_grammar.specs.Declares.{TakesToken, error_before, lower_ranked_of, IsLeastError, AddsTerm}
 pub use Rattle.mpslp_lp_grammar.specs.FirstToken.{begin, listed_at, kind_declared, name_taken}
 pub use Rattle.mpslp_lp_grammar.specs.Grammar.{text_says, text_declares, bound_sides, no_limits, bound_right, bound_after, bound_column}
@@ -47,7 +47,7 @@ pub use Rattle.mpslp_lp_grammar.specs.Terminal.{word_terminal, word_fault}
 pub use Rattle.mpslp_lp_grammar.specs.Terminal.Terminal.{Other, Opens, Name, Number, Sign, Compares, Colon, Infinity, Free}
 pub use Rattle.mpslp_lp_grammar.specs.TerminalToken.{as_terminal, terminals, limit_of_terminal, terminal_with_text, terminal_of_token}
 pub use Rattle.mpslp_lp_grammar.specs.TerminalToken.{HasLegalNameKind}
-pub use Rattle.mpslp_lp_grammar.specs.TokenStep.{begin_phrase_after, take_after_lone_number, take, is_at_end, says_after, at_end}
+pub use Rattle.mpslp_lp_grammar.specs.TokenStep.{begin_phrase_after, step_after_lone_number, step, is_at_end, says_after, at_end}
 pub use Rattle.mpslp_lp_grammar.specs.declared.context.Context.{Context}
 pub use Rattle.mpslp_lp_tokens.specs.declared.relations.Relation.{Relation}
 pub use Rattle.mpslp_lp_grammar.specs.{declared.signs.Sign.{Sign as SignOf}, declared.signs.Sign.TheVariants.{Plus, Minus}}

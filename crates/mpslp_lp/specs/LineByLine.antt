@@ -13,12 +13,12 @@ use Rattle.mpslp_lp_grammar.specs.declared.context.Context.{Context}
 use Rattle.mpslp_lines.specs.FaultTests.{fault_on_line}
 use Rattle.mpslp_lp_grammar.specs.declared.states.State.{State}
 use Rattle.mpslp_lp_grammar.specs.AfterToken.{AfterToken, Goes, Refuses}
-use Rattle.mpslp_lp_grammar.specs.TokenStep.{take, at_end, is_at_end}
+use Rattle.mpslp_lp_grammar.specs.TokenStep.{step, at_end, is_at_end}
 
 -- tokens one after another, up to one that causes an error
 abbrev pub take_all : Context → State → List Terminal → AfterToken
 take_all context state [] = Goes context state
-take_all context state (terminal ∷ terminals) = elim (take context state terminal) [
+take_all context state (terminal ∷ terminals) = elim (step context state terminal) [
   | Goes after next ↦ take_all after next terminals
   | Refuses kind ↦ Refuses kind
 ]

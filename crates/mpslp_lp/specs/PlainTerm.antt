@@ -13,7 +13,7 @@ use Rattle.mpslp_lp_grammar.specs.Declares.{TakesToken}
 use Rattle.mpslp_decimal.specs.Decimal.{Number as Decimal}
 use Rattle.mpslp_lp_grammar.specs.Items.{one, apply_sign}
 use Rattle.mpslp_lp_grammar.specs.AfterToken.{AfterToken, Goes}
-use Rattle.mpslp_lp_grammar.specs.TokenStep.{take}
+use Rattle.mpslp_lp_grammar.specs.TokenStep.{step}
 use Rattle.mpslp_lp_grammar.specs.declared.context.Context.{Context}
 use Rattle.mpslp_lp_grammar.specs.declared.states.Place.TheVariants.{InRow}
 use Rattle.mpslp_lp_grammar.specs.declared.states.State.TheVariants.{Between}
@@ -51,10 +51,10 @@ pub record IsPlainTerm (found : List Token) (first : SignOf) (literal column : L
 pub record LeadsTo (context : Context) (start : State) (first : SignOf) (column : List ℕ) (taken : Decimal → AfterToken) : Type 0 where
   pub signs : State
   pub numbered : Decimal → State
-  pub to_signs : take context start (Terminal.Sign first) ≡ Goes context signs
-  pub to_number : (value : Decimal) → take context signs (Terminal.Number value) ≡ Goes context (numbered value)
-  pub to_name : (value : Decimal) → take context (numbered value) (Terminal.Name column) ≡ taken (apply_sign first value)
-  pub unnumbered : take context signs (Terminal.Name column) ≡ taken (apply_sign first one)
+  pub to_signs : step context start (Terminal.Sign first) ≡ Goes context signs
+  pub to_number : (value : Decimal) → step context signs (Terminal.Number value) ≡ Goes context (numbered value)
+  pub to_name : (value : Decimal) → step context (numbered value) (Terminal.Name column) ≡ taken (apply_sign first value)
+  pub unnumbered : step context signs (Terminal.Name column) ≡ taken (apply_sign first one)
 
 -- Taking some tokens of a row at once has the same effect as taking them one after another.
 abbrev pub TakesInRow : Context → PartialRow → List Token → Result PartialRow LineError → List Token → Type 0

@@ -5,7 +5,7 @@ ghost use Rattle.mpslp_types.specs.Name.{IsMpsName};
 ghost use Rattle.mpslp_lp_grammar.specs.Items.{fits_second};
 ghost use Rattle.mpslp_lp_grammar.specs.Terminal.{Terminal};
 ghost use Rattle.mpslp_lp_grammar.specs.AfterToken.{Goes};
-ghost use Rattle.mpslp_lp_grammar.specs.TokenStep.{take};
+ghost use Rattle.mpslp_lp_grammar.specs.TokenStep.{step};
 ghost use Rattle.mpslp_lp_tokens.specs.declared.relations.Relation.{Relation};
 ghost use Rattle.mpslp_lp_grammar.specs.declared.states.Place.{Place};
 ghost use Rattle.mpslp_lp_grammar.specs.declared.states.SideOwner.{SideOwner};
@@ -37,7 +37,7 @@ fn take_right_side<'a>(
     left: Tokens<'a>,
 ) -> Result<Tokens<'a>, LineError>
     requires { IsMpsName column.now }
-    ensures { (start : State) (found : List Token) → take context.old start (Terminal.Compares right.now.relation)
+    ensures { (start : State) (found : List Token) → step context.old start (Terminal.Compares right.now.relation)
         ≡ Goes context.old (State.AtSide (SideOwner.SideOfBound is_new column.now right.now.relation))
         → BeginsWithRight found right.now.relation right.now.limit left.entry → TakesSome context.old start found result context.new state.new }
 {

@@ -7,7 +7,7 @@ ghost use Rattle.mpslp_lp_grammar.specs.Items.{one};
 ghost use Rattle.mpslp_lp_grammar.specs.Rows.{default_row};
 ghost use Rattle.mpslp_lp_grammar.specs.Terminal.{Terminal};
 ghost use Rattle.mpslp_lp_grammar.specs.TerminalToken.{HasLegalName, terminal_of_token};
-ghost use Rattle.mpslp_lp_grammar.specs.TokenStep.{take};
+ghost use Rattle.mpslp_lp_grammar.specs.TokenStep.{step};
 ghost use Rattle.mpslp_lp_grammar.specs.declared.states.Place.{Place};
 ghost use Rattle.mpslp_lp_grammar.specs.declared.states.State.{State};
 ghost use Rattle.mpslp_lp_tokens.specs.Token.{Token};
@@ -198,8 +198,8 @@ fn take_unlabelled_term<'a>(
     left: Tokens<'a>,
 ) -> Result<Tokens<'a>, LineError>
     requires { HasLegalName first.now }
-    ensures { take context.old (State.Between Place.BetweenRows) (terminal_of_token first.now)
-        ≡ take context.old (State.RowLabel (default_row context.old)) (terminal_of_token first.now)
+    ensures { step context.old (State.Between Place.BetweenRows) (terminal_of_token first.now)
+        ≡ step context.old (State.RowLabel (default_row context.old)) (terminal_of_token first.now)
         → Begins tokens.entry (terminal_of_token first.now) left.entry → state.old ≡ State.Between Place.BetweenRows → TakesSome context.old state.old tokens.entry result context.new state.new }
 {
     let mut left = left;
@@ -219,7 +219,7 @@ fn take_column<'a>(
 ) -> Result<Tokens<'a>, LineError>
     requires { IsMpsName column.now }
     ensures { (terminal : Terminal) (more : List Token) → Begins left.entry terminal more
-        → take context.old (State.RowName column.now) terminal ≡ take context.old (State.Between (Place.InRow (row_of_term (default_row context.old) column.now one))) terminal
+        → step context.old (State.RowName column.now) terminal ≡ step context.old (State.Between (Place.InRow (row_of_term (default_row context.old) column.now one))) terminal
         → TakesSome context.old (State.RowName column.now) left.entry result context.new state.new }
 {
     let row = row_of_column(context, column)?;

@@ -14,7 +14,7 @@ use crate::plain_phrases::{take_other_phrases, take_phrases};
 use crate::plain_terms::{set_state, take_more_terms};
 use bstr::ByteSlice;
 use mpslp_lines::{LineError, are_legal_bytes, has_legal_length, lower_ranked_kind};
-use mpslp_lp_grammar::{Context, State, TerminalToken, classify, take};
+use mpslp_lp_grammar::{Context, State, TerminalToken, classify, step};
 use mpslp_lp_tokens::{Token, Tokens, tokens_of};
 use mpslp_model::FaultKind;
 use std::mem::replace;
@@ -86,7 +86,7 @@ fn take_token<'a>(
         kind,
         text: raw_token.text,
     };
-    match take(context, replace(state, State::AfterEnd), &token) {
+    match step(context, replace(state, State::AfterEnd), &token) {
         Ok(next) => set_state(state, next),
         Err(error) => return Err(error_before(error, left)),
     }

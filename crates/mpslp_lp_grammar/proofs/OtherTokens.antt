@@ -2,7 +2,7 @@
 use Rattle.std.proofs.Common.{arith}
 use Rattle.mpslp_lp_grammar.proofs.Prelude
 use Prelude.{◌≡◌, ℕ, List, Sense, terminal_with_text, objective_declared, first_item_declared, default_objective, Context, SectionWord}
-use Prelude.{Place, BeforeItems, InObjective, AtObjective, ObjectiveName, begin_phrase, begin, begin_phrase_after, take}
+use Prelude.{Place, BeforeItems, InObjective, AtObjective, ObjectiveName, begin_phrase, begin, begin_phrase_after, step}
 use Rattle.mpslp_lp_grammar.specs.declared.terminals.TerminalKind.{TerminalKind, TheVariants.{Opens, Name, Colon}}
 
 -- ---- the first token of a phrase
@@ -15,12 +15,12 @@ begun-other = grind arith
 -- ---- later ones
 
 pub objective-other : (context : Context) (goal : Sense) (kind : TerminalKind) (text : List ℕ) → (kind ≡ Name → ⊥)
-    → take context (AtObjective goal) (terminal_with_text kind text)
+    → step context (AtObjective goal) (terminal_with_text kind text)
     ≡ begin_phrase_after context (objective_declared goal default_objective) (BeforeItems default_objective)
     (terminal_with_text kind text)
 objective-other = grind arith
 
 pub objective_name-other : (context : Context) (goal : Sense) (name : List ℕ) (kind : TerminalKind) (text : List ℕ) →
-    (kind ≡ Colon → ⊥) → take context (ObjectiveName goal name) (terminal_with_text kind text)
+    (kind ≡ Colon → ⊥) → step context (ObjectiveName goal name) (terminal_with_text kind text)
     ≡ begin_phrase_after context (first_item_declared goal name) (InObjective default_objective) (terminal_with_text kind text)
 objective_name-other = grind arith

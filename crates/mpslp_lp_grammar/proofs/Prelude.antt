@@ -8,9 +8,9 @@ pub use Rattle.mpslp_builder.specs.Refusal.{refusals, refusals_in_turn, bounds_r
 pub use Rattle.mpslp_decimal.specs.{Decimal.{Number, Number as Decimal}, Literal.{number_of, is_digit}}
 pub use Rattle.mpslp_lines.specs.FaultTests.{kind_of_build_fault, first_held, number_fault, number_tests, kind_of_number_fault, is_kind}
 pub use Rattle.mpslp_lines.specs.{LineAnswer.{LineResult}, declared.errors.LineError.TheVariants.{Fault, OutOfMemory}}
-pub use Rattle.mpslp_lp_grammar.specs.AfterToken.{take_after_signs, take_side, take_side_value, AfterToken, Goes, Refuses, refuse}
-pub use Rattle.mpslp_lp_grammar.specs.AfterToken.{declare_unless_refused, take_after_declarations, take_term, begin_item, with_made}
-pub use Rattle.mpslp_lp_grammar.specs.AfterToken.{take_bound}
+pub use Rattle.mpslp_lp_grammar.specs.AfterToken.{step_after_signs, end_side, step_at_side_value, AfterToken, Goes, Refuses, refuse}
+pub use Rattle.mpslp_lp_grammar.specs.AfterToken.{declare_unless_refused, step_after_declarations, end_term, begin_item, with_made}
+pub use Rattle.mpslp_lp_grammar.specs.AfterToken.{end_bound}
 pub use Rattle.mpslp_lp_grammar.specs.Declares.{DeclaresUnless, Declares, TokenResult, TakesToken, answer_at, DeclaresBounds}
 pub use Rattle.mpslp_lp_grammar.specs.FirstToken.{begin_phrase, begin, open_section, begin_row, begin_bound, name_taken, after_section_word}
 pub use Rattle.mpslp_lp_grammar.specs.FirstToken.{listed_at, kind_declared}
@@ -26,7 +26,7 @@ pub use Rattle.mpslp_lp_grammar.specs.Rules.{Parsed, Rule, after_taking, and_the
 pub use Rattle.mpslp_lp_grammar.specs.{Rules.AfterPhrase.{Ends}, Rules.Parsed.{Reads, Unfinished}, Terminal.{Terminal, TerminalAt}}
 pub use Rattle.mpslp_lp_grammar.specs.TerminalToken.{terminal_with_text, terminal_of_token}
 pub use Rattle.mpslp_lp_grammar.specs.TokenByToken.{item_read, new_column, side_read, signed_side_read, says}
-pub use Rattle.mpslp_lp_grammar.specs.TokenStep.{begin_phrase_after, refuse_constant, take_after_lone_number, take, at_end, says_after}
+pub use Rattle.mpslp_lp_grammar.specs.TokenStep.{begin_phrase_after, refuse_constant, step_after_lone_number, step, at_end, says_after}
 pub use Rattle.mpslp_lp_grammar.specs.{WithinPhrase.{follow, resume}, declared.context.Context.{Context}}
 pub use Rattle.mpslp_lp_tokens.specs.declared.relations.Relation.{Relation}
 pub use Rattle.mpslp_lp_grammar.specs.declared.signs.Sign.{Sign as SignOf}

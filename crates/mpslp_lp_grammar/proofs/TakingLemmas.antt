@@ -5,8 +5,8 @@ use Prelude.{◌≡◌, refl, sym, ap, ◌∙◌, ℕ, List, [], ◌∷◌, Bool
 use Prelude.{BuildFault, SignOf, ◌>>=◌, resume, Terminal, TerminalAt, PhraseRule, Follows, unless_refused, declares, Context, Place}
 use Prelude.{AtStart, BeforeItems, InObjective, BetweenRows, InRow, InBounds, apply_sign, Item, item_from, signed_item, number_item}
 use Prelude.{objective_from, ItemOwner, OfObjective, OfRow, item_read, says, Between, AtObjective, ObjectiveName, Signs, ItemNumber}
-use Prelude.{BoundLeftRelation, AtSide, SideSign, AfterToken, declare_unless_refused, take_term, take_after_signs, begin_item, open_section}
-use Prelude.{begin_phrase, begin, name_taken, at_end, begin_phrase_after, take_after_lone_number, take, says_after, SectionWord}
+use Prelude.{BoundLeftRelation, AtSide, SideSign, AfterToken, declare_unless_refused, end_term, step_after_signs, begin_item, open_section}
+use Prelude.{begin_phrase, begin, name_taken, at_end, begin_phrase_after, step_after_lone_number, step, says_after, SectionWord}
 use Rattle.mpslp_lp_grammar.proofs.RuleLaws.{follow-passing_one, resume-next, resume-ahead, resume-gives, phrases-more, follow-one_more}
 use Rattle.mpslp_lp_grammar.specs.{Grammar.{section_from, name_in_section, phrase, phrase_at}, Items.Item.{Term, Lone}}
 use Rattle.mpslp_lp_grammar.specs.{Terminal.Terminal.{Opens, Name, Sign, Compares}, declared.states.SideOwner.TheVariants.{SideOfRow}}
@@ -35,14 +35,14 @@ completed-says = grind arith
 
 term-says : (context : Context) (owner : ItemOwner) (column : List ℕ) (value : Decimal) (line : ℕ) (terminal : Terminal)
     (tokens : Tokens) → resume phrase_at (item_read context owner (Term value column (at line terminal))) tokens
-    ≡ says_after line (take_term context owner column value terminal) tokens
+    ≡ says_after line (end_term context owner column value terminal) tokens
 term-says = grind arith
 
 -- ---- items
 
 signs-say : (context : Context) (owner : ItemOwner) (sign : SignOf) (line : ℕ) (terminal : Terminal) (tokens : Tokens)
     → resume phrase_at (signed_item context sign >>= item_read context owner) (at line terminal ∷ tokens)
-    ≡ says_after line (take_after_signs context owner sign terminal) tokens
+    ≡ says_after line (step_after_signs context owner sign terminal) tokens
 signs-say = grind (arith, follow-one_more, follow-passing_one, term-says)
 
 begun_item-says : (context : Context) (owner : ItemOwner) (line : ℕ) (terminal : Terminal) (tokens : Tokens)
@@ -96,7 +96,7 @@ begun_after-says = grind (arith, begun-says)
 
 lone-says : (context : Context) (owner : ItemOwner) (value : Decimal) (line : ℕ) (terminal : Terminal) (tokens : Tokens)
     → resume phrase_at (item_read context owner (Lone value (at line terminal))) (at line terminal ∷ tokens)
-    ≡ says_after line (take_after_lone_number context owner value terminal) tokens
+    ≡ says_after line (step_after_lone_number context owner value terminal) tokens
 lone-says context (OfObjective name) value line (Sign sign) tokens = grind (arith, begun_after-says)
 lone-says context (OfObjective name) value line (Opens word) tokens =
     begun_after-says context (declare_constant value ∷ []) (InObjective name) line (Opens word) tokens
@@ -107,7 +107,7 @@ lone-says context (OfRow row) value line vz tokens = grind arith
 
 objective-says : (context : Context) (goal : Sense) (line : ℕ) (terminal : Terminal) (tokens : Tokens)
     → resume phrase_at (objective_from context goal (at line terminal)) (at line terminal ∷ tokens)
-    ≡ says_after line (take context (AtObjective goal) terminal) tokens
+    ≡ says_after line (step context (AtObjective goal) terminal) tokens
 objective-says context goal line (Name name) tokens = grind (arith, resume-next)
 objective-says context goal line _ tokens = grind (arith, begun_after-says)
 
@@ -128,13 +128,13 @@ number-says = grind arith
 item_number-says : (context : Context) (owner : ItemOwner) (sign : SignOf) (value : Decimal) (line : ℕ) (terminal : Terminal)
     (tokens : Tokens)
     → resume phrase_at (number_item sign value >>= item_read context owner) (at line terminal ∷ tokens)
-    ≡ says_after line (take context (ItemNumber owner sign value) terminal) tokens
+    ≡ says_after line (step context (ItemNumber owner sign value) terminal) tokens
 item_number-says context owner sign value line terminal tokens =
     number-says context (item_read context owner) sign value
-    (λ column. take_term context owner column (apply_sign sign value) terminal)
-    (take_after_lone_number context owner (apply_sign sign value) terminal) line terminal tokens
+    (λ column. end_term context owner column (apply_sign sign value) terminal)
+    (step_after_lone_number context owner (apply_sign sign value) terminal) line terminal tokens
     (λ column is. term-says context owner column (apply_sign sign value) line (Name column) tokens
-    ∙ ap (λ (t : Terminal). says_after line (take_term context owner column (apply_sign sign value) t) tokens) (sym is))
+    ∙ ap (λ (t : Terminal). says_after line (end_term context owner column (apply_sign sign value) t) tokens) (sym is))
     (lone-says context owner (apply_sign sign value) line terminal tokens)
 
 -- ---- all states
@@ -142,7 +142,7 @@ item_number-says context owner sign value line terminal tokens =
 ruleset steps = (follow-one_more, follow-passing_one, resume-gives, begun-says, begun_after-says)
 
 pub take-says : (context : Context) (state : State) (line : ℕ) (terminal : Terminal) (tokens : Tokens)
-    → says line context state (at line terminal ∷ tokens) ≡ says_after line (take context state terminal) tokens
+    → says line context state (at line terminal ∷ tokens) ≡ says_after line (step context state terminal) tokens
 take-says context (AtObjective goal) line terminal tokens =
     resume-ahead phrase_at (objective_from context goal) (at line terminal) tokens ∙ objective-says context goal line
     terminal tokens

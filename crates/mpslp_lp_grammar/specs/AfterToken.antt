@@ -50,23 +50,23 @@ abbrev pub declare_at : Context → Terminal → Place → Declarations → Afte
 declare_at context terminal place made = declare_unless_refused context terminal (refusals_in_turn context.builder made) place made
 
 -- declarations that the token before this one completes, with their errors; this token is taken at the place that follows
-abbrev pub take_after_declarations : Context → Terminal → List BuildFault → Declarations → AfterToken → AfterToken
-take_after_declarations context terminal [] made next = next
-take_after_declarations context terminal (refusal ∷ more) made next = refuse context terminal (kind_of_build_fault refusal)
+abbrev pub step_after_declarations : Context → Terminal → List BuildFault → Declarations → AfterToken → AfterToken
+step_after_declarations context terminal [] made next = next
+step_after_declarations context terminal (refusal ∷ more) made next = refuse context terminal (kind_of_build_fault refusal)
 
 -- ---- items
 
-abbrev pub take_term : Context → ItemOwner → List ℕ → Decimal → Terminal → AfterToken
-take_term context (OfObjective name) column value terminal = declare_at context terminal (InObjective name) (term_declared name (column, value))
-take_term context (OfRow row) column value terminal =
+abbrev pub end_term : Context → ItemOwner → List ℕ → Decimal → Terminal → AfterToken
+end_term context (OfObjective name) column value terminal = declare_at context terminal (InObjective name) (term_declared name (column, value))
+end_term context (OfRow row) column value terminal =
     if list_any (λ term. same_bytes column term.0) row.terms then refuse context terminal DuplicateEntry
     else Goes (with_made context []) (Between (InRow (record row { terms = row.terms ++ (column, value) ∷ [] })))
 
 -- a token of an item after its first sign
-abbrev pub take_after_signs : Context → ItemOwner → SignOf → Terminal → AfterToken
-take_after_signs context owner sign terminal = elim terminal as (λ _. AfterToken) [
+abbrev pub step_after_signs : Context → ItemOwner → SignOf → Terminal → AfterToken
+step_after_signs context owner sign terminal = elim terminal as (λ _. AfterToken) [
   | Terminal.Sign more ↦ Goes context (Signs owner (product sign more))
-  | Terminal.Name column ↦ take_term context owner column (apply_sign sign one) terminal
+  | Terminal.Name column ↦ end_term context owner column (apply_sign sign one) terminal
   | Terminal.Number value ↦ Goes context (ItemNumber owner sign value)
   | _ ↦ refuse context terminal BadToken
 ]
@@ -75,26 +75,26 @@ take_after_signs context owner sign terminal = elim terminal as (λ _. AfterToke
 abbrev pub begin_item : Context → ItemOwner → Terminal → AfterToken
 begin_item context owner terminal = elim terminal as (λ _. AfterToken) [
   | Terminal.Sign sign ↦ Goes context (Signs owner sign)
-  | Terminal.Name column ↦ take_term context owner column one terminal
+  | Terminal.Name column ↦ end_term context owner column one terminal
   | Terminal.Number value ↦ Goes context (ItemNumber owner Plus value)
   | _ ↦ refuse context terminal BadToken
 ]
 
 -- ---- sides
 
-abbrev pub take_bound : Context → Declarations → List ℕ → Limits → Terminal → Place → AfterToken
-take_bound context front column limits terminal place =
+abbrev pub end_bound : Context → Declarations → List ℕ → Limits → Terminal → Place → AfterToken
+end_bound context front column limits terminal place =
     declare_unless_refused context terminal (bounds_refusals (with_declarations context.builder front) column limits.lower limits.upper) place
     (front ++ bounds_declared column limits.lower limits.upper)
 
-abbrev pub take_side : Context → SideOwner → Limit → Terminal → AfterToken
-take_side context (SideOfRow row relation) limit terminal = declare_at context terminal BetweenRows (row_declared row (row_limits row.left relation limit))
-take_side context (SideOfBound is_new column relation) limit terminal =
-    take_bound context (new_column is_new column) column (limits_by relation limit) terminal (InBounds None)
+abbrev pub end_side : Context → SideOwner → Limit → Terminal → AfterToken
+end_side context (SideOfRow row relation) limit terminal = declare_at context terminal BetweenRows (row_declared row (row_limits row.left relation limit))
+end_side context (SideOfBound is_new column relation) limit terminal =
+    end_bound context (new_column is_new column) column (limits_by relation limit) terminal (InBounds None)
 
 -- a number or infinity, after the sign
-abbrev pub take_side_value : (Limit → AfterToken) → Context → SignOf → Terminal → AfterToken
-take_side_value goes context sign terminal = elim terminal as (λ _. AfterToken) [
+abbrev pub step_at_side_value : (Limit → AfterToken) → Context → SignOf → Terminal → AfterToken
+step_at_side_value goes context sign terminal = elim terminal as (λ _. AfterToken) [
   | Terminal.Number value ↦ goes (limit_of (apply_sign sign value))
   | Terminal.Infinity ↦ goes (infinity sign)
   | _ ↦ refuse context terminal BadToken

@@ -23,7 +23,7 @@ use Rattle.mpslp_lp_grammar.specs.declared.states.State.TheVariants.{Between, At
 use Rattle.mpslp_lp_tokens.specs.declared.relations.Relation.{Relation}
 use Rattle.mpslp_lp_tokens.specs.declared.words.SectionWord.{SectionWord}
 use Rattle.mpslp_lp_tokens.specs.declared.words.SectionWord.TheVariants as words
-use Rattle.mpslp_lp_grammar.specs.AfterToken.{AfterToken, refuse, with_made, declare_at, take_term, begin_item, take_side_value, Goes, Refuses}
+use Rattle.mpslp_lp_grammar.specs.AfterToken.{AfterToken, refuse, with_made, declare_at, end_term, begin_item, step_at_side_value, Goes, Refuses}
 
 -- ---- sections
 
@@ -52,7 +52,7 @@ abbrev pub begin_row : Context → List ℕ → Terminal → AfterToken
 begin_row context name terminal = elim terminal as (λ _. AfterToken) [
   | Terminal.Infinity ↦ Goes context (RowLeft name PlusInf)
   | Terminal.Number value ↦ Goes context (RowNumber name Plus value)
-  | Terminal.Name column ↦ take_term context (OfRow (without_terms name None)) column one terminal
+  | Terminal.Name column ↦ end_term context (OfRow (without_terms name None)) column one terminal
   | Terminal.Sign sign ↦ Goes context (RowSign name sign)
   | _ ↦ refuse context terminal BadToken
 ]
@@ -61,12 +61,12 @@ abbrev pub begin_bound : Context → Terminal → AfterToken
 begin_bound context terminal = elim terminal as (λ _. AfterToken) [
   | Terminal.Name column ↦ Goes context (BoundName column)
   | Terminal.Sign sign ↦ Goes context (BoundSign sign)
-  | _ ↦ take_side_value (λ limit. Goes context (BoundLeft limit)) context Plus terminal
+  | _ ↦ step_at_side_value (λ limit. Goes context (BoundLeft limit)) context Plus terminal
 ]
 
-abbrev pub take_second_relation : Context → Option (List ℕ × Relation) → Relation → Terminal → AfterToken
-take_second_relation context None relation terminal = refuse context terminal BadToken
-take_second_relation context (Some left) relation terminal =
+abbrev pub step_at_second_relation : Context → Option (List ℕ × Relation) → Relation → Terminal → AfterToken
+step_at_second_relation context None relation terminal = refuse context terminal BadToken
+step_at_second_relation context (Some left) relation terminal =
     if fits_second left.1 relation then Goes context (AtSide (SideOfBound false left.0 relation)) else refuse context terminal MixedSenses
 
 abbrev pub name_taken : Place → (List ℕ → Declaration) → Context → Terminal → AfterToken
@@ -103,7 +103,7 @@ begin_phrase (InRow row) context terminal = elim terminal as (λ _. AfterToken) 
   | _ ↦ refuse context terminal BadToken
 ]
 begin_phrase (InBounds left) context terminal = elim terminal as (λ _. AfterToken) [
-  | Terminal.Compares relation ↦ take_second_relation context left relation terminal
+  | Terminal.Compares relation ↦ step_at_second_relation context left relation terminal
   | _ ↦ begin_bound context terminal
 ]
 begin_phrase InGenerals context terminal = name_taken InGenerals declare_integer context terminal

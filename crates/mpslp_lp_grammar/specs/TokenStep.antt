@@ -24,7 +24,7 @@ use Rattle.mpslp_lp_grammar.specs.declared.states.ItemOwner.TheVariants.{OfObjec
 use Rattle.mpslp_lp_grammar.specs.declared.states.SideOwner.TheVariants.{SideOfBound}
 use Rattle.mpslp_lp_grammar.specs.TokenByToken.{says}
 use Rattle.mpslp_lp_grammar.specs.declared.states.State.TheVariants.{Between, AtObjective, ObjectiveName, AtLastWord, AtSemi, Signs, ItemNumber, RowName, RowLabel, RowSign, RowNumber, RowLeft, RowLeftRelation, BoundName, BoundSign, BoundLeft, BoundLeftRelation, AtSide, SideSign, AfterEnd}
-use Rattle.mpslp_lp_grammar.specs.AfterToken.{AfterToken, refuse, with_made, take_term, take_after_signs, begin_item, take_bound, take_side, take_side_value, take_after_declarations, declare_at, Goes, Refuses}
+use Rattle.mpslp_lp_grammar.specs.AfterToken.{AfterToken, refuse, with_made, end_term, step_after_signs, begin_item, end_bound, end_side, step_at_side_value, step_after_declarations, declare_at, Goes, Refuses}
 use Rattle.mpslp_lp_grammar.specs.FirstToken.{begin_row, begin}
 
 -- ---- a token that completes what is before it, and is taken at the place that follows
@@ -32,7 +32,7 @@ use Rattle.mpslp_lp_grammar.specs.FirstToken.{begin_row, begin}
 -- after declarations that the token completes
 abbrev pub begin_phrase_after : Context → Declarations → Place → Terminal → AfterToken
 begin_phrase_after context made place terminal =
-    take_after_declarations context terminal (refusals_in_turn context.builder made) made (begin place (with_made context made) terminal)
+    step_after_declarations context terminal (refusals_in_turn context.builder made) made (begin place (with_made context made) terminal)
 
 -- a number in a row that no name follows
 abbrev pub refuse_constant : Context → Terminal → AfterToken
@@ -43,79 +43,79 @@ refuse_constant context terminal = elim terminal as (λ _. AfterToken) [
 ]
 
 -- a number that no name follows
-abbrev pub take_after_lone_number : Context → ItemOwner → Decimal → Terminal → AfterToken
-take_after_lone_number context (OfObjective name) value terminal = elim terminal as (λ _. AfterToken) [
+abbrev pub step_after_lone_number : Context → ItemOwner → Decimal → Terminal → AfterToken
+step_after_lone_number context (OfObjective name) value terminal = elim terminal as (λ _. AfterToken) [
   | Terminal.Sign sign ↦ begin_phrase_after context (declare_constant value ∷ []) (InObjective name) terminal
   | Terminal.Opens word ↦ begin_phrase_after context (declare_constant value ∷ []) (InObjective name) terminal
   | _ ↦ refuse context terminal BadToken
 ]
-take_after_lone_number context (OfRow row) value terminal = refuse_constant context terminal
+step_after_lone_number context (OfRow row) value terminal = refuse_constant context terminal
 
-abbrev pub take : Context → State → Terminal → AfterToken
-take context (Between place) terminal = begin place context terminal
-take context (AtObjective sense) terminal = elim terminal as (λ _. AfterToken) [
+abbrev pub step : Context → State → Terminal → AfterToken
+step context (Between place) terminal = begin place context terminal
+step context (AtObjective sense) terminal = elim terminal as (λ _. AfterToken) [
   | Terminal.Name name ↦ Goes context (ObjectiveName sense name)
   | _ ↦ begin_phrase_after context (objective_declared sense default_objective) (BeforeItems default_objective) terminal
 ]
-take context (ObjectiveName sense name) terminal = elim terminal as (λ _. AfterToken) [
+step context (ObjectiveName sense name) terminal = elim terminal as (λ _. AfterToken) [
   | Terminal.Colon ↦ declare_at context terminal (BeforeItems name) (objective_declared sense name)
   | _ ↦ begin_phrase_after context (first_item_declared sense name) (InObjective default_objective) terminal
 ]
-take context (AtLastWord wanted) terminal = elim terminal as (λ _. AfterToken) [
+step context (AtLastWord wanted) terminal = elim terminal as (λ _. AfterToken) [
   | Terminal.Name word ↦ if is_last_word wanted word then Goes (with_made context []) (Between (opened_by wanted)) else refuse context terminal BadToken
   | _ ↦ refuse context terminal BadToken
 ]
-take context AtSemi terminal = elim terminal as (λ _. AfterToken) [
+step context AtSemi terminal = elim terminal as (λ _. AfterToken) [
   | Terminal.Sign Plus ↦ begin InSemis (with_made context []) terminal
   | Terminal.Sign Minus ↦ Goes context (AtLastWord Continuous)
   | _ ↦ begin InSemis (with_made context []) terminal
 ]
-take context (Signs owner sign) terminal = take_after_signs context owner sign terminal
-take context (ItemNumber owner sign value) terminal = elim terminal as (λ _. AfterToken) [
-  | Terminal.Name column ↦ take_term context owner column (apply_sign sign value) terminal
-  | _ ↦ take_after_lone_number context owner (apply_sign sign value) terminal
+step context (Signs owner sign) terminal = step_after_signs context owner sign terminal
+step context (ItemNumber owner sign value) terminal = elim terminal as (λ _. AfterToken) [
+  | Terminal.Name column ↦ end_term context owner column (apply_sign sign value) terminal
+  | _ ↦ step_after_lone_number context owner (apply_sign sign value) terminal
 ]
-take context (RowName name) terminal = elim terminal as (λ _. AfterToken) [
+step context (RowName name) terminal = elim terminal as (λ _. AfterToken) [
   | Terminal.Colon ↦ Goes context (RowLabel name)
   | _ ↦ begin (InRow (record { name = default_row context; left = None; terms = (name, one) ∷ [] })) (with_made context []) terminal
 ]
-take context (RowLabel name) terminal = begin_row context name terminal
-take context (RowSign name sign) terminal = elim terminal as (λ _. AfterToken) [
+step context (RowLabel name) terminal = begin_row context name terminal
+step context (RowSign name sign) terminal = elim terminal as (λ _. AfterToken) [
   | Terminal.Infinity ↦ Goes context (RowLeft name (infinity sign))
   | Terminal.Number value ↦ Goes context (RowNumber name sign value)
-  | _ ↦ take_after_signs context (OfRow (without_terms name None)) sign terminal
+  | _ ↦ step_after_signs context (OfRow (without_terms name None)) sign terminal
 ]
-take context (RowNumber name sign value) terminal = elim terminal as (λ _. AfterToken) [
-  | Terminal.Name column ↦ take_term context (OfRow (without_terms name None)) column (apply_sign sign value) terminal
+step context (RowNumber name sign value) terminal = elim terminal as (λ _. AfterToken) [
+  | Terminal.Name column ↦ end_term context (OfRow (without_terms name None)) column (apply_sign sign value) terminal
   | Terminal.Compares relation ↦ Goes context (RowLeftRelation (without_terms name (Some (limit_of (apply_sign sign value), relation))))
-  | _ ↦ take_after_lone_number context (OfRow (without_terms name None)) (apply_sign sign value) terminal
+  | _ ↦ step_after_lone_number context (OfRow (without_terms name None)) (apply_sign sign value) terminal
 ]
-take context (RowLeft name limit) terminal = elim terminal as (λ _. AfterToken) [
+step context (RowLeft name limit) terminal = elim terminal as (λ _. AfterToken) [
   | Terminal.Compares relation ↦ Goes context (RowLeftRelation (without_terms name (Some (limit, relation))))
   | _ ↦ refuse context terminal BadToken
 ]
-take context (RowLeftRelation row) terminal = begin_item context (OfRow row) terminal
-take context (BoundName column) terminal = elim terminal as (λ _. AfterToken) [
-  | Terminal.Free ↦ take_bound context (declare_column column ∷ []) column no_limits terminal (InBounds None)
+step context (RowLeftRelation row) terminal = begin_item context (OfRow row) terminal
+step context (BoundName column) terminal = elim terminal as (λ _. AfterToken) [
+  | Terminal.Free ↦ end_bound context (declare_column column ∷ []) column no_limits terminal (InBounds None)
   | Terminal.Compares relation ↦ Goes context (AtSide (SideOfBound true column relation))
   | _ ↦ refuse context terminal BadToken
 ]
-take context (BoundSign sign) terminal = take_side_value (λ limit. Goes context (BoundLeft limit)) context sign terminal
-take context (BoundLeft limit) terminal = elim terminal as (λ _. AfterToken) [
+step context (BoundSign sign) terminal = step_at_side_value (λ limit. Goes context (BoundLeft limit)) context sign terminal
+step context (BoundLeft limit) terminal = elim terminal as (λ _. AfterToken) [
   | Terminal.Compares relation ↦ Goes context (BoundLeftRelation limit relation)
   | _ ↦ refuse context terminal BadToken
 ]
-take context (BoundLeftRelation limit relation) terminal = elim terminal as (λ _. AfterToken) [
-  | Terminal.Name column ↦ take_bound context (declare_column column ∷ []) column (limits_by (flip relation) limit) terminal (InBounds (Some (column, relation)))
+step context (BoundLeftRelation limit relation) terminal = elim terminal as (λ _. AfterToken) [
+  | Terminal.Name column ↦ end_bound context (declare_column column ∷ []) column (limits_by (flip relation) limit) terminal (InBounds (Some (column, relation)))
   | _ ↦ refuse context terminal BadToken
 ]
-take context (AtSide sided) terminal = elim terminal as (λ _. AfterToken) [
+step context (AtSide sided) terminal = elim terminal as (λ _. AfterToken) [
   | Terminal.Sign sign ↦ Goes context (SideSign sided sign)
-  | _ ↦ take_side_value (λ limit. take_side context sided limit terminal) context Plus terminal
+  | _ ↦ step_at_side_value (λ limit. end_side context sided limit terminal) context Plus terminal
 ]
-take context (SideSign sided sign) terminal = take_side_value (λ limit. take_side context sided limit terminal) context sign terminal
+step context (SideSign sided sign) terminal = step_at_side_value (λ limit. end_side context sided limit terminal) context sign terminal
 -- `end` must be the last token of its line
-take context AfterEnd terminal = refuse context terminal BadToken
+step context AfterEnd terminal = refuse context terminal BadToken
 
 -- the outcome of the tokens after one on this line
 abbrev pub says_after : (line : ℕ) → AfterToken → List TerminalAt → Outcome Fault Draft

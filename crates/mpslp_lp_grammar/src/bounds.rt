@@ -13,8 +13,8 @@ ghost use Rattle.mpslp_lp_grammar.specs.Declares.{TakesToken, answer_at};
 ghost use Rattle.mpslp_lp_grammar.specs.Phrase.{terminal_fault};
 ghost use Rattle.mpslp_lp_grammar.specs.Terminal.{Terminal};
 ghost use Rattle.mpslp_lp_grammar.specs.declared.states.Place.{Place};
-ghost use Rattle.mpslp_lp_grammar.specs.AfterToken.{take_bound, take_side, take_side_value};
-ghost use Rattle.mpslp_lp_grammar.specs.FirstToken.{begin_bound, take_second_relation};
+ghost use Rattle.mpslp_lp_grammar.specs.AfterToken.{end_bound, end_side, step_at_side_value};
+ghost use Rattle.mpslp_lp_grammar.specs.FirstToken.{begin_bound, step_at_second_relation};
 
 use crate::answers::{at_place, refuse};
 use crate::context::Context;
@@ -48,13 +48,13 @@ pub(crate) fn begin_bound(
 }
 
 /// Takes a relation after a bound, which is legal only if the bound has just a left-hand side, as in `1 <= x`.
-pub(crate) fn take_second_relation(
+pub(crate) fn step_at_second_relation(
     context: &mut Context,
     left: Option<(Name, Relation)>,
     relation: Relation,
     token: &TerminalToken<'_>,
 ) -> Result<State, LineError>
-    ensures { TakesToken (take_second_relation context.old left relation (terminal_of_token token.now)) result context.new }
+    ensures { TakesToken (step_at_second_relation context.old left relation (terminal_of_token token.now)) result context.new }
 {
     match left {
         None => refuse(context, token, FaultKind::BadToken),
@@ -83,7 +83,7 @@ pub fn declare_bound(
 ) -> Result<(), LineError>
     requires { IsMpsName column.now }
     ensures { (terminal : Terminal) (place : Place) → terminal_fault context.old terminal ≡ None
-        → TakesToken (take_bound context.old (new_column is_new column.now) column.now (limits_by relation limit.now) terminal place) (answer_at place result) context.new }
+        → TakesToken (end_bound context.old (new_column is_new column.now) column.now (limits_by relation limit.now) terminal place) (answer_at place result) context.new }
 {
     context
         .builder
@@ -97,7 +97,7 @@ pub fn declare_bound(
 /// Those of [`declare_bound`].
 pub fn declare_free(context: &mut Context, column: &[u8]) -> Result<(), LineError>
     requires { IsMpsName column.now }
-    ensures { let taken = take_bound context.old (declare_column column.now ∷ []) column.now no_limits Terminal.Free (Place.InBounds None) in
+    ensures { let taken = end_bound context.old (declare_column column.now ∷ []) column.now no_limits Terminal.Free (Place.InBounds None) in
         TakesToken taken (answer_at (Place.InBounds None) result) context.new }
 {
     context
@@ -106,7 +106,7 @@ pub fn declare_free(context: &mut Context, column: &[u8]) -> Result<(), LineErro
 }
 
 /// Takes a token that completes the right-hand side of a bound, and declares the bound.
-pub(crate) fn take_bound(
+pub(crate) fn end_bound(
     context: &mut Context,
     is_new: bool,
     column: Name,
@@ -116,7 +116,7 @@ pub(crate) fn take_bound(
 ) -> Result<State, LineError>
     requires { terminal_fault context.old (terminal_of_token token.now) ≡ None }
     ensures { let limits = limits_by relation limit.now in
-        TakesToken (take_bound context.old (new_column is_new column) column limits (terminal_of_token token.now) (Place.InBounds None)) result context.new }
+        TakesToken (end_bound context.old (new_column is_new column) column limits (terminal_of_token token.now) (Place.InBounds None)) result context.new }
 {
     each_name_is_legal(&column);
     let answer = declare_bound(context, is_new, column.as_bytes(), relation, limit);
@@ -124,8 +124,8 @@ pub(crate) fn take_bound(
 }
 
 /// Takes `free` after the column of a bound.
-pub(crate) fn take_free(context: &mut Context, column: Name) -> Result<State, LineError>
-    ensures { TakesToken (take_bound context.old (declare_column column ∷ []) column no_limits Terminal.Free (Place.InBounds None)) result context.new }
+pub(crate) fn end_free_bound(context: &mut Context, column: Name) -> Result<State, LineError>
+    ensures { TakesToken (end_bound context.old (declare_column column ∷ []) column no_limits Terminal.Free (Place.InBounds None)) result context.new }
 {
     each_name_is_legal(&column);
     let answer = declare_free(context, column.as_bytes());
@@ -133,7 +133,7 @@ pub(crate) fn take_free(context: &mut Context, column: Name) -> Result<State, Li
 }
 
 /// Takes the column of a bound after its left-hand side.
-pub(crate) fn take_bound_column(
+pub(crate) fn step_after_bound_column(
     context: &mut Context,
     limit: &GivenLimit,
     relation: Relation,
@@ -142,7 +142,7 @@ pub(crate) fn take_bound_column(
     requires { IsMpsName column.now }
     ensures { let limits = limits_by (flip relation) limit.now in
         let place = Place.InBounds (Some (column.now, relation)) in
-        TakesToken (take_bound context.old (declare_column column.now ∷ []) column.now limits (Terminal.Name column.now) place) result context.new }
+        TakesToken (end_bound context.old (declare_column column.now ∷ []) column.now limits (Terminal.Name column.now) place) result context.new }
 {
     let name = context.builder.copied(column)?;
     let answer = declare_bound(context, true, column, flip(relation), limit);
@@ -150,38 +150,38 @@ pub(crate) fn take_bound_column(
 }
 
 /// Takes a token that completes the right-hand side of a row or a bound.
-pub(crate) fn take_side(
+pub(crate) fn end_side(
     context: &mut Context,
     sided: SideOwner,
     limit: &GivenLimit,
     token: &TerminalToken<'_>,
 ) -> Result<State, LineError>
     requires { terminal_fault context.old (terminal_of_token token.now) ≡ None }
-    ensures { TakesToken (take_side context.old sided limit.now (terminal_of_token token.now)) result context.new }
+    ensures { TakesToken (end_side context.old sided limit.now (terminal_of_token token.now)) result context.new }
 {
     match sided {
         SideOwner::SideOfRow(row, relation) => end_row(context, row, relation, limit, token),
         SideOwner::SideOfBound(is_new, column, relation) => {
-            take_bound(context, is_new, column, relation, limit, token)
+            end_bound(context, is_new, column, relation, limit, token)
         }
     }
 }
 
 /// Takes a token of a right-hand side, after its sign if it has one.
-pub(crate) fn take_side_value(
+pub(crate) fn step_at_side_value(
     context: &mut Context,
     sided: SideOwner,
     sign: Sign,
     token: &TerminalToken<'_>,
 ) -> Result<State, LineError>
     ensures { let terminal = terminal_of_token token.now in
-        TakesToken (take_side_value (λ limit. take_side context.old sided limit terminal) context.old sign terminal) result context.new }
+        TakesToken (step_at_side_value (λ limit. end_side context.old sided limit terminal) context.old sign terminal) result context.new }
 {
     match token.kind {
         TerminalKind::Number(value) => {
-            take_side(context, sided, &GivenLimit::of(sign.of(value)), token)
+            end_side(context, sided, &GivenLimit::of(sign.of(value)), token)
         }
-        TerminalKind::Infinity => take_side(context, sided, &GivenLimit::infinity(sign), token),
+        TerminalKind::Infinity => end_side(context, sided, &GivenLimit::infinity(sign), token),
         _ => refuse(context, token, FaultKind::BadToken),
     }
 }

@@ -10,12 +10,12 @@ ghost use Rattle.mpslp_lp_grammar.specs.Grammar.{may_begin_section};
 ghost use Rattle.mpslp_lp_grammar.specs.Rows.{default_row};
 ghost use Rattle.mpslp_lp_grammar.specs.TerminalToken.{HasLegalName, terminal_of_token};
 ghost use Rattle.mpslp_lp_grammar.specs.Declares.{DeclaresUnless, TakesToken, answer_at};
-ghost use Rattle.mpslp_lp_grammar.specs.AfterToken.{Goes, take_after_declarations, with_made};
+ghost use Rattle.mpslp_lp_grammar.specs.AfterToken.{Goes, step_after_declarations, with_made};
 ghost use Rattle.mpslp_lp_grammar.specs.FirstToken.{after_section_word, open_section, name_taken, listed_at, kind_declared, begin_phrase, begin};
 ghost use Rattle.mpslp_lp_grammar.specs.Terminal.{Terminal};
 
 use crate::answers::{at_place, refuse};
-use crate::bounds::{begin_bound, take_second_relation};
+use crate::bounds::{begin_bound, step_at_second_relation};
 use crate::context::Context;
 use crate::items::begin_item;
 use crate::rows::{begin_row, fits_left};
@@ -136,7 +136,7 @@ pub fn declare_listed(
 }
 
 /// Takes a token in a section that lists names of columns.
-fn take_in_name_section(
+fn step_in_name_section(
     context: &mut Context,
     section: ListSection,
     token: &TerminalToken<'_>,
@@ -163,7 +163,7 @@ fn begin_in_bounds(
     ensures { TakesToken (begin_phrase (Place.InBounds left) context.old (terminal_of_token token.now)) result context.new }
 {
     match token.kind {
-        TerminalKind::Compares(relation) => take_second_relation(context, left, relation, token),
+        TerminalKind::Compares(relation) => step_at_second_relation(context, left, relation, token),
         _ => begin_bound(context, token),
     }
 }
@@ -184,9 +184,9 @@ fn begin_phrase(
         Place::BetweenRows => begin_labelled(context, token),
         Place::InRow(row) => go_on_in_row(context, row, token),
         Place::InBounds(left) => begin_in_bounds(context, left, token),
-        Place::InGenerals => take_in_name_section(context, ListSection::Generals, token),
-        Place::InBinaries => take_in_name_section(context, ListSection::Binaries, token),
-        Place::InSemis => take_in_name_section(context, ListSection::Semis, token),
+        Place::InGenerals => step_in_name_section(context, ListSection::Generals, token),
+        Place::InBinaries => step_in_name_section(context, ListSection::Binaries, token),
+        Place::InSemis => step_in_name_section(context, ListSection::Semis, token),
     }
 }
 
@@ -220,7 +220,7 @@ pub(crate) fn begin_phrase_after(
 ) -> Result<State, LineError>
     requires { HasLegalName token.now }
     ensures { (earlier : Draft) (refusals : List BuildFault) (made : Declarations) → DeclaresUnless refusals earlier made answer context.old.builder
-        → TakesToken (take_after_declarations (record context.old { builder = earlier }) (terminal_of_token token.now) refusals made (begin place (with_made (record context.old { builder = earlier }) made) (terminal_of_token token.now))) result context.new }
+        → TakesToken (step_after_declarations (record context.old { builder = earlier }) (terminal_of_token token.now) refusals made (begin place (with_made (record context.old { builder = earlier }) made) (terminal_of_token token.now))) result context.new }
 {
     match answer {
         Ok(()) => begin(context, place, token),

@@ -6,7 +6,7 @@ ghost use Rattle.mpslp_lp_grammar.specs.Declares.{TakesToken, answer_at};
 ghost use Rattle.mpslp_lp_grammar.specs.Terminal.{Terminal};
 ghost use Rattle.mpslp_lp_grammar.specs.declared.states.Place.{Place};
 ghost use Rattle.mpslp_lp_grammar.specs.declared.states.ItemOwner.{ItemOwner};
-ghost use Rattle.mpslp_lp_grammar.specs.AfterToken.{take_term, take_after_signs, begin_item};
+ghost use Rattle.mpslp_lp_grammar.specs.AfterToken.{end_term, step_after_signs, begin_item};
 
 use crate::answers::{at_place, refuse};
 use crate::context::Context;
@@ -30,7 +30,7 @@ pub fn declare_objective_term(
     value: Decimal,
 ) -> Result<(), LineError>
     requires { IsMpsName column.now }
-    ensures { let taken = take_term context.old (ItemOwner.OfObjective objective.now) column.now value (Terminal.Name column.now) in
+    ensures { let taken = end_term context.old (ItemOwner.OfObjective objective.now) column.now value (Terminal.Name column.now) in
         TakesToken taken (answer_at (Place.InObjective objective.now) result) context.new }
 {
     context
@@ -39,28 +39,28 @@ pub fn declare_objective_term(
 }
 
 /// Takes the name of a term of the objective.
-fn take_objective_term(
+fn end_objective_term(
     context: &mut Context,
     objective: Name,
     column: &[u8],
     value: Decimal,
 ) -> Result<State, LineError>
     requires { IsMpsName column.now }
-    ensures { TakesToken (take_term context.old (ItemOwner.OfObjective objective) column.now value (Terminal.Name column.now)) result context.new }
+    ensures { TakesToken (end_term context.old (ItemOwner.OfObjective objective) column.now value (Terminal.Name column.now)) result context.new }
 {
     let answer = declare_objective_term(context, &objective, column, value);
     at_place(answer, Place::InObjective(objective))
 }
 
 /// Takes the name of a term of a row.
-fn take_row_term(
+fn end_row_term(
     context: &Context,
     row: PartialRow,
     column: &[u8],
     value: Decimal,
 ) -> Result<State, LineError>
     requires { IsMpsName column.now }
-    ensures { TakesToken (take_term context.now (ItemOwner.OfRow row) column.now value (Terminal.Name column.now)) result context.now }
+    ensures { TakesToken (end_term context.now (ItemOwner.OfRow row) column.now value (Terminal.Name column.now)) result context.now }
 {
     match row.with_term(context, column, value) {
         Ok(row) => Ok(State::Between(Place::InRow(row))),
@@ -69,34 +69,34 @@ fn take_row_term(
 }
 
 /// Takes the name of a term.
-pub(crate) fn take_term(
+pub(crate) fn end_term(
     context: &mut Context,
     owner: ItemOwner,
     column: &[u8],
     value: Decimal,
 ) -> Result<State, LineError>
     requires { IsMpsName column.now }
-    ensures { TakesToken (take_term context.old owner column.now value (Terminal.Name column.now)) result context.new }
+    ensures { TakesToken (end_term context.old owner column.now value (Terminal.Name column.now)) result context.new }
 {
     match owner {
-        ItemOwner::OfObjective(name) => take_objective_term(context, name, column, value),
-        ItemOwner::OfRow(row) => take_row_term(context, row, column, value),
+        ItemOwner::OfObjective(name) => end_objective_term(context, name, column, value),
+        ItemOwner::OfRow(row) => end_row_term(context, row, column, value),
     }
 }
 
 /// Takes a token of an item after its first sign.
-pub(crate) fn take_after_signs(
+pub(crate) fn step_after_signs(
     context: &mut Context,
     owner: ItemOwner,
     sign: Sign,
     token: &TerminalToken<'_>,
 ) -> Result<State, LineError>
     requires { HasLegalName token.now }
-    ensures { TakesToken (take_after_signs context.old owner sign (terminal_of_token token.now)) result context.new }
+    ensures { TakesToken (step_after_signs context.old owner sign (terminal_of_token token.now)) result context.new }
 {
     match token.kind {
         TerminalKind::Sign(more) => Ok(State::Signs(owner, sign.times(more))),
-        TerminalKind::Name => take_term(context, owner, token.text, sign.of(Decimal::one())),
+        TerminalKind::Name => end_term(context, owner, token.text, sign.of(Decimal::one())),
         TerminalKind::Number(value) => Ok(State::ItemNumber(owner, sign, value)),
         _ => refuse(context, token, FaultKind::BadToken),
     }
@@ -113,7 +113,7 @@ pub(crate) fn begin_item(
 {
     match token.kind {
         TerminalKind::Sign(sign) => Ok(State::Signs(owner, sign)),
-        TerminalKind::Name => take_term(context, owner, token.text, Decimal::one()),
+        TerminalKind::Name => end_term(context, owner, token.text, Decimal::one()),
         TerminalKind::Number(value) => Ok(State::ItemNumber(owner, Sign::Plus, value)),
         _ => refuse(context, token, FaultKind::BadToken),
     }

@@ -3,7 +3,7 @@
 ghost use Rattle.mpslp_lp_grammar.specs.Laws.{StepsFollowRules, TextsEndAfterEnd};
 
 /// A token is taken as the rules of the grammar say: what they say of some tokens is what they say of those after the first
-/// one, in the state that [`take`](crate::take) leads to, or the error that it returns.
+/// one, in the state that [`step`](crate::step) leads to, or the error that it returns.
 pub fn steps_follow_rules()
     ensures { StepsFollowRules }
 {}

@@ -5,7 +5,7 @@
 //! `Grammar`), and the same grammar token by token, in terms of what a reader keeps (`TokenByToken`, `AfterToken`,
 //! `FirstToken`, `TokenStep`).
 //!
-//! [`classify`] returns what the grammar sees of a token, or the lexical error of the token. [`take`] takes a token, going from
+//! [`classify`] returns what the grammar sees of a token, or the lexical error of the token. [`step`] takes a token, going from
 //! one [`State`] to the next, and passes what it declares to the builder in the [`Context`]. [`laws`] has that both
 //! definitions of the grammar agree. `mpslp_lp` takes the tokens of lines.
 #![tactic(auto)]
@@ -36,4 +36,4 @@ pub use sides::{flip, limit_of_terminal};
 pub use signs::Sign;
 pub use states::{ListSection, PartialRow, Place, State};
 pub use terminals::{TerminalKind, TerminalToken, classify, classify_found};
-pub use token_step::take;
+pub use token_step::step;

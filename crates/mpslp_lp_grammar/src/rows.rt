@@ -17,7 +17,7 @@ ghost use Rattle.mpslp_lp_grammar.specs.FirstToken.{begin_row};
 use crate::answers::{at_place, refuse};
 use crate::context::Context;
 use crate::given_limit::GivenLimit;
-use crate::items::take_term;
+use crate::items::end_term;
 use crate::signs::Sign;
 use crate::states::{ItemOwner, PartialRow, Place, State};
 use crate::terminals::{TerminalKind, TerminalToken};
@@ -74,7 +74,7 @@ pub(crate) fn begin_row(
         TerminalKind::Number(value) => Ok(State::RowNumber(name, Sign::Plus, value)),
         TerminalKind::Name => {
             let row = context.builder.row_without_terms(name, None)?;
-            take_term(context, ItemOwner::OfRow(row), token.text, Decimal::one())
+            end_term(context, ItemOwner::OfRow(row), token.text, Decimal::one())
         }
         TerminalKind::Sign(sign) => Ok(State::RowSign(name, sign)),
         _ => refuse(context, token, FaultKind::BadToken),

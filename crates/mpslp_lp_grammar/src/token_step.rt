@@ -3,17 +3,17 @@
 ghost use Rattle.std.specs.Prelude.{◌≡◌, Some, None};
 ghost use Rattle.mpslp_lp_grammar.specs.TerminalToken.{HasLegalName, terminal_of_token};
 ghost use Rattle.mpslp_lp_grammar.specs.Declares.{TakesToken};
-ghost use Rattle.mpslp_lp_grammar.specs.TokenStep.{refuse_constant, take_after_lone_number, take};
+ghost use Rattle.mpslp_lp_grammar.specs.TokenStep.{refuse_constant, step_after_lone_number, step};
 ghost use Rattle.mpslp_lp_grammar.specs.Terminal.{Terminal};
 ghost use Rattle.mpslp_lp_grammar.specs.declared.states.ItemOwner.{ItemOwner};
 ghost use Rattle.mpslp_lp_grammar.specs.declared.states.State.{State};
 
 use crate::answers::{at_place, refuse};
-use crate::bounds::{take_bound_column, take_free, take_side_value};
+use crate::bounds::{end_free_bound, step_after_bound_column, step_at_side_value};
 use crate::context::Context;
 use crate::first_token::{begin, begin_phrase_after};
 use crate::given_limit::GivenLimit;
-use crate::items::{begin_item, take_after_signs, take_term};
+use crate::items::{begin_item, end_term, step_after_signs};
 use crate::rows::begin_row;
 use crate::sides::limit_of_terminal;
 use crate::signs::Sign;
@@ -26,13 +26,13 @@ use mpslp_model::laws::each_name_is_legal;
 use mpslp_model::{FaultKind, Name, Sense};
 
 /// Takes a token after the word of the objective.
-fn take_at_objective(
+fn step_at_objective(
     context: &mut Context,
     sense: Sense,
     token: &TerminalToken<'_>,
 ) -> Result<State, LineError>
     requires { HasLegalName token.now }
-    ensures { TakesToken (take context.old (State.AtObjective sense) (terminal_of_token token.now)) result context.new }
+    ensures { TakesToken (step context.old (State.AtObjective sense) (terminal_of_token token.now)) result context.new }
 {
     match token.kind {
         TerminalKind::Name => Ok(State::ObjectiveName(sense, context.builder.copied(token.text)?)),
@@ -46,8 +46,8 @@ fn take_at_objective(
 }
 
 /// Takes the colon after the label of the objective.
-fn take_objective_label(context: &mut Context, sense: Sense, name: Name) -> Result<State, LineError>
-    ensures { TakesToken (take context.old (State.ObjectiveName sense name) Terminal.Colon) result context.new }
+fn end_objective_label(context: &mut Context, sense: Sense, name: Name) -> Result<State, LineError>
+    ensures { TakesToken (step context.old (State.ObjectiveName sense name) Terminal.Colon) result context.new }
 {
     each_name_is_legal(&name);
     let copy = context.builder.copied(name.as_bytes())?;
@@ -58,17 +58,17 @@ fn take_objective_label(context: &mut Context, sense: Sense, name: Name) -> Resu
 }
 
 /// Takes the token after a name that follows `minimize` or `maximize` and may be a label.
-fn take_after_objective_name(
+fn step_after_objective_name(
     context: &mut Context,
     sense: Sense,
     name: Name,
     token: &TerminalToken<'_>,
 ) -> Result<State, LineError>
     requires { HasLegalName token.now }
-    ensures { TakesToken (take context.old (State.ObjectiveName sense name) (terminal_of_token token.now)) result context.new }
+    ensures { TakesToken (step context.old (State.ObjectiveName sense name) (terminal_of_token token.now)) result context.new }
 {
     match token.kind {
-        TerminalKind::Colon => take_objective_label(context, sense, name),
+        TerminalKind::Colon => end_objective_label(context, sense, name),
         _ => {
             each_name_is_legal(&name);
             let objective = context.builder.default_objective()?;
@@ -79,12 +79,12 @@ fn take_after_objective_name(
 }
 
 /// Takes the last word of a section heading.
-fn take_last_word(
+fn step_at_last_word(
     context: &mut Context,
     wanted: LastWord,
     token: &TerminalToken<'_>,
 ) -> Result<State, LineError>
-    ensures { TakesToken (take context.old (State.AtLastWord wanted) (terminal_of_token token.now)) result context.new }
+    ensures { TakesToken (step context.old (State.AtLastWord wanted) (terminal_of_token token.now)) result context.new }
 {
     match token.kind {
         TerminalKind::Name => {
@@ -99,9 +99,9 @@ fn take_last_word(
 }
 
 /// Takes the token after `semi`.
-fn take_after_semi(context: &mut Context, token: &TerminalToken<'_>) -> Result<State, LineError>
+fn step_after_semi(context: &mut Context, token: &TerminalToken<'_>) -> Result<State, LineError>
     requires { HasLegalName token.now }
-    ensures { TakesToken (take context.old State.AtSemi (terminal_of_token token.now)) result context.new }
+    ensures { TakesToken (step context.old State.AtSemi (terminal_of_token token.now)) result context.new }
 {
     match token.kind {
         TerminalKind::Sign(Sign::Minus) => Ok(State::AtLastWord(LastWord::Continuous)),
@@ -110,14 +110,14 @@ fn take_after_semi(context: &mut Context, token: &TerminalToken<'_>) -> Result<S
 }
 
 /// Takes the token after a number in the objective that no name follows: the constant.
-fn take_constant(
+fn end_constant(
     context: &mut Context,
     objective: Name,
     value: Decimal,
     token: &TerminalToken<'_>,
 ) -> Result<State, LineError>
     requires { HasLegalName token.now }
-    ensures { TakesToken (take_after_lone_number context.old (ItemOwner.OfObjective objective) value (terminal_of_token token.now)) result context.new }
+    ensures { TakesToken (step_after_lone_number context.old (ItemOwner.OfObjective objective) value (terminal_of_token token.now)) result context.new }
 {
     match token.kind {
         TerminalKind::Sign(_) | TerminalKind::Opens(_) => {
@@ -143,23 +143,23 @@ fn refuse_constant(context: &Context, token: &TerminalToken<'_>) -> Result<State
 }
 
 /// Takes the token after a number that no name follows.
-fn take_after_lone_number(
+fn step_after_lone_number(
     context: &mut Context,
     owner: ItemOwner,
     value: Decimal,
     token: &TerminalToken<'_>,
 ) -> Result<State, LineError>
     requires { HasLegalName token.now }
-    ensures { TakesToken (take_after_lone_number context.old owner value (terminal_of_token token.now)) result context.new }
+    ensures { TakesToken (step_after_lone_number context.old owner value (terminal_of_token token.now)) result context.new }
 {
     match owner {
-        ItemOwner::OfObjective(name) => take_constant(context, name, value, token),
+        ItemOwner::OfObjective(name) => end_constant(context, name, value, token),
         ItemOwner::OfRow(_row) => refuse_constant(context, token),
     }
 }
 
 /// Takes the token after the number of an item.
-fn take_after_number(
+fn step_after_number(
     context: &mut Context,
     owner: ItemOwner,
     sign: Sign,
@@ -167,22 +167,22 @@ fn take_after_number(
     token: &TerminalToken<'_>,
 ) -> Result<State, LineError>
     requires { HasLegalName token.now }
-    ensures { TakesToken (take context.old (State.ItemNumber owner sign value) (terminal_of_token token.now)) result context.new }
+    ensures { TakesToken (step context.old (State.ItemNumber owner sign value) (terminal_of_token token.now)) result context.new }
 {
     match token.kind {
-        TerminalKind::Name => take_term(context, owner, token.text, sign.of(value)),
-        _ => take_after_lone_number(context, owner, sign.of(value), token),
+        TerminalKind::Name => end_term(context, owner, token.text, sign.of(value)),
+        _ => step_after_lone_number(context, owner, sign.of(value), token),
     }
 }
 
 /// Takes the token after a name at the start of a row, which may be a label.
-fn take_after_row_name(
+fn step_after_row_name(
     context: &mut Context,
     name: Name,
     token: &TerminalToken<'_>,
 ) -> Result<State, LineError>
     requires { HasLegalName token.now }
-    ensures { TakesToken (take context.old (State.RowName name) (terminal_of_token token.now)) result context.new }
+    ensures { TakesToken (step context.old (State.RowName name) (terminal_of_token token.now)) result context.new }
 {
     match token.kind {
         TerminalKind::Colon => Ok(State::RowLabel(name)),
@@ -198,28 +198,28 @@ fn take_after_row_name(
 }
 
 /// Takes the token after the first sign of a row.
-fn take_after_row_sign(
+fn step_after_row_sign(
     context: &mut Context,
     name: Name,
     sign: Sign,
     token: &TerminalToken<'_>,
 ) -> Result<State, LineError>
     requires { HasLegalName token.now }
-    ensures { TakesToken (take context.old (State.RowSign name sign) (terminal_of_token token.now)) result context.new }
+    ensures { TakesToken (step context.old (State.RowSign name sign) (terminal_of_token token.now)) result context.new }
 {
     match token.kind {
         TerminalKind::Infinity => Ok(State::RowLeft(name, GivenLimit::infinity(sign))),
         TerminalKind::Number(value) => Ok(State::RowNumber(name, sign, value)),
         TerminalKind::Sign(_) | TerminalKind::Name => {
             let row = context.builder.row_without_terms(name, None)?;
-            take_after_signs(context, ItemOwner::OfRow(row), sign, token)
+            step_after_signs(context, ItemOwner::OfRow(row), sign, token)
         }
         _ => refuse(context, token, FaultKind::BadToken),
     }
 }
 
 /// Takes the token after the first number of a row.
-fn take_after_row_number(
+fn step_after_row_number(
     context: &mut Context,
     name: Name,
     sign: Sign,
@@ -227,12 +227,12 @@ fn take_after_row_number(
     token: &TerminalToken<'_>,
 ) -> Result<State, LineError>
     requires { HasLegalName token.now }
-    ensures { TakesToken (take context.old (State.RowNumber name sign value) (terminal_of_token token.now)) result context.new }
+    ensures { TakesToken (step context.old (State.RowNumber name sign value) (terminal_of_token token.now)) result context.new }
 {
     match token.kind {
         TerminalKind::Name => {
             let row = context.builder.row_without_terms(name, None)?;
-            take_term(context, ItemOwner::OfRow(row), token.text, sign.of(value))
+            end_term(context, ItemOwner::OfRow(row), token.text, sign.of(value))
         }
         TerminalKind::Compares(relation) => {
             let left = Some((GivenLimit::of(sign.of(value)), relation));
@@ -243,13 +243,13 @@ fn take_after_row_number(
 }
 
 /// Takes the token after the left-hand side of a row.
-fn take_row_relation(
+fn step_after_row_limit(
     context: &mut Context,
     name: Name,
     limit: GivenLimit,
     token: &TerminalToken<'_>,
 ) -> Result<State, LineError>
-    ensures { TakesToken (take context.old (State.RowLeft name limit) (terminal_of_token token.now)) result context.new }
+    ensures { TakesToken (step context.old (State.RowLeft name limit) (terminal_of_token token.now)) result context.new }
 {
     match token.kind {
         TerminalKind::Compares(relation) => {
@@ -261,15 +261,15 @@ fn take_row_relation(
 }
 
 /// Takes the token after the column of a bound.
-fn take_after_bound_name(
+fn step_after_bound_name(
     context: &mut Context,
     column: Name,
     token: &TerminalToken<'_>,
 ) -> Result<State, LineError>
-    ensures { TakesToken (take context.old (State.BoundName column) (terminal_of_token token.now)) result context.new }
+    ensures { TakesToken (step context.old (State.BoundName column) (terminal_of_token token.now)) result context.new }
 {
     match token.kind {
-        TerminalKind::Free => take_free(context, column),
+        TerminalKind::Free => end_free_bound(context, column),
         TerminalKind::Compares(relation) => {
             Ok(State::AtSide(SideOwner::SideOfBound(true, column, relation)))
         }
@@ -278,12 +278,12 @@ fn take_after_bound_name(
 }
 
 /// Takes the token after the sign of a bound's left-hand side.
-fn take_after_bound_sign(
+fn step_after_bound_sign(
     context: &mut Context,
     sign: Sign,
     token: &TerminalToken<'_>,
 ) -> Result<State, LineError>
-    ensures { TakesToken (take context.old (State.BoundSign sign) (terminal_of_token token.now)) result context.new }
+    ensures { TakesToken (step context.old (State.BoundSign sign) (terminal_of_token token.now)) result context.new }
 {
     match limit_of_terminal(sign, token) {
         Some(limit) => Ok(State::BoundLeft(limit)),
@@ -292,12 +292,12 @@ fn take_after_bound_sign(
 }
 
 /// Takes the token after the left-hand side of a bound.
-fn take_bound_relation(
+fn step_after_bound_limit(
     context: &mut Context,
     limit: GivenLimit,
     token: &TerminalToken<'_>,
 ) -> Result<State, LineError>
-    ensures { TakesToken (take context.old (State.BoundLeft limit) (terminal_of_token token.now)) result context.new }
+    ensures { TakesToken (step context.old (State.BoundLeft limit) (terminal_of_token token.now)) result context.new }
 {
     match token.kind {
         TerminalKind::Compares(relation) => Ok(State::BoundLeftRelation(limit, relation)),
@@ -306,32 +306,32 @@ fn take_bound_relation(
 }
 
 /// Takes the token after the relation that follows the left-hand side of a bound.
-fn take_after_bound_relation(
+fn step_after_bound_relation(
     context: &mut Context,
     limit: GivenLimit,
     relation: Relation,
     token: &TerminalToken<'_>,
 ) -> Result<State, LineError>
     requires { HasLegalName token.now }
-    ensures { TakesToken (take context.old (State.BoundLeftRelation limit relation) (terminal_of_token token.now)) result context.new }
+    ensures { TakesToken (step context.old (State.BoundLeftRelation limit relation) (terminal_of_token token.now)) result context.new }
 {
     match token.kind {
-        TerminalKind::Name => take_bound_column(context, &limit, relation, token.text),
+        TerminalKind::Name => step_after_bound_column(context, &limit, relation, token.text),
         _ => refuse(context, token, FaultKind::BadToken),
     }
 }
 
 /// Takes the first token of a right-hand side.
-fn take_at_side(
+fn step_at_side(
     context: &mut Context,
     sided: SideOwner,
     token: &TerminalToken<'_>,
 ) -> Result<State, LineError>
-    ensures { TakesToken (take context.old (State.AtSide sided) (terminal_of_token token.now)) result context.new }
+    ensures { TakesToken (step context.old (State.AtSide sided) (terminal_of_token token.now)) result context.new }
 {
     match token.kind {
         TerminalKind::Sign(sign) => Ok(State::SideSign(sided, sign)),
-        _ => take_side_value(context, sided, Sign::Plus, token),
+        _ => step_at_side_value(context, sided, Sign::Plus, token),
     }
 }
 
@@ -342,40 +342,40 @@ fn take_at_side(
 /// `Fault` if the grammar does not allow the token here, or if what it declares is rejected; the error of a section word in the
 /// wrong place comes before all others. `OutOfMemory` if an allocation fails. After an error nothing is known of the context.
 #[inline(always)]
-pub fn take(
+pub fn step(
     context: &mut Context,
     state: State,
     token: &TerminalToken<'_>,
 ) -> Result<State, LineError>
     requires { HasLegalName token.now }
-    ensures { TakesToken (take context.old state (terminal_of_token token.now)) result context.new }
+    ensures { TakesToken (step context.old state (terminal_of_token token.now)) result context.new }
 {
     match state {
         State::Between(place) => begin(context, place, token),
-        State::AtObjective(sense) => take_at_objective(context, sense, token),
-        State::ObjectiveName(sense, name) => take_after_objective_name(context, sense, name, token),
-        State::AtLastWord(wanted) => take_last_word(context, wanted, token),
-        State::AtSemi => take_after_semi(context, token),
-        State::Signs(owner, sign) => take_after_signs(context, owner, sign, token),
+        State::AtObjective(sense) => step_at_objective(context, sense, token),
+        State::ObjectiveName(sense, name) => step_after_objective_name(context, sense, name, token),
+        State::AtLastWord(wanted) => step_at_last_word(context, wanted, token),
+        State::AtSemi => step_after_semi(context, token),
+        State::Signs(owner, sign) => step_after_signs(context, owner, sign, token),
         State::ItemNumber(owner, sign, value) => {
-            take_after_number(context, owner, sign, value, token)
+            step_after_number(context, owner, sign, value, token)
         }
-        State::RowName(name) => take_after_row_name(context, name, token),
+        State::RowName(name) => step_after_row_name(context, name, token),
         State::RowLabel(name) => begin_row(context, name, token),
-        State::RowSign(name, sign) => take_after_row_sign(context, name, sign, token),
+        State::RowSign(name, sign) => step_after_row_sign(context, name, sign, token),
         State::RowNumber(name, sign, value) => {
-            take_after_row_number(context, name, sign, value, token)
+            step_after_row_number(context, name, sign, value, token)
         }
-        State::RowLeft(name, limit) => take_row_relation(context, name, limit, token),
+        State::RowLeft(name, limit) => step_after_row_limit(context, name, limit, token),
         State::RowLeftRelation(row) => begin_item(context, ItemOwner::OfRow(row), token),
-        State::BoundName(column) => take_after_bound_name(context, column, token),
-        State::BoundSign(sign) => take_after_bound_sign(context, sign, token),
-        State::BoundLeft(limit) => take_bound_relation(context, limit, token),
+        State::BoundName(column) => step_after_bound_name(context, column, token),
+        State::BoundSign(sign) => step_after_bound_sign(context, sign, token),
+        State::BoundLeft(limit) => step_after_bound_limit(context, limit, token),
         State::BoundLeftRelation(limit, relation) => {
-            take_after_bound_relation(context, limit, relation, token)
+            step_after_bound_relation(context, limit, relation, token)
         }
-        State::AtSide(sided) => take_at_side(context, sided, token),
-        State::SideSign(sided, sign) => take_side_value(context, sided, sign, token),
+        State::AtSide(sided) => step_at_side(context, sided, token),
+        State::SideSign(sided, sign) => step_at_side_value(context, sided, sign, token),
         State::AfterEnd => refuse(context, token, FaultKind::BadToken),
     }
 }

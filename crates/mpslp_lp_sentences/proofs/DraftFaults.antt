@@ -11,10 +11,10 @@ use Prelude.{kind_of_build_fault, Objective, Bounds, Generals, Binaries, SemiCon
 use Prelude.{OfObjective, OfRow, Place, AtStart, BeforeItems, InObjective, BetweenRows, InBounds, InGenerals, InBinaries, InSemis}
 use Prelude.{SideOwner, SideOfRow, SideOfBound, State, Between, AtObjective, ObjectiveName, AtSemi, Signs, ItemNumber, RowLabel, BoundName}
 use Prelude.{BoundLeftRelation, AtSide, SideSign, AfterToken, Goes, Refuses, refuse, with_made, declare_unless_refused}
-use Prelude.{take_after_declarations, declare_at, take_term, begin_item, take_bound, take_side, no_limits, open_section}
-use Prelude.{begin_row, take_second_relation, begin_phrase, begin, Limits, limits_by, flip, term_declared, objective_declared}
+use Prelude.{step_after_declarations, declare_at, end_term, begin_item, end_bound, end_side, no_limits, open_section}
+use Prelude.{begin_row, step_at_second_relation, begin_phrase, begin, Limits, limits_by, flip, term_declared, objective_declared}
 use Prelude.{default_objective, first_item_declared, row_limits, row_declared, PartialRow, start, Terminal, Opens, Name, Sign}
-use Prelude.{Compares, Colon, Free, new_column, begin_phrase_after, take_after_lone_number, take, IsInWords, is_section, current_section}
+use Prelude.{Compares, Colon, Free, new_column, begin_phrase_after, step_after_lone_number, step, IsInWords, is_section, current_section}
 use Prelude.{is_under, is_named, collected, names_again, ends_in_number, ends_in_sign, may_follow_constant, completes_constant}
 use Prelude.{has_constant_before, repeats_constant, gives_lower, gives_upper, last_name, column_before, after_sign}
 use Prelude.{completed, completes_bound, repeats_bound, names_integer, names_semi, changes_kind}
@@ -156,19 +156,19 @@ declared context earlier token place made shown refusal n = by (refusals_in_turn
 declared-before : (context : Context) (earlier : List Terminal) (token : Terminal) (made : Declarations) (next : AfterToken)
     → list_all (is_shown (token ∷ earlier)) made ≡ true
     → Refused earlier token context.builder made → Steps earlier (with_declarations context.builder made) token next
-    → Steps earlier context.builder token (take_after_declarations context token (refusals_in_turn context.builder made)
+    → Steps earlier context.builder token (step_after_declarations context token (refusals_in_turn context.builder made)
     made next)
 declared-before context earlier token made next shown refusal h n = by (refusals_in_turn context.builder made) refl
   where
     by : (refusals : List BuildFault) → refusals_in_turn context.builder made ≡ refusals
-        → KeepsShown earlier token (take_after_declarations context token refusals made next)
+        → KeepsShown earlier token (step_after_declarations context token refusals made next)
     by [] e = h (shown-all made _ _ n shown)
     by (first ∷ _) e = refused context earlier token _ (says-by _ _ _ _ refusal _ (first-refused made _ _ _ e))
 
 -- ---- terms and rows
 
 term : (context : Context) (owner : ItemOwner) (column : List ℕ) (value : Decimal) (earlier : List Terminal)
-    → Steps earlier context.builder (Name column) (take_term context owner column value (Name column))
+    → Steps earlier context.builder (Name column) (end_term context owner column value (Name column))
 term context owner column value earlier n = grind arith
 
 terms-shown : (earlier : List Terminal) (name : List ℕ) (terms : List (List ℕ × Decimal))
@@ -180,7 +180,7 @@ never : (b : Bool) {X : Type 0} → b ≡ false → b ≡ true → X
 never b e k = grind arith
 
 row_side : (context : Context) (row : PartialRow) (relation : Relation) (l : Limit) (earlier : List Terminal) (token : Terminal)
-    → Steps earlier context.builder token (take_side context (SideOfRow row relation) l token)
+    → Steps earlier context.builder token (end_side context (SideOfRow row relation) l token)
 row_side context row relation l earlier token n = declared context _ _ BetweenRows
     (row_declared row (row_limits row.left relation l)) (terms-shown (token ∷ earlier) row.name row.terms) (record {
       bound = λ e. never _ (terms-refuse kinds.DuplicateBound refl refl refl row.name row.terms _) e;
@@ -208,7 +208,7 @@ bounds-shown earlier token column limits h = search (rules, both_so, named-now)
 
 bound : (context : Context) (is_new : Bool) (column : List ℕ) (limits : Limits) (earlier : List Terminal)
     (token : Terminal) (place : Place) → Shown earlier context.builder → Completes earlier token column limits
-    → KeepsShown earlier token (take_bound context (new_column is_new column) column limits token place)
+    → KeepsShown earlier token (end_bound context (new_column is_new column) column limits token place)
 bound context is_new column limits earlier token place shown h = by (not (has_column front column))
     ((is_some limits.lower && has_name front.lowers column) || (is_some limits.upper && has_name front.uppers column))
     (option_map_or is_plus_infinite limits.lower false || option_map_or is_minus_infinite limits.upper false)
@@ -354,7 +354,7 @@ row : (context : Context) (label : List ℕ) (earlier : List Terminal) (token : 
 row = grind arith
 
 second : (context : Context) (left : Option (List ℕ × Relation)) (earlier : List Terminal) (relation : Relation)
-    → Steps earlier context.builder (Compares relation) (take_second_relation context left relation (Compares relation))
+    → Steps earlier context.builder (Compares relation) (step_at_second_relation context left relation (Compares relation))
 second context left earlier relation n = grind arith
 
 -- what is known where names are listed
@@ -388,7 +388,7 @@ first = grind (arith, begin-by, opened, bad, phrase)
 
 lone : (context : Context) (owner : ItemOwner) (value : Decimal) (earlier : List Terminal)
     → Shown earlier context.builder → current_section earlier ≡ section_of_item owner → NumberShape owner earlier
-    → (token : Terminal) → Steps earlier context.builder token (take_after_lone_number context owner value token)
+    → (token : Terminal) → Steps earlier context.builder token (step_after_lone_number context owner value token)
 lone context (OfObjective objective) value earlier shown here last token =
     lone-by (Steps earlier context.builder) context objective value (bad context earlier context.builder)
     (λ sign. complete (Sign sign) refl) (λ word. complete (Opens word) refl) token
@@ -420,20 +420,20 @@ first-refused_none = grind arith
 
 side : (context : Context) (sided : SideOwner) (l : Limit) (earlier : List Terminal) (token : Terminal)
     → Shown earlier context.builder → current_section earlier ≡ section_of_side sided
-    → SideShape sided earlier → IsValue token → Steps earlier context.builder token (take_side context sided l token)
+    → SideShape sided earlier → IsValue token → Steps earlier context.builder token (end_side context sided l token)
 side context (SideOfRow partial relation) l _ _ _ _ _ _ = row_side context partial relation l _ _
 side _ (SideOfBound _ _ _) l _ _ shown here shape value =
     λ n. bound _ _ _ _ _ _ _ shown (side-completes _ _ _ l _ value here (λ gives k. grind arith))
 
 signed_side : (context : Context) (sided : SideOwner) (l : Limit) (earlier : List Terminal) (token : Terminal)
     → Shown earlier context.builder → current_section earlier ≡ section_of_side sided
-    → SignedSideShape sided earlier → IsValue token → Steps earlier context.builder token (take_side context sided l token)
+    → SignedSideShape sided earlier → IsValue token → Steps earlier context.builder token (end_side context sided l token)
 signed_side context (SideOfRow partial relation) l _ _ _ _ _ _ = row_side context partial relation l _ _
 signed_side _ (SideOfBound is_new _ _) l _ _ shown here shape value =
     λ n. bound _ _ _ _ _ _ _ shown (side-completes _ _ _ l _ value here (λ gives k. grind arith))
 
 step : (context : Context) (state : State) (earlier : List Terminal) → Shown earlier context.builder → current_section earlier
-    ≡ section_at state → Shape state earlier → (token : Terminal) → Steps earlier context.builder token (take context state token)
+    ≡ section_at state → Shape state earlier → (token : Terminal) → Steps earlier context.builder token (step context state token)
 step _ (Between _) _ shown here shape _ = first _ _ _ (grind arith) _
 step context (AtObjective sense) earlier _ _ _ _ = objective-by (Steps earlier context.builder) _ _
     (λ name n. n) (λ t. started context _ _ (BeforeItems default_objective) tt t refl
@@ -468,18 +468,18 @@ pub none-known : Known [] start.context (Between AtStart)
 none-known = grind arith
 
 taken : (earlier : List Terminal) (context : Context) (state : State) (token : Terminal)
-    → Known earlier context state → KeepsShown earlier token (take context state token)
+    → Known earlier context state → KeepsShown earlier token (step context state token)
 taken _ _ _ _ known = step _ _ _ known.shown known.shaped.opened.current known.shaped.shape _ (shown-later _ _ _ known.shown)
 
 pub known-later : (earlier : List Terminal) (context : Context) (state : State) (token : Terminal) (after : Context)
-    (next : State) → Known earlier context state → take context state token ≡ Goes after next → Known (token ∷ earlier) after next
+    (next : State) → Known earlier context state → step context state token ≡ Goes after next → Known (token ∷ earlier) after next
 known-later earlier _ _ token _ _ known h = record {
   shaped = shaped-later _ _ _ _ _ _ known.shaped h;
   shown = subst (λ answer. KeepsShown earlier token answer) h (taken _ _ _ _ known);
 }
 
 says : (kind : FaultKind) (earlier : List Terminal) (context : Context) (state : State) (token : Terminal)
-    → Known earlier context state → take context state token ≡ Refuses kind → Says earlier token kind
+    → Known earlier context state → step context state token ≡ Refuses kind → Says earlier token kind
 says _ earlier _ _ token known h = subst (λ answer. KeepsShown earlier token answer) h (taken _ _ _ _ known)
 
 pub duplicate-bound : IsInWords kinds.DuplicateBound repeats_bound

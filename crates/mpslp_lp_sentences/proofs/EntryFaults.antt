@@ -8,11 +8,11 @@ use Prelude.{has_name, has_coefficient, has_row, have_infinite_side, refusals_in
 use Prelude.{kind_of_build_fault, Objective, Rows, SectionWord, Context, Relation, SignOf, ItemOwner, OfObjective, OfRow, Place}
 use Prelude.{AtStart, BeforeItems, InObjective, BetweenRows, InRow, InBounds, InSemis, SideOwner, SideOfRow, SideOfBound, State, Between}
 use Prelude.{AtObjective, ObjectiveName, AtSemi, Signs, ItemNumber, RowLeftRelation, BoundName, BoundLeftRelation, AtSide, SideSign}
-use Prelude.{AfterEnd, AfterToken, Goes, Refuses, refuse, with_made, declare_unless_refused, take_after_declarations, declare_at, take_term}
-use Prelude.{begin_item, take_bound, take_side, no_limits, may_begin_section, open_section, begin_row}
-use Prelude.{take_second_relation, name_taken, begin_phrase, begin, one, apply_sign, infinity, Limits, limits_by, flip, term_declared}
+use Prelude.{AfterEnd, AfterToken, Goes, Refuses, refuse, with_made, declare_unless_refused, step_after_declarations, declare_at, end_term}
+use Prelude.{begin_item, end_bound, end_side, no_limits, may_begin_section, open_section, begin_row}
+use Prelude.{step_at_second_relation, name_taken, begin_phrase, begin, one, apply_sign, infinity, Limits, limits_by, flip, term_declared}
 use Prelude.{objective_declared, default_objective, first_item_declared, without_terms, row_limits, row_declared, PartialRow}
-use Prelude.{Terminal, Opens, Name, Number, Sign, Compares, Colon, Infinity, Free, new_column, take_after_lone_number, take, AreNew}
+use Prelude.{Terminal, Opens, Name, Number, Sign, Compares, Colon, Infinity, Free, new_column, step_after_lone_number, step, AreNew}
 use Prelude.{IsInWords, current_section, is_under, is_named, last_name, term_columns, repeats_entry}
 use Rattle.mpslp_model_core.specs.Model.{CoefficientKey}
 use Rattle.mpslp_builder.specs.Declaration.{is_objective}
@@ -117,11 +117,11 @@ declared context earlier token place made refusal known entries = by (refusals_i
 
 declared-before : (context : Context) (earlier : Tokens) (token : Terminal) (made : Declarations) (next : AfterToken)
     → refuses kinds.DuplicateEntry context.builder made ≡ false → KeepsEntries earlier token next
-    → KeepsEntries earlier token (take_after_declarations context token (refusals_in_turn context.builder made) made next)
+    → KeepsEntries earlier token (step_after_declarations context token (refusals_in_turn context.builder made) made next)
 declared-before context earlier token made next unrefused h = by (refusals_in_turn context.builder made) refl
   where
     by : (refusals : List BuildFault) → refusals_in_turn context.builder made ≡ refusals
-        → KeepsEntries earlier token (take_after_declarations context token refusals made next)
+        → KeepsEntries earlier token (step_after_declarations context token refusals made next)
     by [] e = h
     by (first ∷ _) e = refused context earlier token _
         (says-by earlier _ _ made (λ k. never unrefused k) _ (first-refused made _ _ _ e))
@@ -129,7 +129,7 @@ declared-before context earlier token made next unrefused h = by (refusals_in_tu
 bound : (context : Context) (is_new : Bool)
     (column : List ℕ) (limits : Limits) (earlier : Tokens) (token : Terminal) (left : Option (List ℕ × Relation)) →
     AreKnown context.builder → KeepsEntries earlier token
-    (take_bound context (new_column is_new column) column limits token (InBounds left))
+    (end_bound context (new_column is_new column) column limits token (InBounds left))
 bound context is_new column limits earlier token left known = by _ _ _
   where
     front : Draft
@@ -169,7 +169,7 @@ terms-unrefused name (term ∷ terms) seen all new known = none _ refl _ (terms-
 
 row_ended : (context : Context) (row : PartialRow) (relation : Relation) (l : Limit) (earlier : Tokens) (token : Terminal)
     → AreKnown context.builder → AreNew [] row.terms →
-    KeepsEntries earlier token (take_side context (SideOfRow row relation) l token)
+    KeepsEntries earlier token (end_side context (SideOfRow row relation) l token)
 row_ended context row relation l earlier token known new = by (has_row context.builder row.name) refl (have_infinite_side form)
   where
     form : RowDefinition
@@ -222,7 +222,7 @@ repeats = grind arith
 
 term : (context : Context) (owner : ItemOwner) (column : List ℕ) (value : Decimal) (earlier : Tokens) → AreKnown context.builder
     → Owned owner earlier context.builder →
-    KeepsEntries earlier (Name column) (take_term context owner column value (Name column))
+    KeepsEntries earlier (Name column) (end_term context owner column value (Name column))
 term context (OfObjective name) column value earlier known h =
     grind (arith, declared, repeats, known-more, or_left, has-put_key, or_right)
 term context (OfRow _) column _ earlier known h =
@@ -261,7 +261,7 @@ row = grind arith
 
 second : (context : Context) (left : Option (List ℕ × Relation)) (earlier : Tokens) → AreKnown context.builder
     → (relation : Relation) → KeepsEntries earlier (Compares relation)
-    (take_second_relation context left relation (Compares relation))
+    (step_at_second_relation context left relation (Compares relation))
 second = grind arith
 
 listed : (place : Place) (kind_declared : List ℕ → Declaration) (context : Context) (earlier : Tokens) → AreKnown context.builder
@@ -296,7 +296,7 @@ first place context earlier known h shape here token = begin-by (KeepsEntries ea
 
 lone : (context : Context) (owner : ItemOwner) (value : Decimal) (earlier : Tokens)
     → AreKnown context.builder → OwnerEntries owner earlier context.builder → current_section earlier ≡ section_of_item owner
-    → (token : Terminal) → KeepsEntries earlier token (take_after_lone_number context owner value token)
+    → (token : Terminal) → KeepsEntries earlier token (step_after_lone_number context owner value token)
 lone context owner value earlier known h here token = grind arith
 
 -- ---- the objective
@@ -306,7 +306,7 @@ none-there = grind arith
 
 first_objective : (context : Context) (sense : Sense) (earlier : Tokens) → AreKnown context.builder →
     context.builder ≡ empty_draft → current_section earlier ≡ Some Objective → (token : Terminal) →
-    KeepsEntries earlier token (take context (AtObjective sense) token)
+    KeepsEntries earlier token (step context (AtObjective sense) token)
 first_objective context sense earlier known none here _ = objective-by (KeepsEntries earlier) _ _ (λ label. (known, tt))
     (λ t. declared-before context _ t (objective_declared sense default_objective) _ (ap (λ d. refuses kinds.DuplicateEntry d
     (objective_declared sense default_objective)) none)
@@ -319,7 +319,7 @@ first_objective context sense earlier known none here _ = objective-by (KeepsEnt
 
 named_objective : (context : Context) (sense : Sense) (label : List ℕ) (earlier : Tokens)
     → context.builder ≡ empty_draft → last_name earlier ≡ Some label → current_section earlier ≡ Some Objective
-    → (token : Terminal) → KeepsEntries earlier token (take context (ObjectiveName sense label) token)
+    → (token : Terminal) → KeepsEntries earlier token (step context (ObjectiveName sense label) token)
 named_objective context sense label earlier none last here token = objective_name-by (KeepsEntries earlier) context sense label
     (declared context earlier Colon (BeforeItems label) (objective_declared sense label) (λ e. never (ap (λ (d : Draft).
     refuses kinds.DuplicateEntry d (objective_declared sense label)) none) e) (λ k e. never (none-there context.builder none k) e)
@@ -349,7 +349,7 @@ named_objective context sense label earlier none last here token = objective_nam
 -- ---- each state
 
 side : (context : Context) (sided : SideOwner) (l : Limit) (earlier : Tokens) (token : Terminal)
-    → AreKnown context.builder → SideEntries sided → KeepsEntries earlier token (take_side context sided l token)
+    → AreKnown context.builder → SideEntries sided → KeepsEntries earlier token (end_side context sided l token)
 side _ (SideOfRow row _) l _ _ known h = row_ended _ row _ l _ _ known h
 side context (SideOfBound is_new column relation) l earlier token known h =
     bound context is_new column (limits_by relation l) earlier token None known
@@ -357,7 +357,7 @@ side context (SideOfBound is_new column relation) l earlier token known h =
 step : (context : Context) (state : State) (earlier : Tokens)
     → AreKnown context.builder → EntriesAt state earlier context.builder → ObjectiveAt state earlier context.builder →
     Shape state earlier → current_section earlier ≡ section_at state → (token : Terminal) →
-    KeepsEntries earlier token (take context state token)
+    KeepsEntries earlier token (step context state token)
 step context (Between place) earlier known h o shape here token = grind (arith, first)
 step context (AtObjective sense) earlier known h o shape here token = grind (arith, first_objective)
 step _ (ObjectiveName _ _) _ _ h o _ here _ = named_objective _ _ _ _ o.0.none o.1 here _
@@ -376,7 +376,7 @@ step context (AtSide _) earlier known h o _ _ token = side-by
     (KeepsEntries earlier) _ _ (bad context earlier) (λ sign. (known, h)) (λ value. side _ _ _ _ _ known h)
     (side _ _ _ _ _ known h) token
 step context (SideSign sided sign) earlier known h o _ _ token =
-    limit-by (KeepsEntries earlier) context (λ l t. take_side context sided l t) sign (bad context earlier)
+    limit-by (KeepsEntries earlier) context (λ l t. end_side context sided l t) sign (bad context earlier)
     (λ value. side context _ (limit_of (apply_sign sign value)) earlier (Number value) known h)
     (side context _ (infinity sign) earlier Infinity known h) token
 step context AfterEnd earlier _ h o _ _ token = bad context earlier token
@@ -390,11 +390,11 @@ record Entered (earlier : Tokens) (context : Context) (state : State) : Type 0 w
   entries : EntriesAt state earlier context.builder
 
 taken : (earlier : Tokens) (context : Context) (state : State) (token : Terminal) → Entered earlier context state →
-    KeepsEntries earlier token (take context state token)
+    KeepsEntries earlier token (step context state token)
 taken = grind (arith, step, opened)
 
 entered-later : (earlier : Tokens) (context : Context) (state : State) (token : Terminal) (after : Context) (next : State)
-    → Entered earlier context state → take context state token ≡ Goes after next → Entered (token ∷ earlier) after next
+    → Entered earlier context state → step context state token ≡ Goes after next → Entered (token ∷ earlier) after next
 entered-later earlier _ _ token _ _ h e = let parts = subst (λ answer. KeepsEntries earlier token answer) e (taken _ _ _ _ h) in
     record { rows = known-later _ _ _ _ _ _ h.rows e; known = parts.0; entries = parts.1 }
 

@@ -5,17 +5,17 @@ use Prelude.{if◌then◌else◌, list_any, list_all, cons_option, option_map, o
 use Prelude.{Draft, is_kind, number_fault, FaultTests, first_held, has_legal_length, is_legal_byte, outside_comment, Token, tokens}
 use Prelude.{name_fault, word_fault, token_fault, lexical_fault, subst, ◌++◌, append_assoc, ◌+◌, ◌-◌, ◌^◌, reverse, is_none, min}
 use Prelude.{length, flat_map, enumerate_from, append-nil, reverse-append, both_so, fault_on_line, Outcome, Finished, Refused, Open}
-use Prelude.{Terminal, terminals, start, AfterToken, Goes, Refuses, take, Context, AtStart, State, Between, outcome, fault_of, IsAtToken}
+use Prelude.{Terminal, terminals, start, AfterToken, Goes, Refuses, step, Context, AtStart, State, Between, outcome, fault_of, IsAtToken}
 use Prelude.{IsInWords, false≢true, cond, map, ◌||◌, map-append, list_any-append, Decimal, BuildFault, true_from, those_of, Declarations}
 use Prelude.{with_declaration, refusal_tests, refusals_in_turn, kind_of_build_fault, term_declared, limit_of, Limit, PlusInf, Sense}
 use Prelude.{Declaration, declare_column, declare_constant, SectionWord, Relation, SignOf, Plus, Minus, ItemOwner, OfObjective}
 use Prelude.{LastWord, Continuous, Place, BeforeItems, InObjective, InBounds, InSemis, SideOwner, SideOfBound}
 use Prelude.{AtObjective, ObjectiveName, AtLastWord, AtSemi, Signs, ItemNumber, BoundName, BoundLeftRelation}
-use Prelude.{AtSide, SideSign, refuse, with_made, declare_at, take_term, take_after_signs, begin_item, take_bound, take_side}
-use Prelude.{take_side_value, no_limits, opened_by, may_begin_section, is_last_word, open_section, name_taken, begin_phrase, begin, one}
+use Prelude.{AtSide, SideSign, refuse, with_made, declare_at, end_term, step_after_signs, begin_item, end_bound, end_side}
+use Prelude.{step_at_side_value, no_limits, opened_by, may_begin_section, is_last_word, open_section, name_taken, begin_phrase, begin, one}
 use Prelude.{product, apply_sign, infinity, limits_by, flip, objective_declared, default_objective, first_item_declared, default_row}
 use Prelude.{PartialRow, Opens, Name, Number, Sign, Compares, Colon, Infinity, Free, begin_phrase_after}
-use Prelude.{take_after_lone_number}
+use Prelude.{step_after_lone_number}
 use Rattle.std.proofs.{lemmas.Grind.reverse_onto, Math.Dec.eqb_refl}
 use Rattle.mpslp_types.specs.FaultOrder.{kind_rank, least_kind}
 use Rattle.mpslp_builder.specs.FileFault.{named_kinds, whole_fault, names_with, named_faults, file_fault}
@@ -112,9 +112,9 @@ pub record Knowing
     Type 0) : Type 0 where
   pub at_start : Knows [] start.context (Between AtStart)
   pub goes : (earlier : List Terminal) (context : Context) (state : State) (token : Terminal) (after : Context) (next : State)
-      → Knows earlier context state → take context state token ≡ Goes after next → Knows (token ∷ earlier) after next
+      → Knows earlier context state → step context state token ≡ Goes after next → Knows (token ∷ earlier) after next
   pub refuses : (earlier : List Terminal) (context : Context) (state : State) (token : Terminal)
-      → Knows earlier context state → take context state token ≡ Refuses kind → is_such earlier token ≡ true
+      → Knows earlier context state → step context state token ≡ Refuses kind → is_such earlier token ≡ true
 
 -- such a token among some, after earlier ones
 record OnToken (is_such : List Terminal → Terminal → Bool) (earlier xs : List Terminal) : Type 0 where
@@ -152,7 +152,7 @@ module _ (kind : FaultKind) (is_such : List Terminal → Terminal → Bool) (Kno
       IsAfter earlier xs (take_all context state xs)
   tokens-taken [] _ _ _ known = known
   tokens-taken (x ∷ xs) earlier context state known =
-      by (take context state x) refl (λ after next k. tokens-taken xs (x ∷ earlier) after next k)
+      by (step context state x) refl (λ after next k. tokens-taken xs (x ∷ earlier) after next k)
     where
       later : (taken : AfterToken) → IsAfter (x ∷ earlier) xs taken → IsAfter earlier (x ∷ xs) taken
       later (Goes after next) k = subst (λ (ys : List Terminal). Knows ys after next)
@@ -166,7 +166,7 @@ module _ (kind : FaultKind) (is_such : List Terminal → Terminal → Bool) (Kno
             (sym (grind (arith, reverse_onto, append_assoc, reverse))) ∙ found.such;
       }
 
-      by : (taken : AfterToken) → take context state x ≡ taken → ((after : Context) (next : State)
+      by : (taken : AfterToken) → step context state x ≡ taken → ((after : Context) (next : State)
           → Knows (x ∷ earlier) after next → IsAfter (x ∷ earlier) xs (take_all after next xs)) → IsAfter earlier
           (x ∷ xs) (elim taken as (λ _. AfterToken) [ Goes after next ↦ take_all after next xs | Refuses other ↦ Refuses other ])
       by (Goes after next) e more = later (take_all after next xs)
@@ -334,22 +334,22 @@ module _ (P : Terminal → AfterToken → Type 0) (context : Context) where
   -- after the signs of an item
   pub signs-by : (owner : ItemOwner) (before : SignOf) → Bad →
       ((sign : SignOf) → P (Sign sign) (Goes context (Signs owner (product before
-      sign)))) → ((name : List ℕ) → P (Name name) (take_term context owner name (apply_sign before one) (Name name))) →
+      sign)))) → ((name : List ℕ) → P (Name name) (end_term context owner name (apply_sign before one) (Name name))) →
       ((value : Decimal)
       → P (Number value) (Goes context (ItemNumber owner before value))) → (t : Terminal) →
-      P t (take_after_signs context owner before t)
+      P t (step_after_signs context owner before t)
   signs-by = grind arith
 
   -- the first token of an item
   pub item-by : (owner : ItemOwner) → Bad → ((sign : SignOf) → P (Sign sign) (Goes context (Signs owner sign)))
-      → ((name : List ℕ) → P (Name name) (take_term context owner name one (Name name))) → ((value : Decimal)
+      → ((name : List ℕ) → P (Name name) (end_term context owner name one (Name name))) → ((value : Decimal)
       → P (Number value) (Goes context (ItemNumber owner Plus value))) → (t : Terminal) → P t (begin_item context owner t)
   item-by = grind arith
 
   -- a number or infinity
   pub limit-by : (goes : Limit → Terminal → AfterToken) (before : SignOf)
       → Bad → ((value : Decimal) → P (Number value) (goes (limit_of (apply_sign before value)) (Number value)))
-      → (P Infinity (goes (infinity before) Infinity)) → (t : Terminal) → P t (take_side_value (λ l. goes l t) context before t)
+      → (P Infinity (goes (infinity before) Infinity)) → (t : Terminal) → P t (step_at_side_value (λ l. goes l t) context before t)
   limit-by = grind arith
 
   -- a name in Generals, Binaries or among the semi-continuous columns
@@ -365,32 +365,32 @@ module _ (P : Terminal → AfterToken → Type 0) (context : Context) where
       (begin_phrase_after context (declare_constant number ∷ []) (InObjective objective) (Sign sign)))
       → ((word : SectionWord) → P (Opens word)
       (begin_phrase_after context (declare_constant number ∷ []) (InObjective objective) (Opens word)))
-      → (t : Terminal) → P t (take_after_lone_number context (OfObjective objective) number t)
+      → (t : Terminal) → P t (step_after_lone_number context (OfObjective objective) number t)
   lone-by = grind arith
 
   -- the last word of a heading
   pub last_word-by : (wanted : LastWord) → Bad → ((name : List ℕ) → P (Name name) (if is_last_word wanted name then Goes
       (with_made context []) (Between (opened_by wanted)) else refuse context (Name name) kinds.BadToken))
-      → (t : Terminal) → P t (take context (AtLastWord wanted) t)
+      → (t : Terminal) → P t (step context (AtLastWord wanted) t)
   last_word-by = grind arith
 
   -- after the column of a bound
-  pub bound_name-by : (column : List ℕ) → Bad → (P Free (take_bound context (declare_column column ∷ []) column no_limits Free
+  pub bound_name-by : (column : List ℕ) → Bad → (P Free (end_bound context (declare_column column ∷ []) column no_limits Free
       (InBounds None))) → ((relation : Relation) →
       P (Compares relation) (Goes context (AtSide (SideOfBound true column relation)))) → (t : Terminal) →
-      P t (take context (BoundName column) t)
+      P t (step context (BoundName column) t)
   bound_name-by = grind arith
 
   -- after the left side of a bound and its relation
   pub bound_column-by : (left : Limit) (before : Relation)
-      → Bad → ((name : List ℕ) → P (Name name) (take_bound context (declare_column name ∷ []) name (limits_by (flip before) left)
-      (Name name) (InBounds (Some (name, before))))) → (t : Terminal) → P t (take context (BoundLeftRelation left before) t)
+      → Bad → ((name : List ℕ) → P (Name name) (end_bound context (declare_column name ∷ []) name (limits_by (flip before) left)
+      (Name name) (InBounds (Some (name, before))))) → (t : Terminal) → P t (step context (BoundLeftRelation left before) t)
   bound_column-by = grind arith
 
   -- a right side
   pub side-by : (sided : SideOwner) → Bad → ((sign : SignOf) → P (Sign sign) (Goes context (SideSign sided sign)))
-      → ((value : Decimal) → P (Number value) (take_side context sided (limit_of value) (Number value)))
-      → (P Infinity (take_side context sided PlusInf Infinity)) → (t : Terminal) → P t (take context (AtSide sided) t)
+      → ((value : Decimal) → P (Number value) (end_side context sided (limit_of value) (Number value)))
+      → (P Infinity (end_side context sided PlusInf Infinity)) → (t : Terminal) → P t (step context (AtSide sided) t)
   side-by = grind arith
 
   -- a token at a place
@@ -402,7 +402,7 @@ module _ (P : Terminal → AfterToken → Type 0) (context : Context) where
   -- the first token of the objective
   pub objective-by : (sense : Sense) → ((name : List ℕ) → P (Name name) (Goes context (ObjectiveName sense name)))
       → ((t : Terminal) → P t (begin_phrase_after context (objective_declared sense default_objective)
-      (BeforeItems default_objective) t)) → (t : Terminal) → P t (take context (AtObjective sense) t)
+      (BeforeItems default_objective) t)) → (t : Terminal) → P t (step context (AtObjective sense) t)
   objective-by = grind arith
 
   -- after the first name of the objective
@@ -410,17 +410,17 @@ module _ (P : Terminal → AfterToken → Type 0) (context : Context) where
       (P Colon (declare_at context Colon (BeforeItems label) (objective_declared
       sense label))) → ((t : Terminal) →
       P t (begin_phrase_after context (first_item_declared sense label) (InObjective default_objective) t))
-      → (t : Terminal) → P t (take context (ObjectiveName sense label) t)
+      → (t : Terminal) → P t (step context (ObjectiveName sense label) t)
   objective_name-by = grind arith
 
   -- after the number of an item
   pub item_number-by : (owner : ItemOwner) (before : SignOf) (number : Decimal) → ((name : List ℕ)
-      → P (Name name) (take_term context owner name (apply_sign before number) (Name name))) →
-      ((t : Terminal) → P t (take_after_lone_number
-      context owner (apply_sign before number) t)) → (t : Terminal) → P t (take context (ItemNumber owner before number) t)
+      → P (Name name) (end_term context owner name (apply_sign before number) (Name name))) →
+      ((t : Terminal) → P t (step_after_lone_number
+      context owner (apply_sign before number) t)) → (t : Terminal) → P t (step context (ItemNumber owner before number) t)
   item_number-by = grind arith
 
   -- after `semi`
   pub semi-by : P (Sign Minus) (Goes context (AtLastWord Continuous))
-      → ((t : Terminal) → P t (begin InSemis (with_made context []) t)) → (t : Terminal) → P t (take context AtSemi t)
+      → ((t : Terminal) → P t (begin InSemis (with_made context []) t)) → (t : Terminal) → P t (step context AtSemi t)
   semi-by = grind arith

@@ -32,8 +32,8 @@ pub use Rattle.mpslp_lp_grammar.specs.Points.{at, point_at, AreNew}
 pub use Rattle.mpslp_lp.specs.{FirstFault.{fault_of, first_lp_fault}, LpText.outcome}
 pub use Rattle.mpslp_lp.specs.LpText.{numbered_lines, sound_terminals, first_own_fault, or_else, is_finished, declarations_of, is_lp_text}
 pub use Rattle.mpslp_lp_grammar.specs.AfterToken.{AfterToken, Goes, Refuses, refuse, with_made, declare_unless_refused}
-pub use Rattle.mpslp_lp_grammar.specs.AfterToken.{take_after_declarations, declare_at, take_term, take_after_signs, begin_item, take_bound}
-pub use Rattle.mpslp_lp_grammar.specs.{AfterToken.{take_side, take_side_value}, FirstToken.{open_section, begin_row, take_second_relation}}
+pub use Rattle.mpslp_lp_grammar.specs.AfterToken.{step_after_declarations, declare_at, end_term, step_after_signs, begin_item, end_bound}
+pub use Rattle.mpslp_lp_grammar.specs.{AfterToken.{end_side, step_at_side_value}, FirstToken.{open_section, begin_row, step_at_second_relation}}
 pub use Rattle.mpslp_lp_grammar.specs.{FirstToken.{begin_phrase, begin, name_taken, begin_bound}, Grammar.{may_begin_section, phrase_at}}
 pub use Rattle.mpslp_lp_grammar.specs.Grammar.{no_limits, bound_sides, bound_right, bound_after, bound_column, bound_left, name_in_section}
 pub use Rattle.mpslp_lp_grammar.specs.Grammar.{line_end, opened_by, is_last_word, last_word, semi_from, section_start, text_says}
@@ -50,7 +50,7 @@ pub use Rattle.mpslp_lp_grammar.specs.{Rules.{Parsed, after_taking, and_then, Ou
 pub use Rattle.mpslp_lp_grammar.specs.Terminal.{lexical_fault, TerminalAt, name_fault, word_fault, token_fault, terminal_of, line_terminals}
 pub use Rattle.mpslp_lp_grammar.specs.Terminal.{Terminal as seen, Terminal.{Name, Compares, Opens, Number, Sign, Colon, Infinity, Free}}
 pub use Rattle.mpslp_lp_grammar.specs.{TerminalToken.{terminals, as_terminal}, TokenByToken.new_column}
-pub use Rattle.mpslp_lp_grammar.specs.TokenStep.{begin_phrase_after, take_after_lone_number, take, is_at_end}
+pub use Rattle.mpslp_lp_grammar.specs.TokenStep.{begin_phrase_after, step_after_lone_number, step, is_at_end}
 pub use Rattle.mpslp_lp_grammar.specs.declared.context.Context.{Context}
 pub use Rattle.mpslp_lp_tokens.specs.declared.relations.Relation.{Relation, TheVariants.{AtMost, AtLeast, EqualTo}}
 pub use Rattle.mpslp_lp_grammar.specs.declared.{sections_seen.SectionsSeen.SectionsSeen, signs.Sign.Sign as SignOf}

@@ -7,15 +7,15 @@ use Prelude.{with_declarations, declare_row, bounds_declared, has_name, has_row,
 use Prelude.{IsSortedDraft, sorted-with_declarations, kind_of_build_fault, Objective, Rows, Context, Relation, ItemOwner, OfObjective}
 use Prelude.{OfRow, To, That, Place, AtStart, BetweenRows, InRow, InBounds, SideOwner, SideOfRow, SideOfBound, State, Between, AtObjective}
 use Prelude.{ObjectiveName, AtLastWord, Signs, ItemNumber, RowName, RowLabel, RowSign, RowNumber, RowLeft, RowLeftRelation, AtSide}
-use Prelude.{SideSign, AfterToken, Goes, Refuses, refuse, declare_unless_refused, take_after_declarations, declare_at, take_bound}
-use Prelude.{take_side, term_declared, row_limits, row_declared, PartialRow, Limits, Terminal, Opens, Colon, new_column, has_opened}
+use Prelude.{SideSign, AfterToken, Goes, Refuses, refuse, declare_unless_refused, step_after_declarations, declare_at, end_bound}
+use Prelude.{end_side, term_declared, row_limits, row_declared, PartialRow, Limits, Terminal, Opens, Colon, new_column, has_opened}
 use Prelude.{current_section, is_named, collected, last_name, is_right_side, is_value, ends_row, rows_before, label_before, names_row}
 use Prelude.{objective_before, names_objective, repeats_row, row_name, Sense, declare_column, declare_integer, declare_binary}
 use Prelude.{declare_semi, Section, SectionWord, SignOf, LastWord, BeforeItems, InObjective, InGenerals, InBinaries, InSemis, AtSemi}
-use Prelude.{BoundName, BoundSign, BoundLeft, BoundLeftRelation, AfterEnd, with_made, take_term, take_after_signs, begin_item, no_limits}
-use Prelude.{opened_by, is_last_word, open_section, begin_row, take_second_relation, begin_phrase, begin, limits_by, flip}
+use Prelude.{BoundName, BoundSign, BoundLeft, BoundLeftRelation, AfterEnd, with_made, end_term, step_after_signs, begin_item, no_limits}
+use Prelude.{opened_by, is_last_word, open_section, begin_row, step_at_second_relation, begin_phrase, begin, limits_by, flip}
 use Prelude.{objective_declared, default_objective, first_item_declared, Name, Number, Sign, Compares, Free}
-use Prelude.{take_after_lone_number, take, IsInWords, is_section}
+use Prelude.{step_after_lone_number, step, IsInWords, is_section}
 use Rattle.mpslp_builder.specs.Declaration.{is_objective}
 use Rattle.mpslp_lp_sentences.proofs.FaultedTokens.{refuses, first-refused, terms-refuse, in-words, first_named, signs-by, item-by}
 use Rattle.mpslp_lp_sentences.proofs.FaultedTokens.{limit-by, listed-by, last_word-by, bound_name-by, bound_column-by, side-by}
@@ -178,11 +178,11 @@ declared context earlier token place made h none keeps rows objective unrefused 
 
 pub declared-before : (context : Context) (earlier : Tokens) (token : Terminal) (made : Declarations) (next : AfterToken)
     → refuses kinds.DuplicateRow context.builder made ≡ false → KeepsRows earlier token next
-    → KeepsRows earlier token (take_after_declarations context token (refusals_in_turn context.builder made) made next)
+    → KeepsRows earlier token (step_after_declarations context token (refusals_in_turn context.builder made) made next)
 declared-before context earlier token made next unrefused h = by (refusals_in_turn context.builder made) refl
   where
     by : (refusals : List BuildFault) → refusals_in_turn context.builder made ≡ refusals
-        → KeepsRows earlier token (take_after_declarations context token refusals made next)
+        → KeepsRows earlier token (step_after_declarations context token refusals made next)
     by [] e = h
     by (first ∷ more) e = refused context earlier token (kind_of_build_fault first) (says-by earlier token context.builder made
         (λ k. never (refuses kinds.DuplicateRow context.builder made) unrefused k) first
@@ -191,7 +191,7 @@ declared-before context earlier token made next unrefused h = by (refusals_in_tu
 pub bound : (context : Context) (is_new : Bool) (column : List ℕ) (limits : Limits)
     (earlier : Tokens) (token : Terminal) (left : Option (List ℕ × Relation)) → Here earlier context →
     ends_row earlier token ≡ false → is_no_colon token ≡ true →
-    KeepsRows earlier token (take_bound context (new_column is_new column) column limits token (InBounds left))
+    KeepsRows earlier token (end_bound context (new_column is_new column) column limits token (InBounds left))
 bound context is_new column limits earlier token left h none keeps = by _ _ _
   where
     front : Draft
@@ -224,7 +224,7 @@ terms-objective _ (term ∷ terms) _ = terms-objective _ terms _
 
 pub row_ended : (context : Context) (row : PartialRow) (relation : Relation) (l : Limit) (earlier : Tokens) (token : Terminal)
     → Here earlier context → IsNameOf row.name earlier → is_value token ≡ true → current_section earlier ≡ Some Rows
-    → is_right_side earlier ≡ true → KeepsRows earlier token (take_side context (SideOfRow row relation) l token)
+    → is_right_side earlier ≡ true → KeepsRows earlier token (end_side context (SideOfRow row relation) l token)
 row_ended context row relation l earlier token h name value here right = by (refusals_in_turn context.builder made) refl
   where
     form : RowDefinition
@@ -320,7 +320,7 @@ item-signed = grind arith
 
 term : (context : Context) (owner : ItemOwner) (column : List ℕ) (value : Decimal) (earlier : Tokens)
     → Here earlier context → ItemName owner earlier →
-    KeepsRows earlier (Name column) (take_term context owner column value (Name column))
+    KeepsRows earlier (Name column) (end_term context owner column value (Name column))
 term _ (OfObjective objective) column value _ h _ =
     declared _ _ (Name column) (InObjective objective) (term_declared objective (column, value)) h refl refl refl refl
     refl (λ o. o) tt
@@ -328,7 +328,7 @@ term context (OfRow row) column value earlier h name = grind arith
 
 signs : (context : Context) (owner : ItemOwner) (sign : SignOf) (earlier : Tokens) → Here earlier context
     → ItemName owner earlier → NoEnd earlier → (token : Terminal) →
-    KeepsRows earlier token (take_after_signs context owner sign token)
+    KeepsRows earlier token (step_after_signs context owner sign token)
 signs = grind (arith, signs-by, bad, rowed-on, objective-on, item-signed, term, item-kept)
 
 item : (context : Context) (owner : ItemOwner) (earlier : Tokens) → Here earlier context
@@ -359,7 +359,7 @@ row = grind arith
 
 second : (context : Context) (left : Option (List ℕ × Relation)) (earlier : Tokens) → Here earlier context
     → (relation : Relation) → KeepsRows earlier (Compares relation)
-    (take_second_relation context left relation (Compares relation))
+    (step_at_second_relation context left relation (Compares relation))
 second = grind arith
 
 elsewhere-no_end : (earlier : Tokens) (section : Section) → current_section earlier ≡ Some section →
@@ -399,7 +399,7 @@ first = grind (arith, begin-by, branch, opened, bad, phrase)
 
 lone : (context : Context) (owner : ItemOwner) (value : Decimal) (earlier : Tokens) → Here earlier context →
     current_section earlier ≡ section_of_item owner → (token : Terminal) →
-    KeepsRows earlier token (take_after_lone_number context owner value token)
+    KeepsRows earlier token (step_after_lone_number context owner value token)
 lone context owner value earlier h here token = grind arith
 
 -- ---- each state
@@ -418,7 +418,7 @@ unlabelled = grind (arith, sorted-with_declarations, opened)
 named_objective : (context : Context) (sense : Sense) (label : List ℕ) (earlier : Tokens) →
     Rowed earlier context.builder → IsEmpty earlier context.builder → last_name earlier ≡ Some label →
     context.sections_seen.objective ≡ has_opened earlier Objective → current_section earlier ≡ Some Objective →
-    (token : Terminal) → KeepsRows earlier token (take context (ObjectiveName sense label) token)
+    (token : Terminal) → KeepsRows earlier token (step context (ObjectiveName sense label) token)
 named_objective context sense label earlier rowed empty last seen here token =
     objective_name-by (KeepsRows earlier) context sense label (by _ refl) (λ t. declared-before context earlier t
     (first_item_declared sense label)
@@ -433,7 +433,7 @@ named_objective context sense label earlier rowed empty last seen here token =
     by = grind arith
 
 last_word : (context : Context) (wanted : LastWord) (earlier : Tokens) → Here earlier context
-    → NameAt (AtLastWord wanted) earlier → (token : Terminal) → KeepsRows earlier token (take context (AtLastWord wanted) token)
+    → NameAt (AtLastWord wanted) earlier → (token : Terminal) → KeepsRows earlier token (step context (AtLastWord wanted) token)
 last_word context wanted earlier h name token = last_word-by (KeepsRows earlier) context wanted (bad context earlier)
     (λ word. branch earlier (Name word) (is_last_word wanted word) (Goes (with_made context []) (Between (opened_by wanted)))
     (refuse context (Name word) kinds.BadToken) (by _ _ name) (bad context earlier (Name word))) token
@@ -445,7 +445,7 @@ last_word context wanted earlier h name token = last_word-by (KeepsRows earlier)
 row_named : (context : Context) (label : List ℕ) (earlier : Tokens)
     → Here earlier context → label_before earlier ≡ None → NameShape label earlier →
     PlaceShape (InRow (first_named context label)) earlier → current_section earlier ≡ Some Rows →
-    (token : Terminal) → KeepsRows earlier token (take context (RowName label) token)
+    (token : Terminal) → KeepsRows earlier token (step context (RowName label) token)
 row_named = grind arith
 
 -- the sign of a row, and then a number or an infinity
@@ -454,11 +454,11 @@ signed-no_end earlier h token = grind arith
 
 row_signed : (context : Context) (label : List ℕ) (sign : SignOf) (earlier : Tokens) → Here earlier context
     → IsNameOf label earlier → SignShape earlier → (token : Terminal) →
-    KeepsRows earlier token (take context (RowSign label sign) token)
+    KeepsRows earlier token (step context (RowSign label sign) token)
 row_signed = grind (arith, bad, rowed-on, objective-on, term, signed-no_end)
 
 row_numbered : (context : Context) (label : List ℕ) (sign : SignOf) (value : Decimal) (earlier : Tokens) → Here earlier context
-    → IsNameOf label earlier → (token : Terminal) → KeepsRows earlier token (take context (RowNumber label sign value) token)
+    → IsNameOf label earlier → (token : Terminal) → KeepsRows earlier token (step context (RowNumber label sign value) token)
 row_numbered = grind arith
 
 value-no_label : (token : Terminal) → is_value token ≡ true → is_no_colon token ≡ true
@@ -467,7 +467,7 @@ value-no_label = grind arith
 side : (context : Context) (sided : SideOwner) (l : Limit) (earlier : Tokens) (token : Terminal)
     → Here earlier context → SideName sided earlier → SideShape sided earlier
     → current_section earlier ≡ section_of_side sided → is_value token ≡ true →
-    KeepsRows earlier token (take_side context sided l token)
+    KeepsRows earlier token (end_side context sided l token)
 side context (SideOfRow row relation) l earlier token h name shape here value = grind (arith, row_ended)
 side context (SideOfBound is_new column relation) l earlier token h name shape here value =
     grind (arith, bound, elsewhere-no_end, value-no_label)
@@ -475,7 +475,7 @@ side context (SideOfBound is_new column relation) l earlier token h name shape h
 signed_side : (context : Context) (sided : SideOwner) (l : Limit) (earlier : Tokens) (token : Terminal)
     → Here earlier context → SideName sided earlier → SignedSideShape sided earlier
     → current_section earlier ≡ section_of_side sided → is_value token ≡ true →
-    KeepsRows earlier token (take_side context sided l token)
+    KeepsRows earlier token (end_side context sided l token)
 signed_side context (SideOfRow row relation) l earlier token h name shape here value = grind (arith, row_ended)
 signed_side context (SideOfBound is_new column relation) l earlier token h name shape here value =
     grind (arith, bound, elsewhere-no_end, value-no_label)
@@ -483,7 +483,7 @@ signed_side context (SideOfBound is_new column relation) l earlier token h name 
 step : (context : Context) (state : State) (earlier : Tokens) → Rowed earlier context.builder →
     ObjectiveAt state earlier context.builder → NameAt state earlier → Shape state earlier →
     current_section earlier ≡ section_at state → context.sections_seen.objective ≡ has_opened earlier Objective →
-    (token : Terminal) → KeepsRows earlier token (take context state token)
+    (token : Terminal) → KeepsRows earlier token (step context state token)
 step context (Between AtStart) earlier r o n sh here v token = grind arith
 step context (AtObjective sense) earlier r o n sh here v token =
     grind (arith, objective-by, rowed-later, opened, declared-before, refuses, first, unlabelled)
@@ -522,19 +522,19 @@ pub record Known (earlier : Tokens) (context : Context) (state : State) : Type 0
   pub name : NameAt state earlier
 
 taken : (earlier : Tokens) (context : Context) (state : State) (token : Terminal) → Known earlier context state →
-    KeepsRows earlier token (take context state token)
+    KeepsRows earlier token (step context state token)
 taken _ context _ token known =
     step context _ _ known.rowed known.objective known.name known.shaped.shape known.shaped.opened.current
     (known.shaped.opened.seen Objective) token
 
 pub known-later : (earlier : Tokens) (context : Context) (state : State) (token : Terminal) (after : Context) (next : State)
-    → Known earlier context state → take context state token ≡ Goes after next → Known (token ∷ earlier) after next
+    → Known earlier context state → step context state token ≡ Goes after next → Known (token ∷ earlier) after next
 known-later earlier _ _ token _ _ known h = let parts =
     subst (λ answer. KeepsRows earlier token answer) h (taken _ _ _ _ known) in
     record { shaped = shaped-later _ _ _ _ _ _ known.shaped h; rowed = parts.0; objective = parts.1; name = parts.2 }
 
 repeated : (earlier : Tokens) (context : Context) (state : State) (token : Terminal)
-    → Known earlier context state → take context state token ≡ Refuses kinds.DuplicateRow → repeats_row earlier token ≡ true
+    → Known earlier context state → step context state token ≡ Refuses kinds.DuplicateRow → repeats_row earlier token ≡ true
 repeated = grind (arith, taken)
 
 pub duplicate-row : IsInWords kinds.DuplicateRow repeats_row

@@ -8,11 +8,11 @@ use Prelude.{kind_of_build_fault, Section, Objective, Rows, Bounds, SemiContinuo
 use Prelude.{OfObjective, OfRow, LastWord, To, That, Place, AtStart, BeforeItems, InObjective, BetweenRows, InRow, InBounds, InSemis}
 use Prelude.{SideOwner, SideOfRow, SideOfBound, State, Between, AtObjective, ObjectiveName, AtLastWord, AtSemi, Signs, ItemNumber, RowName}
 use Prelude.{RowLabel, RowSign, RowNumber, RowLeft, RowLeftRelation, BoundName, BoundLeftRelation, AtSide, SideSign, AfterToken, Goes}
-use Prelude.{Refuses, refuse, with_made, declare_unless_refused, take_after_declarations, take_term, take_after_signs, begin_item}
-use Prelude.{take_side, may_begin_section, open_section, begin_row, begin_bound, take_second_relation, name_taken, begin_phrase, begin, one}
+use Prelude.{Refuses, refuse, with_made, declare_unless_refused, step_after_declarations, end_term, step_after_signs, begin_item}
+use Prelude.{end_side, may_begin_section, open_section, begin_row, begin_bound, step_at_second_relation, name_taken, begin_phrase, begin, one}
 use Prelude.{apply_sign, fits_second, limits_by, flip, objective_declared, default_objective, first_item_declared, fits_left, PartialRow}
 use Prelude.{start, Terminal, Opens, Name, Number, Sign, Compares, Colon, new_column, begin_phrase_after}
-use Prelude.{take_after_lone_number, take, IsInWords}
+use Prelude.{step_after_lone_number, step, IsInWords}
 use Prelude.{ends_in_number, ends_in_sign, last_name, ends_in_name, ends_in_value, ends_in_first_word, begins_row, follows_terms}
 use Prelude.{may_be_left_side, is_right_side, ends_in_constant, follows_constant, left_relation, last_relation, bound_relation, agree}
 use Prelude.{mixes_under, mixes_senses, term_columns, is_named}
@@ -154,7 +154,7 @@ declared context here earlier token (refusal ∷ _) _ _ h =
 declared-before : (context : Context) (here : Option Section)
     (earlier : List Terminal) (token : Terminal) (refusals : List BuildFault) (made : Declarations) (next : AfterToken)
     → KeepsShape here earlier token next →
-    KeepsShape here earlier token (take_after_declarations context token refusals made next)
+    KeepsShape here earlier token (step_after_declarations context token refusals made next)
 declared-before _ _ _ _ [] _ _ h = h
 declared-before context here earlier token (refusal ∷ _) _ _ h =
     refused context here earlier token (kind_of_build_fault refusal) (build-fault here earlier token refusal)
@@ -178,7 +178,7 @@ OwnerShape (OfRow row) earlier = IsRow row earlier × (ends_in_first_word earlie
 
 term : (context : Context) (owner : ItemOwner) (column : List ℕ) (value : Decimal) (earlier : List Terminal) →
     OwnerShape owner earlier → KeepsShape (section_of_item owner) earlier (Name column)
-    (take_term context owner column value (Name column))
+    (end_term context owner column value (Name column))
 term context (OfObjective objective) column value earlier h = grind (arith, declared)
 term context (OfRow row) column value earlier h =
     either (Some Rows) earlier (Name column) (list_any (λ t. same_bytes column t.0) _)
@@ -187,7 +187,7 @@ term context (OfRow row) column value earlier h =
     (refused context (Some Rows) earlier (Name column) kinds.DuplicateEntry tt) (λ e. row-longer _ column value _ h.1 h.0)
 
 signs : (context : Context) (owner : ItemOwner) (sign : SignOf) (earlier : List Terminal) → SignsShape owner earlier
-    → (token : Terminal) → KeepsShape (section_of_item owner) earlier token (take_after_signs context owner sign token)
+    → (token : Terminal) → KeepsShape (section_of_item owner) earlier token (step_after_signs context owner sign token)
 signs context owner sign earlier h token =
     signs-by (KeepsShape (section_of_item owner) earlier) context owner sign (bad context (section_of_item owner) earlier)
     (λ more. next _ more h) (λ name. term context _ name (apply_sign sign one) _ (named _ h)) (λ value. number _ value h) token
@@ -223,7 +223,7 @@ item context owner earlier h token =
     number = grind arith
 
 side : (context : Context) (sided : SideOwner) (l : Limit) (earlier : List Terminal) (token : Terminal)
-    → begins_row (token ∷ earlier) ≡ true → KeepsShape (section_of_side sided) earlier token (take_side context sided l token)
+    → begins_row (token ∷ earlier) ≡ true → KeepsShape (section_of_side sided) earlier token (end_side context sided l token)
 side context (SideOfRow row relation) l earlier token h = grind (arith, row, declared)
 side context (SideOfBound _ column relation) l earlier token h = let limits = limits_by relation l in declared context
     (Some Bounds) earlier token (bounds_refusals (with_declarations context.builder (new_column _ _)) column
@@ -246,7 +246,7 @@ differ = grind arith
 
 second : (context : Context) (left : Option (List ℕ × Relation)) (earlier : List Terminal)
     → PlaceShape (InBounds left) earlier → (relation : Relation)
-    → KeepsShape (Some Bounds) earlier (Compares relation) (take_second_relation context left relation (Compares relation))
+    → KeepsShape (Some Bounds) earlier (Compares relation) (step_at_second_relation context left relation (Compares relation))
 second = grind arith
 
 ended : (context : Context) (row : PartialRow) (earlier : List Terminal) → IsRow row earlier → ends_in_name earlier ≡ true
@@ -283,7 +283,7 @@ later : (context : Context) (made : Declarations) (place : Place) (earlier : Lis
 later = grind (arith, declared-before, section_at_place, first)
 
 lone : (context : Context) (owner : ItemOwner) (value : Decimal) (earlier : List Terminal) → NumberShape owner earlier
-    → (token : Terminal) → KeepsShape (section_of_item owner) earlier token (take_after_lone_number context owner value token)
+    → (token : Terminal) → KeepsShape (section_of_item owner) earlier token (step_after_lone_number context owner value token)
 lone context (OfObjective objective) value earlier h token = lone-by (KeepsShape (Some Objective) earlier) context objective value
     (bad context (Some Objective) earlier) (λ sign. later context (declare_constant _ ∷ []) (InObjective objective)
     earlier tt (Sign sign)) (λ word. later context (declare_constant _ ∷ []) (InObjective objective) earlier tt
@@ -291,11 +291,11 @@ lone context (OfObjective objective) value earlier h token = lone-by (KeepsShape
 lone context (OfRow partial) value earlier h token = grind arith
 
 last_word : (context : Context) (wanted : LastWord) (earlier : List Terminal) → Shape (AtLastWord wanted) earlier
-    → (token : Terminal) → KeepsShape (section_at (AtLastWord wanted)) earlier token (take context (AtLastWord wanted) token)
+    → (token : Terminal) → KeepsShape (section_at (AtLastWord wanted)) earlier token (step context (AtLastWord wanted) token)
 last_word = grind arith
 
 row_signed : (context : Context) (label : List ℕ) (sign : SignOf) (earlier : List Terminal)
-    → SignShape earlier → (token : Terminal) → KeepsShape (Some Rows) earlier token (take context (RowSign label sign) token)
+    → SignShape earlier → (token : Terminal) → KeepsShape (Some Rows) earlier token (step context (RowSign label sign) token)
 row_signed = grind arith
 
 -- the first number of a row
@@ -304,22 +304,22 @@ number-value = grind arith
 
 row_numbered : (context : Context) (label : List ℕ) (sign : SignOf) (value : Decimal) (earlier : List Terminal)
     → LeftNumberShape earlier → (token : Terminal) →
-    KeepsShape (Some Rows) earlier token (take context (RowNumber label sign value) token)
+    KeepsShape (Some Rows) earlier token (step context (RowNumber label sign value) token)
 row_numbered = grind arith
 
 row_named : (context : Context) (label : List ℕ) (earlier : List Terminal)
-    → NameShape label earlier → (token : Terminal) → KeepsShape (Some Rows) earlier token (take context (RowName label) token)
+    → NameShape label earlier → (token : Terminal) → KeepsShape (Some Rows) earlier token (step context (RowName label) token)
 row_named = grind arith
 
 item_numbered : (context : Context) (owner : ItemOwner) (sign : SignOf) (value : Decimal) (earlier : List Terminal) → NumberShape
     owner earlier → (token : Terminal) →
-    KeepsShape (section_of_item owner) earlier token (take context (ItemNumber owner sign value) token)
+    KeepsShape (section_of_item owner) earlier token (step context (ItemNumber owner sign value) token)
 item_numbered context owner sign value earlier h token = grind (arith, item_number-by, section_of_item, term, lone, row)
 
 -- ---- each state
 
 step : (context : Context) (state : State) (earlier : List Terminal)
-    → Shape state earlier → (token : Terminal) → KeepsShape (section_at state) earlier token (take context state token)
+    → Shape state earlier → (token : Terminal) → KeepsShape (section_at state) earlier token (step context state token)
 step _ (Between _) _ h _ = first _ _ _ h _
 step context (AtObjective sense) earlier h token = objective-by (KeepsShape (Some Objective) earlier) context sense
     (λ name. tt) (later context (objective_declared sense default_objective) (BeforeItems default_objective) earlier tt) token
@@ -354,7 +354,7 @@ pub none-shaped : Shaped [] start.context (Between AtStart)
 none-shaped = grind arith
 
 pub shaped-later : (earlier : List Terminal) (context : Context) (state : State) (token : Terminal) (after : Context)
-    (next : State) → Shaped earlier context state → take context state token ≡ Goes after next →
+    (next : State) → Shaped earlier context state → step context state token ≡ Goes after next →
     Shaped (token ∷ earlier) after next
 shaped-later earlier _ state token _ _ known h = record {
   opened = opened-later _ _ _ _ _ _ known.opened h;
@@ -362,11 +362,11 @@ shaped-later earlier _ state token _ _ known h = record {
 }
 
 mixed : (earlier : List Terminal) (context : Context) (state : State) (token : Terminal)
-    → Shaped earlier context state → take context state token ≡ Refuses kinds.MixedSenses → mixes_senses earlier token ≡ true
+    → Shaped earlier context state → step context state token ≡ Refuses kinds.MixedSenses → mixes_senses earlier token ≡ true
 mixed = grind (arith, opened, section_at, step)
 
 constant : (earlier : List Terminal) (context : Context) (state : State) (token : Terminal)
-    → Shaped earlier context state → take context state token ≡ Refuses kinds.ConstantInRow →
+    → Shaped earlier context state → step context state token ≡ Refuses kinds.ConstantInRow →
     follows_constant earlier token ≡ true
 constant = grind (arith, section_at, step, both_so, opened)
 

@@ -7,11 +7,11 @@ use Prelude.{Binaries, SemiContinuous, End, SectionWord, Context, Relation, Sect
 use Prelude.{To, That, Continuous, Place, AtStart, BeforeItems, InObjective, BetweenRows, InRow, InBounds, InGenerals, InBinaries, InSemis}
 use Prelude.{SideOwner, SideOfRow, SideOfBound, State, Between, AtObjective, ObjectiveName, AtLastWord, AtSemi, Signs, ItemNumber, RowName}
 use Prelude.{RowLabel, RowSign, RowNumber, RowLeft, RowLeftRelation, BoundName, BoundSign, BoundLeft, BoundLeftRelation, AtSide, SideSign}
-use Prelude.{AfterEnd, AfterToken, Goes, Refuses, refuse, with_made, declare_unless_refused, take_after_declarations, take_term}
-use Prelude.{take_after_signs, begin_item, declare_at, take_side, opened_by, may_begin_section, is_last_word}
-use Prelude.{open_section, begin_row, begin_bound, take_second_relation, name_taken, begin_phrase, begin, one, apply_sign}
+use Prelude.{AfterEnd, AfterToken, Goes, Refuses, refuse, with_made, declare_unless_refused, step_after_declarations, end_term}
+use Prelude.{step_after_signs, begin_item, declare_at, end_side, opened_by, may_begin_section, is_last_word}
+use Prelude.{open_section, begin_row, begin_bound, step_at_second_relation, name_taken, begin_phrase, begin, one, apply_sign}
 use Prelude.{objective_declared, default_objective, first_item_declared, terminal_fault, start, has_seen, with_section}
-use Prelude.{is_out_of_order, Terminal, Opens, Name, Compares, Colon, begin_phrase_after, take_after_lone_number, take, IsInWords, opens}
+use Prelude.{is_out_of_order, Terminal, Opens, Name, Compares, Colon, begin_phrase_after, step_after_lone_number, step, IsInWords, opens}
 use Prelude.{has_opened, current_section, repeats_section, section_rank, opens_later, comes_late, comes_early, breaks_order}
 use Rattle.mpslp_lp_sentences.proofs.FaultedTokens.{in-words, signs-by, item-by, limit-by, listed-by, last_word-by, bound_name-by}
 use Rattle.mpslp_lp_sentences.proofs.FaultedTokens.{bound_column-by, side-by, begin-by, objective-by, objective_name-by, item_number-by}
@@ -118,7 +118,7 @@ declared = grind arith
 declared-before : (context : Context)
     (here : Option Section) (token : Terminal) (refusals : List BuildFault) (made : Declarations) (next : AfterToken)
     → KeepsSections context here token next →
-    KeepsSections context here token (take_after_declarations context token refusals made next)
+    KeepsSections context here token (step_after_declarations context token refusals made next)
 declared-before = grind arith
 
 -- ---- what each function does
@@ -129,11 +129,11 @@ stays : (context : Context) (here : Option Section) (token : Terminal) (place : 
 stays = grind arith
 
 term : (context : Context) (owner : ItemOwner) (column name : List ℕ) (value : Decimal)
-    → KeepsSections context (section_of_item owner) (Name name) (take_term context owner column value (Name name))
+    → KeepsSections context (section_of_item owner) (Name name) (end_term context owner column value (Name name))
 term = grind arith
 
 signs : (context : Context) (owner : ItemOwner) (sign : SignOf) (token : Terminal)
-    → KeepsSections context (section_of_item owner) token (take_after_signs context owner sign token)
+    → KeepsSections context (section_of_item owner) token (step_after_signs context owner sign token)
 signs context owner sign token =
     signs-by (KeepsSections context (section_of_item owner)) _ _ _ (bad context (section_of_item owner))
     (λ more. (refl, refl)) (λ name. term context owner name name (apply_sign sign one)) (λ value. (refl, refl)) token
@@ -145,7 +145,7 @@ item context owner token = item-by (KeepsSections context (section_of_item owner
     (λ value. (refl, refl)) token
 
 side : (context : Context) (sided : SideOwner) (l : Limit) (token : Terminal)
-    → opens_none token ≡ true → KeepsSections context (section_of_side sided) token (take_side context sided l token)
+    → opens_none token ≡ true → KeepsSections context (section_of_side sided) token (end_side context sided l token)
 side context (SideOfRow row relation) l token none = grind arith
 side context (SideOfBound is_new column relation) l token none = grind arith
 
@@ -161,7 +161,7 @@ bound : (context : Context) (token : Terminal) → KeepsSections context (Some B
 bound = grind arith
 
 second : (context : Context) (left : Option (List ℕ × Relation)) (relation : Relation)
-    → KeepsSections context (Some Bounds) (Compares relation) (take_second_relation context left relation (Compares relation))
+    → KeepsSections context (Some Bounds) (Compares relation) (step_at_second_relation context left relation (Compares relation))
 second = grind arith
 
 listed : (place : Place) (kind_declared : List ℕ → Declaration) (context : Context) (token : Terminal)
@@ -199,11 +199,11 @@ later : (context : Context) (made : Declarations) (place : Place) (token : Termi
 later = grind (arith, first-later)
 
 lone : (context : Context) (owner : ItemOwner) (value : Decimal) (token : Terminal)
-    → KeepsSections context (section_of_item owner) token (take_after_lone_number context owner value token)
+    → KeepsSections context (section_of_item owner) token (step_after_lone_number context owner value token)
 lone context owner value token = grind arith
 
 last_word : (context : Context) (wanted : LastWord) (token : Terminal)
-    → KeepsSections context (section_at (AtLastWord wanted)) token (take context (AtLastWord wanted) token)
+    → KeepsSections context (section_at (AtLastWord wanted)) token (step context (AtLastWord wanted) token)
 last_word context wanted token = last_word-by (KeepsSections context here) context wanted (bad context here)
     (λ name. either context _ (Name name) (is_last_word wanted name) _ _ (refl, by _) (bad context here (Name name))) token
   where
@@ -216,7 +216,7 @@ last_word context wanted token = last_word-by (KeepsSections context here) conte
 -- ---- each state
 
 step : (context : Context) (state : State) (token : Terminal) →
-    KeepsSections context (section_at state) token (take context state token)
+    KeepsSections context (section_at state) token (step context state token)
 step context (Between place) token = first place context token
 step context (AtObjective sense) token = objective-by (KeepsSections context (Some Objective)) context sense
     (λ name. (refl, refl)) (later context (objective_declared sense default_objective) (BeforeItems default_objective)) token
@@ -258,14 +258,14 @@ seen-grown : (seen : SectionsSeen) (token : Terminal) (section : Section) →
 seen-grown = grind arith
 
 pub opened-later : (earlier : List Terminal) (context : Context) (state : State) (token : Terminal) (after : Context)
-    (next : State) → Opened earlier context state → take context state token ≡ Goes after next →
+    (next : State) → Opened earlier context state → step context state token ≡ Goes after next →
     Opened (token ∷ earlier) after next
 opened-later = grind (arith, step, seen-grown)
 
 -- ---- the errors
 
 own-fault : (context : Context) (state : State) (token : Terminal) (kind : FaultKind)
-    → is_of_sections kind ≡ true → take context state token ≡ Refuses kind → terminal_fault context token ≡ Some kind
+    → is_of_sections kind ≡ true → step context state token ≡ Refuses kind → terminal_fault context token ≡ Some kind
 own-fault = grind (arith, step)
 
 abbrev choice : Bool → Bool → Option FaultKind
@@ -275,7 +275,7 @@ chosen-order : (a b : Bool) → choice a b ≡ Some kinds.SectionOrder → (a �
 chosen-order = grind arith
 
 repeated : (earlier : List Terminal) (context : Context) (state : State) (token : Terminal)
-    → Opened earlier context state → take context state token ≡ Refuses kinds.SectionRepeated →
+    → Opened earlier context state → step context state token ≡ Refuses kinds.SectionRepeated →
     repeats_section earlier token ≡ true
 repeated earlier context state token known h = by _ (own-fault context state token _ refl h)
   where
@@ -337,7 +337,7 @@ out_of_order earlier context section known h = of section h
     of SemiContinuous k = without SemiContinuous refl seen.end (opened_later SemiContinuous End refl) k
 
 misplaced : (earlier : List Terminal) (context : Context) (state : State) (token : Terminal)
-    → Opened earlier context state → take context state token ≡ Refuses kinds.SectionOrder → breaks_order earlier token ≡ true
+    → Opened earlier context state → step context state token ≡ Refuses kinds.SectionOrder → breaks_order earlier token ≡ true
 misplaced earlier context state token known h = by token (own-fault context state token _ refl h)
   where
     by : (t : Terminal) → terminal_fault context t ≡ Some kinds.SectionOrder → breaks_order earlier t ≡ true

@@ -1,7 +1,7 @@
 use Rattle.mpslp_lp_grammar.proofs.Prelude.{sym, subst, ℕ, List, refusals_in_turn, default_objective, objective_declared, terminal_of_token}
 use Rattle.mpslp_lp_grammar.proofs.Prelude.{AfterToken, begin_phrase_after, Declares, TakesToken, BeforeItems}
 use Rattle.mpslp_lp_grammar.proofs.OtherTokens.{objective-other}
-use Rattle.mpslp_lp_grammar.proofs.token_step.take_at_objective.Goals as goal
+use Rattle.mpslp_lp_grammar.proofs.token_step.step_at_objective.Goals as goal
 
 pub returns-in_ok-objective-in_default : goal.returns-in_ok-objective-in_default
 returns-in_ok-objective-in_default c =

@@ -1,6 +1,6 @@
 use Rattle.mpslp_lp_grammar.proofs.Prelude.{sym, subst, ℕ, List, refusals_in_turn, first_item_declared, terminal_of_token, AfterToken}
 use Rattle.mpslp_lp_grammar.proofs.{Prelude.{begin_phrase_after, Declares, TakesToken, InObjective}, OtherTokens.{objective_name-other}}
-use Rattle.mpslp_lp_grammar.proofs.token_step.take_after_objective_name.Goals as goal
+use Rattle.mpslp_lp_grammar.proofs.token_step.step_after_objective_name.Goals as goal
 
 pub returns-in_ok-objective-in_default : goal.returns-in_ok-objective-in_default
 returns-in_ok-objective-in_default c =

@@ -1,6 +1,6 @@
 use Rattle.mpslp_lp_grammar.proofs.Prelude.{refl, sym, subst, ap, ◌∙◌, ℕ, List, [], ◌∷◌, Some, declare_column, Terminal, limits_by, flip}
-use Rattle.mpslp_lp_grammar.proofs.Prelude.{take_bound, TokenResult, TakesToken, answer_at, Relation, InBounds}
-use Rattle.mpslp_lp_grammar.proofs.bounds.take_bound_column.Goals as goal
+use Rattle.mpslp_lp_grammar.proofs.Prelude.{end_bound, TokenResult, TakesToken, answer_at, Relation, InBounds}
+use Rattle.mpslp_lp_grammar.proofs.bounds.step_after_bound_column.Goals as goal
 
 pub returns : goal.returns
 returns c =
@@ -12,10 +12,10 @@ returns c =
     let limit = c.args.limit.now in
     let place = InBounds (Some (column, relation)) in
     subst (λ (r : TokenResult). TakesToken
-    (take_bound context (declare_column column ∷ []) column (limits_by (flip relation) limit) (Terminal.Name column)
+    (end_bound context (declare_column column ∷ []) column (limits_by (flip relation) limit) (Terminal.Name column)
     place) r after) (sym (c.at_place.ensures
     ∙ ap (λ (name : List ℕ). answer_at (InBounds (Some (name, relation))) answer) c.in_ok-name.ensures))
     (subst (λ (r : Relation). TakesToken
-    (take_bound context (declare_column column ∷ []) column (limits_by r limit) (Terminal.Name column) place)
+    (end_bound context (declare_column column ∷ []) column (limits_by r limit) (Terminal.Name column) place)
     (answer_at place answer) after)
     c.flip.ensures (c.declare_bound-answer.ensures (Terminal.Name column) place refl))
