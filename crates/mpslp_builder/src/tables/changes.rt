@@ -64,7 +64,6 @@ impl Tables {
     }
 
     /// Stores a coefficient, unless the column has one in the row. Returns whether it was stored.
-    #[inline(always)]
     pub(crate) fn put_if_free(
         &mut self,
         column: usize,

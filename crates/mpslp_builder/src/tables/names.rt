@@ -10,17 +10,16 @@ use crate::tables::{RowRef, Tables};
 use mpslp_types::NameBytes;
 
 /// Whether two names are the same. Their last bytes are compared first, because most names that differ have other ones.
-#[inline(always)]
 pub(crate) fn is_same_name(name: &[u8], other: &[u8]) -> bool
     ensures { result ≡ same_bytes name.now other.now }
 {
     match (name, other) {
         ([.., last], [.., other_last]) if last != other_last => false,
-        _ => have_same_bytes(name, other),
+        _ => name == other,
     }
 }
 
-/// Whether two names have the same bytes. Those of 8 to 16 bytes are compared in two parts, which overlap.
+/// Whether two names are the same, where most that are asked for are. Those of 8 to 16 bytes are compared in two parts, which overlap.
 #[inline(always)]
 fn have_same_bytes(name: &[u8], other: &[u8]) -> bool
     ensures { result ≡ same_bytes name.now other.now }
@@ -100,7 +99,6 @@ impl Tables {
     }
 
     /// Whether the row at an index has this name.
-    #[inline(always)]
     fn is_row_at(&self, index: usize, name: &[u8]) -> bool
         ensures { IsTrue result → row_name self.now (suc index) ≡ Some name.now }
     {
@@ -145,12 +143,11 @@ impl Tables {
     }
 
     /// Whether the column of a number has this name.
-    #[inline(always)]
     pub(crate) fn is_column(&self, column: usize, name: &[u8]) -> bool
         ensures { IsTrue result → column_name self.now column ≡ Some name.now }
     {
         match self.columns.name_at(column) {
-            Some(own) => is_same_name(own.as_bytes(), name),
+            Some(own) => have_same_bytes(own.as_bytes(), name),
             None => false,
         }
     }

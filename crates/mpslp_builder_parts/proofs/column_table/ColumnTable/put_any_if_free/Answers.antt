@@ -1,4 +1,4 @@
-use Rattle.std.proofs.Common.{◌≡◌, refl, ap, subst, sym, ◌∙◌, false}
+use Rattle.std.proofs.Common.{refl, ap, subst, sym, ◌∙◌}
 use Rattle.std.specs.{FinMap.find, Ordering.nat_cmp, Prelude.{is_some}}
 use Rattle.mpslp_builder_parts.specs.{ColumnTable.{ColumnEntries, IsChanged, cells_in_column}}
 use Rattle.mpslp_builder_parts.specs.{Parts.with_cell, StoredColumns.{parts_of, entries_of}}

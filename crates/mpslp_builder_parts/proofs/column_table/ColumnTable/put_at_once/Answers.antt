@@ -1,4 +1,4 @@
-use Rattle.std.proofs.Common.{◌≡◌, refl, ap, subst, sym, ◌∙◌, ℕ}
+use Rattle.std.proofs.Common.{refl, ap, subst, sym, ◌∙◌, ℕ}
 use Rattle.std.specs.{BTreeSet.BTreeSet, FinMap.find, Ordering.nat_cmp, Prelude.{Option, is_some}}
 use Rattle.mpslp_builder_parts.specs.{ColumnTable.{ColumnEntries, IsChanged, cells_in_column}, KnownPairs.IsPutIfSome}
 use Rattle.mpslp_builder_parts.specs.{Parts.with_cell, StoredColumns.{parts_of, entries_of}}
