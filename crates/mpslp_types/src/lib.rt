@@ -10,6 +10,6 @@ mod names;
 pub use faults::{BuildFault, Fault, FaultKind, NameAt, ReadFault, WriteFault};
 pub use kinds::{Kind, Limit, RowType, Sense};
 pub use names::{
-    FIXED_SEED, HashSeed, MAX_NAME_LEN, Name, NameBytes, NameFault, NameHasher, is_lp_byte,
-    may_be_reserved,
+    ByteSet, FIXED_SEED, HashSeed, MAX_NAME_LEN, Name, NameBytes, NameFault, NameHasher, has_all,
+    is_lp_byte, may_be_reserved,
 };
