@@ -1,4 +1,3 @@
-pub mod LegalLemmas
 pub mod LeastLemmas
 pub mod HeldLemmas
 pub mod RefusedLemmas

@@ -1,5 +1,4 @@
 pub mod FaultTests
-pub mod LegalLanes
 pub mod Declaring
 pub mod ErrorOf
 pub mod LineAnswer

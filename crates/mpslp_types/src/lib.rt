@@ -17,7 +17,7 @@ pub use faults::{BuildFault, Fault, FaultKind, NameAt, ReadFault, WriteFault};
 pub use forms::Form;
 pub use kinds::{Kind, Limit, RowType, Sense};
 pub use names::{
-    FIXED_SEED, HashSeed, MAX_NAME_LEN, Name, NameBytes, NameFault, NameHasher, is_lp_byte,
-    may_be_reserved,
+    ByteSet, FIXED_SEED, HashSeed, MAX_NAME_LEN, Name, NameBytes, NameFault, NameHasher, has_all,
+    is_lp_byte, may_be_reserved,
 };
 pub use sorted_map::{Key, Query, SortedMap, entry_at, find_entry, find_index};

@@ -15,7 +15,7 @@ ghost use Rattle.std.specs.Cmp.Rules.{hashing};
 ghost use Rattle.mpslp_types.specs.Name.{IsMpsName, is_visible, same_bytes, marker, bytes_cmp};
 ghost use Rattle.mpslp_types.specs.NameTests.{name_refusal};
 
-use byte_sets::{ByteSet, has_all};
+pub use byte_sets::{ByteSet, has_all};
 pub use hashing::{FIXED_SEED, HashSeed, NameHasher};
 pub use keys::NameBytes;
 pub use lp::{is_lp_byte, may_be_reserved};

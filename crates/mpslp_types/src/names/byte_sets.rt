@@ -8,9 +8,11 @@ use std::simd::prelude::*;
 
 /// A set of bytes. A byte is in it if what `low` has at its low four bits and what `high` has at its high four bits have a bit
 /// in common.
-pub(crate) struct ByteSet {
-    pub(crate) low: [u8; 16],
-    pub(crate) high: [u8; 16],
+pub struct ByteSet {
+    /// A bit for each group of bytes, at the low four bits of its bytes.
+    pub low: [u8; 16],
+    /// The same, at their high four bits.
+    pub high: [u8; 16],
 }
 
 /// Whether 16 bytes are in the set.
@@ -63,7 +65,7 @@ fn has_long(set: &ByteSet, text: &[u8]) -> bool
 /// Whether all bytes of a text are in the set, if it has at least four bytes; `false` for a shorter text, of which each byte is
 /// tested as quickly by itself.
 #[inline(always)]
-pub(crate) fn has_all(set: &ByteSet, text: &[u8]) -> bool
+pub fn has_all(set: &ByteSet, text: &[u8]) -> bool
     ensures { IsTrue result → list_all (is_in set.now) text.now ≡ true }
 {
     let len = text.len();
