@@ -1,5 +1,5 @@
-use Rattle.std.proofs.Common.{◌≡◌, ap, sym, ◌∙◌, ℕ, Bool, true, false}
-use Rattle.std.specs.{FinMap.find, Ordering.nat_cmp, Prelude.{None, Ok, is_some, not}}
+use Rattle.std.proofs.Common.{◌≡◌, ℕ, Bool, true, false}
+use Rattle.std.specs.{FinMap.find, Ordering.nat_cmp, Prelude.{None, Ok, is_some}}
 use Rattle.mpslp_decimal.specs.Decimal.{Number}
 use Rattle.mpslp_builder.specs.{Calls.{HasColumnChanged, IsSameTables, PutsIfFree, cells_at, with_cell}, ColumnLine.entry_declared}
 use Rattle.mpslp_builder.specs.declared.tables.Tables.{Tables}

@@ -1,1 +1,0 @@
-use Rattle.mpslp_builder.proofs.tables.Tables.put_cell.Goals as goal
