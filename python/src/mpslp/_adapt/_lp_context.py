@@ -17,6 +17,9 @@ from mpslp._text import _numbers
 from mpslp._text._lp_words import INFINITIES
 from mpslp._text._names import is_lp_name
 
+_NO_NUMBER = re.compile(r"nan|#.*", re.IGNORECASE)
+"""What programs write if they have no number, as spreadsheets #REF!."""
+
 
 class Context:
     """What is known of a file so far, and what is written instead of its tokens."""
@@ -34,6 +37,8 @@ class Context:
         """The columns that are named more than once."""
         self.only_on_the_right: dict[str, Token] = {}
         """The columns that are only after numbers on the right of terms, and where they are first."""
+        self.lone_on_the_right: dict[str, Token] = {}
+        """The words that are only on the right of terms, in one row, and where they are first."""
 
     @property
     def first_column(self) -> str | None:
@@ -59,23 +64,41 @@ class Context:
                 self.named_again.add(name)
             else:
                 self.columns[name] = new_token(Token, ("word", name, statement.start, statement.end, line))
-        if self.only_on_the_right:
+        if self.only_on_the_right or self.lone_on_the_right:
             for name in names:
-                self.only_on_the_right.pop(name, None)
+                self.take_elsewhere(name)
         self.reader.apart.update(names)
 
+    def take_elsewhere(self, name: str) -> None:
+        """Takes notice that a column is in other places than on the right of a row."""
+        self.only_on_the_right.pop(name, None)
+        self.lone_on_the_right.pop(name, None)
+
     def take_columns_on_the_right(self, items: Iterable[Item]) -> None:
-        """Takes the columns on the right of terms, where a name after a number may be a unit."""
+        """Takes the columns on the right of terms, where a name after a number may be a unit, and one that is nowhere
+        else a number that is mistyped.
+        """
+        lone: dict[str, Token] = {}
         for item in items:
             name = item.name
             if name is not None:
+                if self.is_lone(name.text):
+                    lone[name.text] = self.lone_on_the_right.get(name.text, name)
                 first = name if name.text not in self.columns else self.only_on_the_right.get(name.text)
                 self.take_column(name)
                 if item.numbers and first is not None:
                     self.only_on_the_right[name.text] = first
+        self.lone_on_the_right.update(lone)
+
+    def is_lone(self, name: str) -> bool:
+        """Whether a word on the right is nowhere else so far; what programs write if they have no number may be on the
+        right of several rows.
+        """
+        is_again = name in self.lone_on_the_right and _NO_NUMBER.fullmatch(name) is not None
+        return is_again or name not in self.columns
 
     def take_column(self, name: Token) -> None:
-        self.only_on_the_right.pop(name.text, None)
+        self.take_elsewhere(name.text)
         if self.columns.setdefault(name.text, name) is not name:
             self.named_again.add(name.text)
 
