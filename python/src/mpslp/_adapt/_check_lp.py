@@ -65,7 +65,7 @@ def check_lp(source: str, written: str, dialect: str | None, names: Mapping[str,
     """Raises AdaptError if the text written does not declare what the source does, with the names written for names
     given.
     """
-    if says_the_same(source, written, dialect, names, log.reported):
+    if says_the_same(source, written, dialect, names, log):
         return
     try:
         words = tokens_of(source, dialect)
@@ -352,12 +352,13 @@ def _bound(reading: Reading, name: str | None, side: str, value: Limit, line: in
 
 
 def _settle_bounds(reading: Reading, dialect: str | None) -> None:
-    """A column that is free has both bounds, if it is not given others; and what QSopt_ex means by bounds that are left
+    """A column that is free has both bounds, if it is not given others; above a lower bound that is given, it has no
+    other one than each column; and what QSopt_ex means by bounds that are left
     out.
     """
     for sides in reading.bounds.values():
-        if sides.pop("free", None) is not None:
-            sides.setdefault("lower", {-_INFINITE})
+        if sides.pop("free", None) is not None and "lower" not in sides:
+            sides["lower"] = {-_INFINITE}
             sides.setdefault("upper", {_INFINITE})
         if dialect == "qsopt" and "lower" not in sides and min(sides["upper"]) < 0:
             sides["lower"] = {-_INFINITE}

@@ -8,7 +8,7 @@ from decimal import Decimal
 
 from mpslp._adapt._changes import AdaptError, Log
 from mpslp._adapt._lp_parts import Item, sense_of, spelled
-from mpslp._adapt._lp_plain import names_in
+from mpslp._adapt._lp_plain import ItemText, names_in
 from mpslp._adapt._lp_print import Cell, Script, printed
 from mpslp._adapt._lp_reader import Reader
 from mpslp._adapt._lp_tokens import Token, look_alike, new_token, no_column, punctuation_after
@@ -78,16 +78,31 @@ class Context:
         """Takes the columns on the right of terms, where a name after a number may be a unit, and one that is nowhere
         else a number that is mistyped.
         """
+        self._take_on_the_right((item.name, item.numbers != []) for item in items if item.name is not None)
+
+    def take_plain_on_the_right(self, statement: Token, items: Sequence[ItemText]) -> None:
+        """The same for a statement that is read as a whole: its terms, which are on its last line."""
+        names, columns = [item[3] for item in items], self.columns
+        self.reader.apart.update(names)
+        if not (self.only_on_the_right or self.lone_on_the_right) and all([name in columns for name in names]):
+            self.named_again.update(names)
+            return
+        line = statement.line + statement.text.count("\n")
+        self._take_on_the_right(
+            (new_token(Token, ("word", name, statement.start, statement.end, line)), number != "")
+            for _, number, _, name in items
+        )
+
+    def _take_on_the_right(self, names: Iterable[tuple[Token, bool]]) -> None:
+        """Takes columns, each with whether a number is before it."""
         lone: dict[str, Token] = {}
-        for item in items:
-            name = item.name
-            if name is not None:
-                if self.is_lone(name.text):
-                    lone[name.text] = self.lone_on_the_right.get(name.text, name)
-                first = name if name.text not in self.columns else self.only_on_the_right.get(name.text)
-                self.take_column(name)
-                if item.numbers and first is not None:
-                    self.only_on_the_right[name.text] = first
+        for name, has_number in names:
+            if self.is_lone(name.text):
+                lone[name.text] = self.lone_on_the_right.get(name.text, name)
+            first = name if name.text not in self.columns else self.only_on_the_right.get(name.text)
+            self.take_column(name)
+            if has_number and first is not None:
+                self.only_on_the_right[name.text] = first
         self.lone_on_the_right.update(lone)
 
     def is_lone(self, name: str) -> bool:
@@ -166,9 +181,13 @@ class Context:
 
     def name_of(self, token: Token) -> str:
         self.check_name(token)
-        name = self.names.of(token.text)
-        if name != token.text:
-            self.log.add(token.line, "name", token.text, name)
+        return self.written_name(token.line, token.text)
+
+    def written_name(self, line: int, given: str) -> str:
+        """The name that is written in a line for one given, which is reported."""
+        name = self.names.of(given)
+        if name != given:
+            self.log.add(line, "name", given, name)
         return name
 
     def check_name(self, token: Token) -> None:
