@@ -11,12 +11,13 @@ from __future__ import annotations
 import re
 from collections import Counter
 from collections.abc import Mapping, Sequence
-from decimal import Context, Decimal, Inexact
+from fractions import Fraction
+from functools import lru_cache
 from itertools import chain
 from typing import NamedTuple
 
 from mpslp._adapt._changes import Log, Note
-from mpslp._adapt._check_lp_text import HEADERS, INFINITE_SIDES
+from mpslp._adapt._check_lp_text import HEADERS, INFINITE_SIDES, new_token
 
 _REST = r"[^\s\\<>=:*^+\-\[\]\x80-\xff]*"
 _WORD = rf"[A-Za-z_]{_REST}"
@@ -60,9 +61,13 @@ _UNIT = re.compile(rf"(?:[+-][ \t]*)?{_AMOUNT}[ \t]+{_WORD_OF_ROW}", re.ASCII)
 
 _WORD_OF_LINE = re.compile(rf"{_AMOUNT}|{_WORD_OF_ROW}|[<>]=?|=[<>=]?|[^ \t\r]", re.ASCII)
 
-_Number = int | Decimal
-_EXACT = Context(prec=2000, Emin=-(10**6), Emax=10**6, traps=[Inexact])
-_LARGE = Decimal(10**20, _EXACT)
+_Number = int | Fraction
+_LARGE = 10**20
+_CONSTANT = re.compile(rf"[ \t]+([+-])[ \t]*({_AMOUNT})", re.ASCII)
+"""With a space before its sign, which is then not that of an exponent."""
+
+_RELATION = re.compile(_END)
+_MAY_BE_LARGE = re.compile(r"[0-9]{16}|[eE][+-]")
 _NO_LETTERS = "0123456789.+-* \t"
 _MOST_DIGITS = 15
 """Of an amount that is no number with a point or an exponent, and that is finite whatever it is."""
@@ -127,6 +132,8 @@ def _says_the_same_line(
         return _has_other_words(line, written, words)
     if row is None:
         return not words and _is_same_header(line, written)
+    if not names and _has_last_constant_on_right(row, written):
+        return True
     after = _ROW.fullmatch(written)
     return after is not None and _is_same_row(row, after, names)
 
@@ -289,6 +296,28 @@ def _names_in(texts: Sequence[str]) -> set[str]:
     return set(_NAME_OR_AMOUNT.findall("\n".join(texts))) - {""}
 
 
+def _has_last_constant_on_right(row: re.Match[str], written: str) -> bool:
+    """Whether a line is a row up to a constant that is the last number on its left, then its relation, and its number
+    less this constant: many changed rows are so, and what stays need not be read again. If not, the row may still say
+    the same.
+    """
+    relation = _RELATION.search(written)
+    if relation is None or _sense(relation[0]) != _sense(row["relation"]):
+        return False
+    front, right = written[: relation.start()], written[relation.end() :].rstrip(_SPACES)
+    left = front[row.start("left") :]
+    if not row.string.startswith(front) or not left.lstrip(_NO_LETTERS) or _MAY_BE_LARGE.search(left) is not None:
+        return False
+    constant = _CONSTANT.fullmatch(row.string, len(front), row.start("relation"))
+    if constant is None or not (_is_amount(row["right"]) and _SIDE_OF_ROW.fullmatch(right)):
+        return False
+    limit, limit_written = _added(row["right"] + _OPPOSITE[constant[1]] + constant[2], {}), _added(right, {})
+    return limit is not None and limit == limit_written and -_LARGE < limit < _LARGE
+
+
+_OPPOSITE = {"+": "-", "-": "+"}
+
+
 class _Row(NamedTuple):
     """What a row says: its label, its terms on the left, with those of one column added, its relation and its number on
     the right.
@@ -315,58 +344,45 @@ def _row(row: re.Match[str]) -> _Row | None:
     """What a row says; None if it has no terms, or a number that may be infinite."""
     label, left, relation, right = row.groups()
     terms: dict[str, _Number] = {}
-    constant = _added(left, False, terms)
-    is_flipped = not terms
-    limit = _added(right, True, terms)
-    if constant is None or limit is None or not terms:
+    terms_on_the_right: dict[str, _Number] = {}
+    constant, limit, sense = _added(left, terms), _added(right, terms_on_the_right), _sense(relation)
+    if constant is None or limit is None:
         return None
-    limit = _minus(limit, constant)
-    sense = "<" if "<" in relation else ">" if ">" in relation else "="
-    if is_flipped:
-        sense = _FLIPPED[sense]
-        terms, limit = {name: _negative(value) for name, value in terms.items()}, _negative(limit)
-    return _Row(label, terms, sense, limit) if -_LARGE < limit < _LARGE else None
+    limit -= constant
+    if not terms:
+        terms, terms_on_the_right, sense, limit = terms_on_the_right, {}, _FLIPPED[sense], -limit
+    for name, value in terms_on_the_right.items():
+        terms[name] = terms[name] - value if name in terms else -value
+    return new_token(_Row, (label, terms, sense, limit)) if terms and -_LARGE < limit < _LARGE else None
 
 
 _FLIPPED = {"<": ">", ">": "<", "=": "="}
 
 
-def _added(side: str, is_negative: bool, terms: dict[str, _Number]) -> _Number | None:
-    """The sum of the numbers of a side, whose terms, or their negatives, are added to some; None if one of its numbers
-    may be infinite.
+def _sense(relation: str) -> str:
+    return "<" if "<" in relation else ">" if ">" in relation else "="
+
+
+def _added(side: str, terms: dict[str, _Number]) -> _Number | None:
+    """The sum of the numbers of a side, whose terms are added to those given; None if one of its numbers may be
+    infinite.
     """
     constant: _Number = 0
     for sign, amount, name in _TERM.findall(side):
-        value = _value(amount)
+        value = int(amount or 1) if len(amount) <= _MOST_DIGITS and (not amount or amount.isdigit()) else _value(amount)
         if value is None:
             return None
-        if name:
-            if (sign == "-") != is_negative:
-                value = _negative(value)
-            terms[name] = _plus(terms[name], value) if name in terms else value
+        if sign == "-":
+            value = -value
+        if not name:
+            constant += value
         else:
-            constant = _minus(constant, value) if sign == "-" else _plus(constant, value)
+            terms[name] = terms[name] + value if name in terms else value
     return constant
 
 
-def _value(amount: str) -> _Number | None:
-    """An amount, which is 1 if it is empty; None if it may be infinite."""
-    if len(amount) <= _MOST_DIGITS and (not amount or amount.isdigit()):
-        return int(amount or 1)
-    value = _EXACT.create_decimal(amount)
+@lru_cache(maxsize=1 << 14)
+def _value(amount: str) -> Fraction | None:
+    """The value of an amount; None if it may be infinite."""
+    value = Fraction(amount)
     return value if value < _LARGE else None
-
-
-def _plus(first: _Number, second: _Number) -> _Number:
-    if isinstance(first, int) and isinstance(second, int):
-        return first + second
-    return _EXACT.add(first, second)
-
-
-def _minus(first: _Number, second: _Number) -> _Number:
-    return _plus(first, _negative(second))
-
-
-def _negative(number: _Number) -> _Number:
-    """The negative number; the sign before a Decimal would round it."""
-    return -number if isinstance(number, int) else number.copy_negate()

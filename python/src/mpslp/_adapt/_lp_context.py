@@ -8,7 +8,7 @@ from decimal import Decimal
 
 from mpslp._adapt._changes import AdaptError, Log
 from mpslp._adapt._lp_parts import Item, sense_of, spelled
-from mpslp._adapt._lp_plain import ItemText, names_in
+from mpslp._adapt._lp_plain import Sides, names_in
 from mpslp._adapt._lp_print import Cell, Script, printed
 from mpslp._adapt._lp_reader import Reader
 from mpslp._adapt._lp_tokens import Token, look_alike, new_token, no_column, punctuation_after
@@ -80,17 +80,18 @@ class Context:
         """
         self._take_on_the_right((item.name, item.numbers != []) for item in items if item.name is not None)
 
-    def take_plain_on_the_right(self, statement: Token, items: Sequence[ItemText]) -> None:
-        """The same for a statement that is read as a whole: its terms, which are on its last line."""
-        names, columns = [item[3] for item in items], self.columns
+    def take_plain_on_the_right(self, statement: Token, sides: Sides) -> None:
+        """The same for a row that is read as a whole, and has its right side on its last line."""
+        names = sides.names_on_the_right
         self.reader.apart.update(names)
-        if not (self.only_on_the_right or self.lone_on_the_right) and all([name in columns for name in names]):
+        if not (self.only_on_the_right or self.lone_on_the_right or {*names} - self.columns.keys()):
             self.named_again.update(names)
             return
         line = statement.line + statement.text.count("\n")
         self._take_on_the_right(
             (new_token(Token, ("word", name, statement.start, statement.end, line)), number != "")
-            for _, number, _, name in items
+            for _, number, _, name in sides.right
+            if name
         )
 
     def _take_on_the_right(self, names: Iterable[tuple[Token, bool]]) -> None:
@@ -126,21 +127,17 @@ class Context:
 
     def replace(self, first: Token, last: Token, kinds: Iterable[str], cells: Sequence[Cell]) -> None:
         """Writes a statement again, after the comments that were within it."""
-        after = without_comments(printed(cells))
-        for kind in kinds:
-            self.log.add(first.line, kind, self.source(first, last), after)
+        self.log.add_all(first.line, kinds, self.source(first, last), without_comments(printed(cells)))
         self.script.replace(first.start, last.end, cells)
 
     def rewrite(self, statement: Token, kinds: Iterable[str], text: str) -> None:
         """Writes a statement that is read as a whole again."""
-        for kind in kinds:
-            self.log.add(statement.line, kind, statement.text, text)
+        self.log.add_all(statement.line, kinds, statement.text, text)
         self.script.replace(statement.start, statement.end, text)
 
     def insert_after(self, token: Token, kinds: Iterable[str], cells: Sequence[Cell]) -> None:
         """Writes a statement that the source does not have."""
-        for kind in kinds:
-            self.log.add(token.line, kind, "", printed(cells))
+        self.log.add_all(token.line, kinds, "", printed(cells))
         self.script.insert_after(token, cells)
 
     def source(self, first: Token, last: Token) -> str:

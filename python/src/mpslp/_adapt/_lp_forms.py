@@ -35,22 +35,27 @@ def form_of_row(sides: Sides, written: Callable[[str], str]) -> Form | None:
     """How a row is written with all terms on the left and one number on the right, without its label; None for a row
     that needs more, or that is left. A row without kinds of changes stays as it is.
     """
-    is_flipped = not _names(sides.left)
-    terms, outer = (sides.right, sides.left) if is_flipped else (sides.left, sides.right)
-    kinds = _kinds(terms, outer, is_flipped)
+    left, relation, right, names_on_the_left, names_on_the_right, _ = sides
+    is_flipped = not names_on_the_left
+    terms, outer = (right, left) if is_flipped else (left, right)
+    kinds = _kinds(sides, terms, outer, is_flipped)
     if not kinds:
-        return Form((), "")
+        return _KEPT
     limit = _limit(
         tuple([sign + number for sign, number, _, name in outer if not name]),
         tuple([sign + number for sign, number, _, name in terms if not name]),
     )
-    moved = [("" if sign == "-" else "-", number, star, name) for sign, number, star, name in outer if name]
-    body = _body(terms + moved if moved else terms, written, "added-terms" in kinds)
+    if names_on_the_right and not is_flipped:
+        terms = terms + [("" if sign == "-" else "-", number, "", name) for sign, number, _, name in outer if name]
+    body = _body(terms, written, "added-terms" in kinds)
     if limit is None or body is None or len(body) > _LONGEST_FORM:
         return None
-    relation = sense_of(sides.relation)
-    text = f"{body} {_FLIPPED[relation] if is_flipped else relation} {limit}"
-    return Form(kinds, text, _renamed(terms + moved, written) if "(" in body else ())
+    sense = sense_of(relation)
+    renamed = _renamed([*names_on_the_left, *names_on_the_right], written) if "(" in body else ()
+    return Form(kinds, f"{body} {_FLIPPED[sense] if is_flipped else sense} {limit}", renamed)
+
+
+_KEPT = Form((), "")
 
 
 def sense_of(relation: str) -> str:
@@ -58,25 +63,21 @@ def sense_of(relation: str) -> str:
     return "<=" if "<" in relation else ">=" if ">" in relation else "="
 
 
-def _kinds(terms: Sequence[ItemText], outer: Sequence[ItemText], is_flipped: bool) -> tuple[str, ...]:
+def _kinds(sides: Sides, terms: Sequence[ItemText], outer: Sequence[ItemText], is_flipped: bool) -> tuple[str, ...]:
     """Why a row is written again, in the order in which it is reported."""
-    names = _names(terms)
-    moved = _names(outer)
+    names, moved = sides.names_on_the_left, sides.names_on_the_right
+    if is_flipped:
+        names, moved = moved, names
     kinds = ["number-first"] if is_flipped else ["terms-on-the-right"] if moved else []
     if len(outer) != 1 and not moved:
         kinds.append("added-constants")
     if len(names) < len(terms):
         kinds.append("constant-in-row")
-    names += moved
-    if len(set(names)) < len(names):
+    if len({*names, *moved}) < len(names) + len(moved):
         kinds.append("added-terms")
-    if any([item[2] for item in terms]) or any([item[2] for item in outer]):
+    if sides.has_products:
         kinds.append("product")
     return tuple(kinds)
-
-
-def _names(items: Iterable[ItemText]) -> list[str]:
-    return [item[3] for item in items if item[3]]
 
 
 def _body(terms: Sequence[ItemText], written: Callable[[str], str], is_again: bool) -> str | None:
@@ -111,9 +112,8 @@ def _added(terms: Sequence[ItemText]) -> list[ItemText] | None:
     return added
 
 
-def _renamed(terms: Iterable[ItemText], written: Callable[[str], str]) -> tuple[tuple[str, str], ...]:
-    names = dict.fromkeys(_names(terms))
-    return tuple([(name, written(name)) for name in names if written(name) != name])
+def _renamed(names: Iterable[str], written: Callable[[str], str]) -> tuple[tuple[str, str], ...]:
+    return tuple([(name, written(name)) for name in dict.fromkeys(names) if written(name) != name])
 
 
 def _sum(numbers: tuple[str, ...]) -> str | None:

@@ -239,11 +239,15 @@ def sum_of(body: str) -> Sum:
 
 
 class Sides(NamedTuple):
-    """A row with one relation, without its label."""
+    """A row with one relation, without its label: what is on each side, the columns there, and whether it has products.
+    """
 
     left: list[ItemText]
     relation: str
     right: list[ItemText]
+    names_on_the_left: list[str]
+    names_on_the_right: list[str]
+    has_products: bool
 
 
 def sides_of(body: str) -> Sides | None:
@@ -251,8 +255,9 @@ def sides_of(body: str) -> Sides | None:
     parts = _RELATIONS.split(body)
     if len(parts) > 3:
         return None
-    left, relation, right = parts
-    return new_token(Sides, (_ITEM.findall(left), relation, _ITEM.findall(right)))
+    left, right = _ITEM.findall(parts[0]), _ITEM.findall(parts[2])
+    names, names_on_the_right = [item[3] for item in left if item[3]], [item[3] for item in right if item[3]]
+    return new_token(Sides, (left, parts[1], right, names, names_on_the_right, "*" in body))
 
 
 def with_names(text: str, written: Callable[[str], str]) -> str:

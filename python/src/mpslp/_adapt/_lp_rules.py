@@ -188,18 +188,15 @@ class RowRules:
     def take_names(self, statement: Token, label: str, body: str, sides: Sides | None) -> None:
         """Takes the columns of a row that is read as a whole."""
         context = self.context
-        left = [item[3] for item in sides.left if item[3]] if sides is not None else names_in(body)
-        right = [item for item in sides.right if item[3]] if sides is not None else []
-        if not right:
-            context.take_plain(statement, body, left)
-            return
-        if len(right) == 1 and sides is not None and len(sides.right) == 1 and is_like_set(label, *right[0]):
+        if sides is None or not sides.names_on_the_right:
+            context.take_plain(statement, body, names_in(body) if sides is None else sides.names_on_the_left)
+        elif not sides.names_on_the_left:
+            context.take_plain(statement, body, sides.names_on_the_right)
+        elif len(sides.right) == 1 and is_like_set(label, *sides.right[0]):
             raise AdaptError(statement.line, ORDERED_SETS)  # token by token, it is known whether it is one
-        if not left:
-            context.take_plain(statement, body, [item[3] for item in right])
-            return
-        context.take_plain(statement, body[: -len(body.rpartition(sides.relation)[2])] if sides else body, left)
-        context.take_plain_on_the_right(statement, right)
+        else:
+            context.take_plain(statement, body[: body.index(sides.relation)], sides.names_on_the_left)
+            context.take_plain_on_the_right(statement, sides)
 
     def form_of(self, statement: Token, body: str, sides: Sides | None) -> Form:
         """How a row is written that is read as a whole. Files that programs write have many rows that differ in their
