@@ -86,9 +86,7 @@ _NO_NAMES = frozenset(
 _EXPONENT = re.compile(r"[eE][0-9]*")
 
 
-def says_the_same(
-    source: str, written: str, dialect: str | None, names: Mapping[str, str], log: Log
-) -> bool:
+def says_the_same(source: str, written: str, dialect: str | None, names: Mapping[str, str], log: Log) -> bool:
     """Whether two texts differ only in rows, names and headers that say the same, and that are in the texts of the
     changes.
     """

@@ -239,8 +239,7 @@ def sum_of(body: str) -> Sum:
 
 
 class Sides(NamedTuple):
-    """A row with one relation, without its label: what is on each side, the columns there, and whether it has products.
-    """
+    """A row with one relation, without its label: its sides, the columns there, and whether it has products."""
 
     left: list[ItemText]
     relation: str

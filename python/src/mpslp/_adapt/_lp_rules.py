@@ -11,16 +11,7 @@ from mpslp._adapt._changes import AdaptError
 from mpslp._adapt._lp_context import Context
 from mpslp._adapt._lp_forms import Form, form_of_row
 from mpslp._adapt._lp_parts import FLIPPED, Item, Objective, Row, has_terms, negated, sense_of, spelled
-from mpslp._adapt._lp_plain import (
-    Sides,
-    names_in,
-    parts_of,
-    row_of,
-    sides_of,
-    sum_of,
-    with_names,
-    with_one_equals_sign,
-)
+from mpslp._adapt._lp_plain import Sides, names_in, parts_of, row_of, sides_of, sum_of, with_names, with_one_equals_sign
 from mpslp._adapt._lp_print import Cell, labelled, literal_cells, printed, term_cells
 from mpslp._adapt._lp_sections import ORDERED_SETS
 from mpslp._adapt._lp_tokens import Token
@@ -174,7 +165,8 @@ class RowRules:
         """The same for a row that is read as a whole."""
         label, body = parts_of(statement.text)
         sides = sides_of(body)
-        if sides is not None and not label and len(sides.left) == len(sides.right) == 1:
+        if sides is not None and not label and is_one_term(sides):
+            self.context.reader.has_spaces = True
             self.settle(row_of(statement, body))  # it may look as a bound
             return
         self.take_other_row(label != "")
@@ -441,6 +433,11 @@ class RowRules:
         self.context.script.replace(row.first.start, row.last.end, [])
         self.previous = None
         return True
+
+
+def is_one_term(sides: Sides) -> bool:
+    """Whether a row is a term and a number."""
+    return len(sides.left) == len(sides.right) == 1 and len(sides.names_on_the_left + sides.names_on_the_right) == 1
 
 
 def is_like_set(label: str, sign: str, number: str, star: str, name: str) -> bool:
