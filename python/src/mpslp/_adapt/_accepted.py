@@ -32,5 +32,10 @@ def require_accepted(content: bytes, format: Format, source_lines: Sequence[int]
     line = error.line
     if line is not None and source_lines and line <= len(source_lines):
         line = source_lines[line - 1]
-    name = "" if error.name is None else f" {error.name}"
-    raise AdaptError(line, f"{error.kind}{name}: see mpslp-tools explain {error.kind}", error)
+    raise left_for(error, line)
+
+
+def left_for(rejection: ModelFileError, line: int | None) -> AdaptError:
+    """The error of a text that is left since mpslp rejects it, with the line of the source."""
+    name = "" if rejection.name is None else f" {rejection.name}"
+    return AdaptError(line, f"{rejection.kind}{name}: see mpslp-tools explain {rejection.kind}", rejection)

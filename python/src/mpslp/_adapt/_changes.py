@@ -1,6 +1,6 @@
 """What is changed in a text, and why a text is left."""
 
-from collections.abc import Collection, Sequence
+from collections.abc import Collection, Iterable, Sequence
 from dataclasses import dataclass
 from typing import TYPE_CHECKING, NamedTuple
 
@@ -151,12 +151,18 @@ class Log:
         """The line of the source for each line that is written; empty if they are the same."""
 
     def add(self, line: int, kind: str, before: str, after: str) -> None:
-        if kind in self.kinds_not_wanted:
-            raise AdaptError(line, f"a change of the kind {kind} is needed: {shown(before)}")
-        change = Change(line, kind, *_both_shown(before, after))
-        self.changes.append(change)
-        is_whole = change.before == before and change.after == after
-        self.reported.append(change if is_whole else Reported(line, kind, before, after))
+        self.add_all(line, (kind,), before, after)
+
+    def add_all(self, line: int, kinds: Iterable[str], before: str, after: str) -> None:
+        """Adds a change that is of several kinds."""
+        shown_before, shown_after = _both_shown(before, after)
+        is_whole = shown_before == before and shown_after == after
+        for kind in kinds:
+            if kind in self.kinds_not_wanted:
+                raise AdaptError(line, f"a change of the kind {kind} is needed: {shown(before)}")
+            change = Change(line, kind, shown_before, shown_after)
+            self.changes.append(change)
+            self.reported.append(change if is_whole else Reported(line, kind, before, after))
 
     def take(self, other: "Log") -> None:
         """Has what another one has."""

@@ -59,13 +59,17 @@ class Reading:
     listed: Counter[tuple[str, str]] = field(default_factory=Counter)
     lines: dict[str, int] = field(default_factory=dict)
     """Where the bounds of a column are."""
+    on_the_left: set[str] = field(default_factory=set)
+    """The columns of rows, without those on the right of others."""
+    on_the_right: dict[str, list[int]] = field(default_factory=dict)
+    """The lines of the rows that have a column on the right of others."""
 
 
 def check_lp(source: str, written: str, dialect: str | None, names: Mapping[str, str], log: Log) -> None:
     """Raises AdaptError if the text written does not declare what the source does, with the names written for names
     given.
     """
-    if says_the_same(source, written, dialect, names, log.reported):
+    if says_the_same(source, written, dialect, names, log):
         return
     try:
         words = tokens_of(source, dialect)
@@ -77,7 +81,11 @@ def check_lp(source: str, written: str, dialect: str | None, names: Mapping[str,
         after = readings(words_written, None, is_of_mpslp=True)
     except Unreadable as error:
         raise AdaptError(1, f"{INTERNAL_ERROR}: line {error.line} of the result: {error.reason}") from error
-    found = differences(before, after, names) or difference_in_lp(words, words_written, dialect, names, log)
+    found = (
+        differences(before, after, names)
+        or _lone_word(before)
+        or difference_in_lp(words, words_written, dialect, names, log)
+    )
     if found is not None:
         raise AdaptError(found.line, f"{INTERNAL_ERROR}: {found.text}")
 
@@ -110,6 +118,15 @@ def differences(before: Reading, after: Reading, names: Mapping[str, str]) -> Di
         != after.listed
     ):
         return Difference(1, "the columns that are integer, binary or semi-continuous")
+    return None
+
+
+def _lone_word(reading: Reading) -> Difference | None:
+    """The first word that is on the right of one row, and nowhere else: it may be a number that is mistyped."""
+    elsewhere = {*reading.objective, *reading.on_the_left, *reading.bounds, *(name for _, name in reading.listed)}
+    for name, lines in reading.on_the_right.items():
+        if len(lines) == 1 and name not in elsewhere:
+            return Difference(lines[0], f"{name} is only on the right of a row")
     return None
 
 
@@ -201,8 +218,17 @@ def _read_block(reading: Reading, label: str | None, body: Sequence[LpToken], is
         sides = [
             side_of(body[first:last]) for first, last in zip([start, *(mark + 1 for mark in marks)], [*marks, end])
         ]
+        _take_columns(reading, sides, body[start].line)
         reading.rows.append(_row(label, sides, [body[mark] for mark in marks], body[start], body[end - 1]))
         start, at, label = end, at + used, None
+
+
+def _take_columns(reading: Reading, sides: Sequence[Side], line: int) -> None:
+    is_moved = len(sides) == 2 and sides[0].terms and sides[1].terms
+    for side in sides[:1] if is_moved else sides:
+        reading.on_the_left.update(side.terms)
+    for name in sides[1].terms if is_moved else ():
+        reading.on_the_right.setdefault(name, []).append(line)
 
 
 def _is_between(left: Sequence[LpToken], gap: Sequence[LpToken], first: LpToken, second: LpToken) -> bool:
@@ -352,12 +378,13 @@ def _bound(reading: Reading, name: str | None, side: str, value: Limit, line: in
 
 
 def _settle_bounds(reading: Reading, dialect: str | None) -> None:
-    """A column that is free has both bounds, if it is not given others; and what QSopt_ex means by bounds that are left
+    """A column that is free has both bounds, if it is not given others; above a lower bound that is given, it has no
+    other one than each column; and what QSopt_ex means by bounds that are left
     out.
     """
     for sides in reading.bounds.values():
-        if sides.pop("free", None) is not None:
-            sides.setdefault("lower", {-_INFINITE})
+        if sides.pop("free", None) is not None and "lower" not in sides:
+            sides["lower"] = {-_INFINITE}
             sides.setdefault("upper", {_INFINITE})
         if dialect == "qsopt" and "lower" not in sides and min(sides["upper"]) < 0:
             sides["lower"] = {-_INFINITE}

@@ -9,22 +9,26 @@ declarations.
 from __future__ import annotations
 
 import re
+from collections import Counter
 from collections.abc import Mapping, Sequence
-from decimal import Context, Decimal, Inexact
-from functools import lru_cache, reduce
+from fractions import Fraction
+from functools import lru_cache
+from itertools import chain
 from typing import NamedTuple
 
-from mpslp._adapt._changes import Change, Reported
-from mpslp._adapt._check_lp_text import HEADERS, INFINITE_SIDES
+from mpslp._adapt._changes import Log, Note
+from mpslp._adapt._check_lp_text import HEADERS, INFINITE_SIDES, new_token
 
-_WORD = r"[A-Za-z_][^\s\\<>=:*^+\-\[\]\x80-\xff]*"
+_REST = r"[^\s\\<>=:*^+\-\[\]\x80-\xff]*"
+_WORD = rf"[A-Za-z_]{_REST}"
+_WORD_OF_ROW = rf"{_WORD}(?:\[{_REST}\]{_REST})*"
 _AMOUNT = r"(?:\d{1,30}(?:\.\d{0,30})?|\.\d{1,30})(?:[eE][+-]\d{1,2})?"
-_PIECE = rf"(?:{_AMOUNT}(?:[ \t]*\*[ \t]*|[ \t]+){_WORD}|{_AMOUNT}|{_WORD})"
+_PIECE = rf"(?:{_AMOUNT}(?:[ \t]*\*[ \t]*|[ \t]+){_WORD_OF_ROW}|{_AMOUNT}|{_WORD_OF_ROW})"
 _MORE = rf"(?:[ \t]*[+-][ \t]*{_PIECE})*"
 _SIGNED = rf"(?:[+-][ \t]*)?{_PIECE}{_MORE}"
 _SIDE = rf"(?:[+-][ \t]*)?{_AMOUNT}"
-_END = r"[ \t]*(?:[<>]=?|=[<>]?)[ \t]*"
-_LABEL = rf"[ \t]*(?P<label>{_WORD})[ \t]*:[ \t]*"
+_END = r"[ \t]*(?:[<>]=?|=[<>=]?)[ \t]*"
+_LABEL = rf"[ \t]*(?P<label>{_WORD_OF_ROW})[ \t]*:[ \t]*"
 _LAST = r"[ \t\r]*"
 _LIMIT = r"(?:[+-][ \t]*)?(?:(?:\d{1,30}(?:\.\d{0,30})?|\.\d{1,30})(?:[eE][+-]?\d{1,2})?|(?i:inf(?:inity)?))"
 
@@ -34,8 +38,8 @@ def _line(pattern: str) -> re.Pattern[str]:
 
 
 _ROW = _line(
-    rf"(?:{_LABEL}|[ \t]*(?=(?:\d[\d.]*(?:[eE][+-]\d+)?[ \t]*\*?"
-    rf"[ \t]*)?[A-Za-z_]))(?P<left>{_SIGNED})(?P<relation>{_END})(?P<right>{_SIDE})"
+    rf"(?:{_LABEL}|[ \t]*(?=[A-Za-z_]|\d[\d.]*(?:[eE][+-]\d+)?[ \t]*(?:\*?[ \t]*[A-Za-z_]|[<>=])))"
+    rf"(?P<left>{_SIGNED})(?P<relation>{_END})(?P<right>{_SIGNED})"
 )
 _RANGED_ROW = _line(rf"{_LABEL}{_SIDE}[ \t]*(?:<=?|=<)[ \t]*{_SIGNED}[ \t]*(?:<=?|=<)[ \t]*{_SIDE}")
 _FIRST_OF_ROW = _line(rf"{_LABEL}{_SIGNED}")
@@ -43,24 +47,30 @@ _FIRST_OF_OBJECTIVE = _line(rf"(?:{_LABEL}|[ \t]*){_SIGNED}")
 _FURTHER = _line(rf"[ \t]*[+-][ \t]*{_PIECE}{_MORE}")
 _LAST_OF_ROW = _line(rf"[ \t]*[+-][ \t]*{_PIECE}{_MORE}{_END}{_SIDE}")
 _BOUND = _line(
-    rf"[ \t]*(?:{_LIMIT}[ \t]*(?:<=?|=<)[ \t]*)?{_WORD}{_END}{_LIMIT}|[ \t]*{_LIMIT}{_END}{_WORD}|"
-    rf"[ \t]*{_WORD}[ \t]+(?i:free)"
+    rf"[ \t]*(?:{_LIMIT}[ \t]*(?:<=?|=<)[ \t]*)?{_WORD_OF_ROW}{_END}{_LIMIT}|[ \t]*{_LIMIT}{_END}{_WORD_OF_ROW}|"
+    rf"[ \t]*{_WORD_OF_ROW}[ \t]+(?i:free)"
 )
-_NAMES = _line(rf"[ \t]*{_WORD}(?:[ \t]+{_WORD})*")
+_NAMES = _line(rf"[ \t]*{_WORD_OF_ROW}(?:[ \t]+{_WORD_OF_ROW})*")
 _SENSE_AND_OBJECTIVE = _line(rf"[ \t]*(?i:min|max)(?i:imi[sz]e|imum)?[ \t]+(?P<objective>(?:{_LABEL})?{_SIGNED})")
-_NAME_OR_AMOUNT = re.compile(rf"{_AMOUNT}|({_WORD})", re.ASCII)
-_TERM = re.compile(rf"([+-]?)[ \t]*(?=[\w.])({_AMOUNT})?(?:[ \t]*\*?[ \t]*({_WORD}))?", re.ASCII)
+_NAME_OR_AMOUNT = re.compile(rf"{_AMOUNT}|({_WORD_OF_ROW})", re.ASCII)
+_TERM = re.compile(rf"([+-]?)[ \t]*(?=[\w.])({_AMOUNT})?(?:[ \t]*\*?[ \t]*({_WORD_OF_ROW}))?", re.ASCII)
+_SIDE_OF_ROW = re.compile(_SIDE, re.ASCII)
+_SUM_THAT_ENDS_WITH_AMOUNT = re.compile(rf".*[+-][ \t]*{_AMOUNT}", re.ASCII)
+_UNIT = re.compile(rf"(?:[+-][ \t]*)?{_AMOUNT}[ \t]+{_WORD_OF_ROW}", re.ASCII)
+"""The first term on the right, if it is a number and a name."""
 
-_EXACT = Context(prec=2000, Emin=-(10**6), Emax=10**6, traps=[Inexact])
-_LARGE = Decimal(10**20, _EXACT)
+_WORD_OF_LINE = re.compile(rf"{_AMOUNT}|{_WORD_OF_ROW}|[<>]=?|=[<>=]?|[^ \t\r]", re.ASCII)
+
+_Number = int | Fraction
+_LARGE = 10**20
 _CONSTANT = re.compile(rf"[ \t]+([+-])[ \t]*({_AMOUNT})", re.ASCII)
 """With a space before its sign, which is then not that of an exponent."""
 
-_RELATION, _RIGHT = re.compile(_END), re.compile(_SIDE, re.ASCII)
+_RELATION = re.compile(_END)
 _MAY_BE_LARGE = re.compile(r"[0-9]{16}|[eE][+-]")
 _NO_LETTERS = "0123456789.+-* \t"
-_SHORT_AMOUNT = 4
-"""The letters of amounts that are below this, whatever they are: 9e+9 has four."""
+_MOST_DIGITS = 15
+"""Of an amount that is no number with a point or an exponent, and that is finite whatever it is."""
 
 _DIALECTS = (None, "lp_solve")
 """Others have a constant of the objective that is not where it is read."""
@@ -76,29 +86,63 @@ _NO_NAMES = frozenset(
 _EXPONENT = re.compile(r"[eE][0-9]*")
 
 
-def says_the_same(
-    source: str, written: str, dialect: str | None, names: Mapping[str, str], reported: Sequence[Change | Reported]
-) -> bool:
-    """Whether two texts differ only in rows and headers that say the same, and that are in the texts of the changes."""
+def says_the_same(source: str, written: str, dialect: str | None, names: Mapping[str, str], log: Log) -> bool:
+    """Whether two texts differ only in rows, names and headers that say the same, and that are in the texts of the
+    changes.
+    """
     before, after = source.split("\n"), written.split("\n")
     if dialect not in _DIALECTS or len(before) != len(after):
         return False
-    changed = {change.line: (change.before, change.after) for change in reported}
+    changed: dict[int, list[_Texts]] = {}
+    for change in log.reported:
+        changed.setdefault(change.line, []).append((change.before, change.after))
     reading = _Lines()
     for number, (line, line_written) in enumerate(zip(before, after), 1):
-        if not reading.take(_code(line)):
+        code = _code(line)
+        if not reading.take(code):
             return False
-        if line != line_written and not (
-            changed.pop(number, None) == (_code(line).strip(_SPACES), _code(line_written).strip(_SPACES))
-            and line.partition("\\")[2] == line_written.partition("\\")[2]
-            and (
-                _is_same_header(_code(line), _code(line_written))
-                if reading.row is None
-                else _says_the_same_row(reading.row, _code(line_written))
-            )
+        if line == line_written:
+            if "[" in code:
+                return False  # a name that is to be written in another way
+        elif not (
+            line.partition("\\")[2] == line_written.partition("\\")[2]
+            and _says_the_same_line(reading.row, code, _code(line_written), changed.pop(number, []), names)
         ):
             return False
-    return not changed and reading.has_only_names(names)
+    return not changed and reading.has_only_names(names) and reading.has_columns_on_the_right(log.notes)
+
+
+_Texts = tuple[str, str]
+"""The text of a change before and after it."""
+
+
+def _says_the_same_line(
+    row: re.Match[str] | None, line: str, written: str, texts: list[_Texts], names: Mapping[str, str]
+) -> bool:
+    """Whether a line says what one does that is written instead of it, by the changes that are reported of it: of the
+    whole line, and of its words.
+    """
+    whole = (line.strip(_SPACES), written.strip(_SPACES))
+    words = {each for each in texts if each != whole}
+    if not texts or not all(names.get(given) == name or (given, name) == _EQUALS_SIGNS for given, name in words):
+        return False
+    if len(words) == len(texts):
+        return _has_other_words(line, written, words)
+    if row is None:
+        return not words and _is_same_header(line, written)
+    if not names and _has_last_constant_on_right(row, written):
+        return True
+    after = _ROW.fullmatch(written)
+    return after is not None and _is_same_row(row, after, names)
+
+
+def _has_other_words(line: str, written: str, words: set[_Texts]) -> bool:
+    """Whether two lines are the same but for words, each of which is another one in the second line."""
+    before, after = _WORD_OF_LINE.findall(line), _WORD_OF_LINE.findall(written)
+    return len(before) == len(after) and {pair for pair in zip(before, after) if pair[0] != pair[1]} == words
+
+
+_EQUALS_SIGNS = ("==", "=")
 
 
 def _code(line: str) -> str:
@@ -115,6 +159,13 @@ def _is_same_header(line: str, written: str) -> bool:
     return _header(line) is not None and _header(line) == _header(written)
 
 
+def _is_amount(right: str) -> bool:
+    """Whether what is on the right of a row is one number."""
+    if not right.lstrip(_NO_LETTERS) and "+" not in right[1:] and "-" not in right[1:]:
+        return True
+    return _SIDE_OF_ROW.fullmatch(right) is not None
+
+
 class _Lines:
     """What is known of a text after some lines: the section, and whether the last statement goes on."""
 
@@ -124,10 +175,14 @@ class _Lines:
         self._section = ""
         self._sections: set[str] = set()
         self._goes_on = False
+        self._wants_label = False
+        """Whether a name at the start of the next line would be a part of the last term of this one."""
         self._last: list[str] = []
         """The last statements of which the names are not taken yet."""
         self._names: set[str] = set()
         self._names_of_bounds: set[str] = set()
+        self._right: list[str] = []
+        """What is on the right of rows that have terms on the left, too, and may have some there."""
 
     def take(self, line: str) -> bool:
         """Whether a line has one reading, after those before it."""
@@ -135,9 +190,7 @@ class _Lines:
         if self._section == "end":
             return True
         if self._section == "rows" and not self._goes_on and (found := _ROW.fullmatch(line)) is not None:
-            self.row = found
-            self._keep(line)
-            return True
+            return self._take_row(found)
         header = _header(line)
         if header is not None:
             return self._take_header(header)
@@ -147,6 +200,18 @@ class _Lines:
             return self._take_header("min") and self.take(objective["objective"])
         self._keep(line)
         return self._take_statement(line)
+
+    def _take_row(self, row: re.Match[str]) -> bool:
+        self.row, line, right = row, row.string, row["right"]
+        is_clear = row["label"] is not None or not self._wants_label
+        self._wants_label = False
+        if not _is_amount(right):
+            self._wants_label = _SUM_THAT_ENDS_WITH_AMOUNT.fullmatch(right) is not None
+            if row["left"].lstrip(_NO_LETTERS):
+                self._right.append(right)
+                line = line[: row.start("relation")]
+        self._keep(line)
+        return is_clear
 
     def _take_header(self, section: str) -> bool:
         if section in ("min", "max"):
@@ -171,6 +236,7 @@ class _Lines:
         return self._section != "" and pattern.fullmatch(line) is not None
 
     def _take_part_of_row(self, line: str) -> bool:
+        self._wants_label = False  # it has one, or goes on
         if not self._goes_on:
             self._goes_on = _FIRST_OF_ROW.fullmatch(line) is not None
             return self._goes_on or _RANGED_ROW.fullmatch(line) is not None
@@ -190,21 +256,47 @@ class _Lines:
         self._last = []
 
     def has_only_names(self, names: Mapping[str, str]) -> bool:
-        """Whether no word of a statement may be something else, or was to be written in another way."""
+        """Whether no word of a statement may be something else, or was to be written in another way, and names that are
+        written are no names of others.
+        """
         self._take_names()
         known = (self._names | (self._names_of_bounds - _WORDS_OF_BOUNDS)) - {""}
-        return known.isdisjoint(names) and not any(
-            name.lower() in _NO_NAMES or (name[0] in "eE" and _EXPONENT.fullmatch(name)) for name in known
+        known |= _names_in(self._right)
+        new = set(names.values())
+        if len(new) < len(names) or not known.isdisjoint(new):
+            return False
+        if any("[" not in name and name in known for name in names):
+            return False
+        return not any(
+            name.lower() in _NO_NAMES or (name[0] in "eE" and _EXPONENT.fullmatch(name)) for name in known | new
+        )
+
+    def has_columns_on_the_right(self, notes: Sequence[Note]) -> bool:
+        """Whether the names that are only on the right of rows are in several of them, and those that are only after
+        numbers there, and may be units, are noted.
+        """
+        lone = _names_in(self._right) - self._names - self._names_of_bounds
+        if not lone:
+            return True
+        counts = Counter(chain.from_iterable(_names_in([right]) for right in self._right))
+        units = lone - _names_in([_without_unit(right) for right in self._right])
+        return all(counts[name] > 1 for name in lone) and (
+            not units or any("only after numbers on the right" in note.text for note in notes)
         )
 
 
-def _says_the_same_row(row: re.Match[str], written: str) -> bool:
-    return _has_last_constant_on_right(row, written) or _is_same_row(row, _ROW.fullmatch(written))
+def _without_unit(right: str) -> str:
+    found = _UNIT.match(right)
+    return right if found is None else right[found.end() :]
+
+
+def _names_in(texts: Sequence[str]) -> set[str]:
+    return set(_NAME_OR_AMOUNT.findall("\n".join(texts))) - {""}
 
 
 def _has_last_constant_on_right(row: re.Match[str], written: str) -> bool:
     """Whether a line is a row up to a constant that is the last number on its left, then its relation, and its number
-    less this constant: most changed rows are so, and what stays need not be read again. If not, the row may still say
+    less this constant: many changed rows are so, and what stays need not be read again. If not, the row may still say
     the same.
     """
     relation = _RELATION.search(written)
@@ -215,76 +307,80 @@ def _has_last_constant_on_right(row: re.Match[str], written: str) -> bool:
     if not row.string.startswith(front) or not left.lstrip(_NO_LETTERS) or _MAY_BE_LARGE.search(left) is not None:
         return False
     constant = _CONSTANT.fullmatch(row.string, len(front), row.start("relation"))
-    if constant is None or _RIGHT.fullmatch(right) is None:
+    if constant is None or not (_is_amount(row["right"]) and _SIDE_OF_ROW.fullmatch(right)):
         return False
-    limit = _limit(row["right"], ("".join(constant.groups()),))
-    return limit is not None and limit == _limit(right, ())
+    limit, limit_written = _added(row["right"] + _OPPOSITE[constant[1]] + constant[2], {}), _added(right, {})
+    return limit is not None and limit == limit_written and -_LARGE < limit < _LARGE
 
 
-def _is_same_row(before: re.Match[str], after: re.Match[str] | None) -> bool:
-    if after is None:
+_OPPOSITE = {"+": "-", "-": "+"}
+
+
+class _Row(NamedTuple):
+    """What a row says: its label, its terms on the left, with those of one column added, its relation and its number on
+    the right.
+    """
+
+    label: str | None
+    terms: dict[str, _Number]
+    sense: str
+    limit: _Number
+
+
+def _is_same_row(before: re.Match[str], after: re.Match[str], names: Mapping[str, str]) -> bool:
+    row, row_written = _row(before), _row(after)
+    if row is None or row_written is None or row[2:] != row_written[2:]:
         return False
-    label, left, relation, right = before.groups()
-    label_written, left_written, relation_written, right_written = after.groups()
-    if label != label_written or _sense(relation) != _sense(relation_written):
-        return False
-    terms, constants = _parted(left)
-    terms_written, constants_written = _parted(left_written)
-    if not terms or not all(map(_is_finite, terms)):
-        return False
-    if terms != terms_written and not (all(map(_is_finite, terms_written)) and _added(terms) == _added(terms_written)):
-        return False
-    limit = _limit(right, constants)
-    return limit is not None and limit == _limit(right_written, constants_written)
+    label, terms = row.label, row.terms
+    if names:
+        label = names.get(label, label) if label is not None else None
+        terms = {names.get(name, name): value for name, value in terms.items()}
+    return label == row_written.label and terms == row_written.terms
+
+
+def _row(row: re.Match[str]) -> _Row | None:
+    """What a row says; None if it has no terms, or a number that may be infinite."""
+    label, left, relation, right = row.groups()
+    terms: dict[str, _Number] = {}
+    terms_on_the_right: dict[str, _Number] = {}
+    constant, limit, sense = _added(left, terms), _added(right, terms_on_the_right), _sense(relation)
+    if constant is None or limit is None:
+        return None
+    limit -= constant
+    if not terms:
+        terms, terms_on_the_right, sense, limit = terms_on_the_right, {}, _FLIPPED[sense], -limit
+    for name, value in terms_on_the_right.items():
+        terms[name] = terms[name] - value if name in terms else -value
+    return new_token(_Row, (label, terms, sense, limit)) if terms and -_LARGE < limit < _LARGE else None
+
+
+_FLIPPED = {"<": ">", ">": "<", "=": "="}
 
 
 def _sense(relation: str) -> str:
     return "<" if "<" in relation else ">" if ">" in relation else "="
 
 
-_Term = tuple[str, str, str]
-"""A term of a row: its sign, its number, which may be empty, and its column."""
+def _added(side: str, terms: dict[str, _Number]) -> _Number | None:
+    """The sum of the numbers of a side, whose terms are added to those given; None if one of its numbers may be
+    infinite.
+    """
+    constant: _Number = 0
+    for sign, amount, name in _TERM.findall(side):
+        value = int(amount or 1) if len(amount) <= _MOST_DIGITS and (not amount or amount.isdigit()) else _value(amount)
+        if value is None:
+            return None
+        if sign == "-":
+            value = -value
+        if not name:
+            constant += value
+        else:
+            terms[name] = terms[name] + value if name in terms else value
+    return constant
 
 
-class _Parts(NamedTuple):
-    """What is on the left of a row: its terms and its constants."""
-
-    terms: list[_Term]
-    constants: tuple[str, ...]
-
-
-def _parted(left: str) -> _Parts:
-    items = _TERM.findall(left)
-    if not items[0][0]:
-        items[0] = ("+", *items[0][1:])
-    return _Parts(
-        [item for item in items if item[2]], tuple([sign + amount for sign, amount, name in items if not name])
-    )
-
-
-def _added(terms: Sequence[_Term]) -> dict[str, Decimal]:
-    """The terms with those of one column added."""
-    added: dict[str, Decimal] = {}
-    for sign, amount, name in terms:
-        value = _value(sign + (amount or "1"))
-        added[name] = _EXACT.add(added[name], value) if name in added else value
-    return added
-
-
-@lru_cache(maxsize=4096)
-def _limit(right: str, constants: tuple[str, ...]) -> Decimal | None:
-    """The number on the right of a row, less the constants on its left; None if one of them may be infinite."""
-    numbers = [_value(right.replace(" ", "").replace("\t", "")), *map(_value, constants)]
-    if not all(-_LARGE < number < _LARGE for number in numbers):
-        return None
-    limit = reduce(_EXACT.subtract, numbers)
-    return limit if -_LARGE < limit < _LARGE else None
-
-
-def _is_finite(term: _Term) -> bool:
-    amount = term[1]
-    return len(amount) <= _SHORT_AMOUNT or _value(amount) < _LARGE
-
-
-def _value(number: str) -> Decimal:
-    return _EXACT.create_decimal(number)
+@lru_cache(maxsize=1 << 14)
+def _value(amount: str) -> Fraction | None:
+    """The value of an amount; None if it may be infinite."""
+    value = Fraction(amount)
+    return value if value < _LARGE else None

@@ -108,7 +108,7 @@ class BoundRules:
             self.take_column(token, section)
         else:
             context.named_again.add(name)
-            context.only_on_the_right.pop(name, None)
+            context.take_elsewhere(name)
 
     def take_column(self, name: Token, section: str) -> None:
         """A column that is not in the objective and the rows may be another one with its name misspelt."""

@@ -8,7 +8,7 @@ from decimal import Decimal
 
 from mpslp._adapt._changes import AdaptError, Log
 from mpslp._adapt._lp_parts import Item, sense_of, spelled
-from mpslp._adapt._lp_plain import names_in
+from mpslp._adapt._lp_plain import Sides, names_in
 from mpslp._adapt._lp_print import Cell, Script, printed
 from mpslp._adapt._lp_reader import Reader
 from mpslp._adapt._lp_tokens import Token, look_alike, new_token, no_column, punctuation_after
@@ -16,6 +16,9 @@ from mpslp._adapt._names import Names
 from mpslp._text import _numbers
 from mpslp._text._lp_words import INFINITIES
 from mpslp._text._names import is_lp_name
+
+_NO_NUMBER = re.compile(r"nan|#.*", re.IGNORECASE)
+"""What programs write if they have no number, as spreadsheets #REF!."""
 
 
 class Context:
@@ -34,6 +37,8 @@ class Context:
         """The columns that are named more than once."""
         self.only_on_the_right: dict[str, Token] = {}
         """The columns that are only after numbers on the right of terms, and where they are first."""
+        self.lone_on_the_right: dict[str, Token] = {}
+        """The words that are only on the right of terms, in one row, and where they are first."""
 
     @property
     def first_column(self) -> str | None:
@@ -59,23 +64,57 @@ class Context:
                 self.named_again.add(name)
             else:
                 self.columns[name] = new_token(Token, ("word", name, statement.start, statement.end, line))
-        if self.only_on_the_right:
+        if self.only_on_the_right or self.lone_on_the_right:
             for name in names:
-                self.only_on_the_right.pop(name, None)
+                self.take_elsewhere(name)
         self.reader.apart.update(names)
 
+    def take_elsewhere(self, name: str) -> None:
+        """Takes notice that a column is in other places than on the right of a row."""
+        self.only_on_the_right.pop(name, None)
+        self.lone_on_the_right.pop(name, None)
+
     def take_columns_on_the_right(self, items: Iterable[Item]) -> None:
-        """Takes the columns on the right of terms, where a name after a number may be a unit."""
-        for item in items:
-            name = item.name
-            if name is not None:
-                first = name if name.text not in self.columns else self.only_on_the_right.get(name.text)
-                self.take_column(name)
-                if item.numbers and first is not None:
-                    self.only_on_the_right[name.text] = first
+        """Takes the columns on the right of terms, where a name after a number may be a unit, and one that is nowhere
+        else a number that is mistyped.
+        """
+        self._take_on_the_right((item.name, item.numbers != []) for item in items if item.name is not None)
+
+    def take_plain_on_the_right(self, statement: Token, sides: Sides) -> None:
+        """The same for a row that is read as a whole, and has its right side on its last line."""
+        names = sides.names_on_the_right
+        self.reader.apart.update(names)
+        if not (self.only_on_the_right or self.lone_on_the_right or {*names} - self.columns.keys()):
+            self.named_again.update(names)
+            return
+        line = statement.line + statement.text.count("\n")
+        self._take_on_the_right(
+            (new_token(Token, ("word", name, statement.start, statement.end, line)), number != "")
+            for _, number, _, name in sides.right
+            if name
+        )
+
+    def _take_on_the_right(self, names: Iterable[tuple[Token, bool]]) -> None:
+        """Takes columns, each with whether a number is before it."""
+        lone: dict[str, Token] = {}
+        for name, has_number in names:
+            if self.is_lone(name.text):
+                lone[name.text] = self.lone_on_the_right.get(name.text, name)
+            first = name if name.text not in self.columns else self.only_on_the_right.get(name.text)
+            self.take_column(name)
+            if has_number and first is not None:
+                self.only_on_the_right[name.text] = first
+        self.lone_on_the_right.update(lone)
+
+    def is_lone(self, name: str) -> bool:
+        """Whether a word on the right is nowhere else so far; what programs write if they have no number may be on the
+        right of several rows.
+        """
+        is_again = name in self.lone_on_the_right and _NO_NUMBER.fullmatch(name) is not None
+        return is_again or name not in self.columns
 
     def take_column(self, name: Token) -> None:
-        self.only_on_the_right.pop(name.text, None)
+        self.take_elsewhere(name.text)
         if self.columns.setdefault(name.text, name) is not name:
             self.named_again.add(name.text)
 
@@ -88,21 +127,17 @@ class Context:
 
     def replace(self, first: Token, last: Token, kinds: Iterable[str], cells: Sequence[Cell]) -> None:
         """Writes a statement again, after the comments that were within it."""
-        after = without_comments(printed(cells))
-        for kind in kinds:
-            self.log.add(first.line, kind, self.source(first, last), after)
+        self.log.add_all(first.line, kinds, self.source(first, last), without_comments(printed(cells)))
         self.script.replace(first.start, last.end, cells)
 
     def rewrite(self, statement: Token, kinds: Iterable[str], text: str) -> None:
         """Writes a statement that is read as a whole again."""
-        for kind in kinds:
-            self.log.add(statement.line, kind, statement.text, text)
+        self.log.add_all(statement.line, kinds, statement.text, text)
         self.script.replace(statement.start, statement.end, text)
 
     def insert_after(self, token: Token, kinds: Iterable[str], cells: Sequence[Cell]) -> None:
         """Writes a statement that the source does not have."""
-        for kind in kinds:
-            self.log.add(token.line, kind, "", printed(cells))
+        self.log.add_all(token.line, kinds, "", printed(cells))
         self.script.insert_after(token, cells)
 
     def source(self, first: Token, last: Token) -> str:
@@ -143,9 +178,13 @@ class Context:
 
     def name_of(self, token: Token) -> str:
         self.check_name(token)
-        name = self.names.of(token.text)
-        if name != token.text:
-            self.log.add(token.line, "name", token.text, name)
+        return self.written_name(token.line, token.text)
+
+    def written_name(self, line: int, given: str) -> str:
+        """The name that is written in a line for one given, which is reported."""
+        name = self.names.of(given)
+        if name != given:
+            self.log.add(line, "name", given, name)
         return name
 
     def check_name(self, token: Token) -> None:

@@ -24,6 +24,7 @@ _SUFFIX = re.compile(
 )
 """What is written after a number as its type, its exponent, its unit or its factor."""
 
+_LONE_WORD = "on the right is no other column: write the number that is meant, or move the column to the left"
 _OTHER_BASE = re.compile(r"[xXbBoO][0-9a-fA-F]+")
 
 
@@ -35,6 +36,7 @@ def doubts(context: Context) -> Iterator[AdaptError]:
     yield from _tails(context.reader)
     yield from _names_of_pulp(context)
     yield from _look_alikes(context)
+    yield from _lone_words(context)
 
 
 # ---- section words
@@ -166,6 +168,12 @@ def _is_like_tail(reader: Reader, numbers: Sequence[Token], name: str) -> bool:
         return True
     is_suffix = _SUFFIX.fullmatch(name) is not None
     return (reader.has_spaces and (is_suffix or len(numbers) == 1)) or (is_suffix and len(numbers) == 1)
+
+
+def _lone_words(context: Context) -> Iterator[AdaptError]:
+    """A word on the right that is nowhere else is a number that is mistyped, or a unit."""
+    for name in context.lone_on_the_right.values():
+        yield AdaptError(name.line, f"{name.text} {_LONE_WORD}")
 
 
 def _are_exponents(reader: Reader, numbers: Sequence[Token]) -> bool:

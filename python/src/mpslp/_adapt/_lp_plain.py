@@ -16,15 +16,21 @@ from mpslp._adapt._lp_sections import NOT_SUPPORTED, OTHER_INFINITIES, SECTIONS_
 from mpslp._adapt._lp_tokens import PLAIN_BOUND, PLAIN_NAMES, PLAIN_OBJECTIVE, PLAIN_ROW, Token, new_token
 from mpslp._text._names import is_lp_name
 
-_NAME = r"[A-Za-z_][A-Za-z0-9_.,()#$@!~'&%]*"
+_LETTERS = r"[A-Za-z0-9_.,()#$@!~'&%]*"
+_NAME = rf"[A-Za-z_]{_LETTERS}"
+_INDEX = rf"\[[A-Za-z0-9_.,]*\]{_LETTERS}"
+_NAME_IN_ROW = rf"{_NAME}(?:{_INDEX})*"
+"""A name that has brackets is written with parentheses."""
+
 _MANTISSA = r"(?:[0-9]{1,20}(?:\.[0-9]{0,15})?|\.[0-9]{1,15})"
 _NUMBER = rf"{_MANTISSA}(?:[eE][+-][0-9]{{1,2}})?"
 """The letter E and digits after a number may be a name as well: only a sign makes them an exponent."""
 
 _SIGN = r"[+-][ \t]*"
 _COEFFICIENT = rf"{_NUMBER}(?:[ \t]+|[ \t]*\*[ \t]*)"
-_TERM = rf"(?:{_COEFFICIENT})?{_NAME}"
-_RELATION = r"(?:<=?|>=?|=[<>]?)"
+_TERM = rf"(?:{_COEFFICIENT})?{_NAME_IN_ROW}"
+_RELATION = r"(?:<=?|>=?|=[<>=]?)"
+_RELATION_OF_BOUND = r"(?:<=?|>=?|=[<>]?)"
 _AT_MOST = r"(?:<=?|=<)"
 _SIDE = rf"(?:{_SIGN})?{_NUMBER}"
 _BOUND_SIDE = rf"(?:{_SIGN})?(?:{_MANTISSA}(?:[eE][+-]?[0-9]{{1,2}})?|[iI][nN][fF](?:[iI][nN][iI][tT][yY])?)"
@@ -41,28 +47,32 @@ def _sum(space: str, first: str = rf"(?:{_SIGN})?(?:{_TERM}|{_NUMBER})") -> str:
 
 
 _ANY_SPACE, _SPACE = r"[ \t\r\n]*", r"[ \t]*"
-_LABEL = rf"{_NAME}[ \t]*:{_ANY_SPACE}"
+_LABEL = rf"{_NAME_IN_ROW}[ \t]*:{_ANY_SPACE}"
 _SUM = _sum(_ANY_SPACE)
+_RIGHT = rf"(?:{_SIGN})?(?:{_TERM}|{_NUMBER})(?:{_SPACE}{_SIGN}(?:{_TERM}|(?P<constant>{_NUMBER})))*"
 _LABELLED_ROW = re.compile(
-    rf"[ \t]*({_LABEL}(?:{_SIDE}[ \t]*{_AT_MOST}[ \t]*{_sum(_SPACE)}[ \t]*{_AT_MOST}|{_SUM}[ \t]*{_RELATION})"
-    rf"[ \t]*{_SIDE}){_NEXT_STATEMENT}"
+    rf"[ \t]*({_LABEL}(?:{_SIDE}[ \t]*{_AT_MOST}[ \t]*{_sum(_SPACE)}[ \t]*{_AT_MOST}[ \t]*{_SIDE}"
+    rf"|{_SUM}[ \t]*{_RELATION}[ \t]*{_RIGHT})){_NEXT_STATEMENT}"
 )
 _ROW = re.compile(
-    # what starts with a sign or is a number may go on with the row before it
-    rf"[ \t]*({_sum(_SPACE, rf'(?![.]){_TERM}')}[ \t]*{_RELATION}[ \t]*{_SIDE}){_NEXT_STATEMENT}"
+    # what starts with a sign, or is a number without a relation after it, may go on with the row before it
+    rf"[ \t]*((?![.])(?:{_sum(_SPACE, _TERM)}|{_NUMBER})[ \t]*{_RELATION}[ \t]*{_RIGHT}){_NEXT_STATEMENT}"
 )
-_OBJECTIVE = re.compile(rf"[ \t]*((?:{_LABEL})?{_SUM}){_NEXT_HEADER}")
+_NEXT_LABEL = re.compile(rf"{_LINE_END}{_COMMENTS}{_NAME_IN_ROW}[ \t]*:(?!:))")
+"""After a number that ends a sum on the right: another name would be a part of its last term."""
+
+_OBJECTIVE = re.compile(rf"[ \t]*((?:{_NAME}[ \t]*:{_ANY_SPACE})?{_SUM}){_NEXT_HEADER}")
 _BOUND = re.compile(
     rf"[ \t]*((?:{_BOUND_SIDE}[ \t]*{_AT_MOST}[ \t]*{_NAME}[ \t]*{_AT_MOST}|{_NAME}"
-    rf"[ \t]*{_RELATION})[ \t]*{_BOUND_SIDE}"
-    rf"|{_BOUND_SIDE}[ \t]*{_RELATION}[ \t]*{_NAME}|{_NAME}[ \t]+[fF][rR][eE][eE]){_NEXT_BOUND}"
+    rf"[ \t]*{_RELATION_OF_BOUND})[ \t]*{_BOUND_SIDE}"
+    rf"|{_BOUND_SIDE}[ \t]*{_RELATION_OF_BOUND}[ \t]*{_NAME}|{_NAME}[ \t]+[fF][rR][eE][eE]){_NEXT_BOUND}"
 )
 _NAMES = re.compile(rf"[ \t]*({_NAME}(?:[ \t]+{_NAME})*){_NEXT_STATEMENT}")
 
-_WORD = re.compile(rf"{_NUMBER}|({_NAME})")
+_WORD = re.compile(rf"{_NUMBER}|({_NAME_IN_ROW})")
 _WORD_OF_BOUND = re.compile(rf"{_MANTISSA}(?:[eE][+-]?[0-9]+)?|({_NAME})")
 _RELATIONS = re.compile(rf"({_RELATION})")
-_ITEM = re.compile(rf"([+-]?)[ \t\r\n]*(?=[0-9.A-Za-z_])({_NUMBER})?[ \t]*(\*?)[ \t]*({_NAME})?")
+_ITEM = re.compile(rf"([+-]?)[ \t\r\n]*(?=[0-9.A-Za-z_])({_NUMBER})?[ \t]*(\*?)[ \t]*({_NAME_IN_ROW})?")
 _WORDS_OF_BOUNDS = ("free", "inf", "infinity")
 
 HEADERS = {
@@ -108,8 +118,8 @@ class PlainStatements:
         names = len(words) - words.count("")
         if not names or not self._are_plain(words):
             return None
-        if self.kind == PLAIN_ROW and names == 1 and ":" in statement:
-            return None  # the name is that of the row
+        if self.kind == PLAIN_ROW and not self._is_whole_row(found, names):
+            return None
         if self.kind == PLAIN_OBJECTIVE and not self._is_kept(sum_of(parts_of(statement).body)):
             return None
         return new_token(Token, (self.kind, statement, *found.span(1), line))
@@ -123,8 +133,20 @@ class PlainStatements:
         elif self.kind == PLAIN_OBJECTIVE and line and not line.startswith("\\"):
             self.kind = ""  # the rest of an objective is none
 
+    def _is_whole_row(self, found: re.Match[str], names: int) -> bool:
+        """Whether a row of so many names ends where it seems to, and is changed as a whole if it is changed."""
+        row = found[1]
+        if names == 1:
+            return not (":" in row or "[" in row or "==" in row)  # the name may be that of the row
+        if "[" in row and "\n" in row:
+            return False
+        is_sum = found.end("constant") == found.end(1)
+        return not is_sum or _NEXT_LABEL.match(self._text, found.end(1)) is not None
+
     def _is_kept(self, objective: Sum) -> bool:
         """Whether no rule changes an objective, and no comment does."""
+        if any("[" in name for name in objective.names):
+            return False
         constants = {None: 1, "lp_solve": 1, "coinutils": 0}.get(self._dialect, -1)
         return objective.constants <= constants and not objective.has_products and not objective.is_again
 
@@ -150,14 +172,17 @@ _PATTERNS: dict[str, Callable[[str, int], re.Match[str] | None]] = {
 
 
 _WORDS_OF_OTHERS = frozenset((*NOT_SUPPORTED, *OTHER_INFINITIES, *SECTIONS_OF_OTHERS))
-_NAME_WITH_DIGIT = r"[A-DF-RT-Za-df-rt-z_][A-Za-z_]{0,99}[0-9][A-Za-z0-9_]{0,99}"
+_NAME_WITH_DIGIT = r"[A-DF-RT-Za-df-rt-z_][A-Za-z_]{0,99}(?:[0-9][A-Za-z0-9_]{0,99}|\[[0-9,]{1,50}\])"
 _PLAIN_BY_LETTERS = re.compile(rf"(?:{_NAME_WITH_DIGIT}(?: {_NAME_WITH_DIGIT})*)?")
 """Names that are plain for sure: most have a digit, which no word that means something has but sos1 and sos2."""
 
 
+_PARENTHESES = str.maketrans("[]", "()")
+
+
 def is_plain(name: str) -> bool:
-    """Whether a name is legal and is no name that may be something else."""
-    if not is_lp_name(name) or name.lower() in _WORDS_OF_OTHERS:
+    """Whether a name is legal, with parentheses for brackets, and is no name that may be something else."""
+    if not is_lp_name(name.translate(_PARENTHESES)) or name.lower() in _WORDS_OF_OTHERS:
         return False
     return name[-1] != "," and ("(" not in name and ")" not in name or name.count("(") == name.count(")"))
 
@@ -187,12 +212,16 @@ def parts_of(statement: str) -> Parts:
     return new_token(Parts, (label.rstrip(" \t"), body) if colon else ("", statement))
 
 
+ItemText = tuple[str, str, str, str]
+"""An item: its sign, its number, its star and its name, of which some are empty."""
+
+
 class Sum(NamedTuple):
-    """What is in a row or an objective: its items, each a sign, a number, a star and a name, of which some are empty;
-    the columns of its terms, how many numbers without a column, and whether it has products.
+    """What is in a row or an objective: its items, the columns of its terms, how many numbers without a column, and
+    whether it has products.
     """
 
-    items: list[tuple[str, str, str, str]]
+    items: list[ItemText]
     names: list[str]
     constants: int
     has_products: bool
@@ -209,9 +238,39 @@ def sum_of(body: str) -> Sum:
     return new_token(Sum, (items, names, len(items) - len(names), "*" in body))
 
 
-def has_two_relations(body: str) -> bool:
-    """Whether a row is between two numbers: both relations are then at most."""
-    return body.count("<") > 1
+class Sides(NamedTuple):
+    """A row with one relation, without its label: its sides, the columns there, and whether it has products."""
+
+    left: list[ItemText]
+    relation: str
+    right: list[ItemText]
+    names_on_the_left: list[str]
+    names_on_the_right: list[str]
+    has_products: bool
+
+
+def sides_of(body: str) -> Sides | None:
+    """The sides of a row without its label; None if it is between two numbers."""
+    parts = _RELATIONS.split(body)
+    if len(parts) > 3:
+        return None
+    left, right = _ITEM.findall(parts[0]), _ITEM.findall(parts[2])
+    names, names_on_the_right = [item[3] for item in left if item[3]], [item[3] for item in right if item[3]]
+    return new_token(Sides, (left, parts[1], right, names, names_on_the_right, "*" in body))
+
+
+def with_names(text: str, written: Callable[[str], str]) -> str:
+    """A text with other names for those that have brackets."""
+    return _NAME_WITH_BRACKETS.sub(lambda found: written(found[0]), text)
+
+
+def with_one_equals_sign(text: str) -> str:
+    """A row with = for ==, which is no part of what comes after it."""
+    return _TWO_EQUALS_SIGNS.sub(lambda found: f"= {found[1]}" if found[1] else "=", text)
+
+
+_NAME_WITH_BRACKETS = re.compile(rf"{_NAME}(?:{_INDEX})+")
+_TWO_EQUALS_SIGNS = re.compile(r"==([+-]?)")
 
 
 def row_of(statement: Token, body: str) -> Row:

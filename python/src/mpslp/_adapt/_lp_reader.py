@@ -298,16 +298,26 @@ class Reader:
             self.at += 1
             return
         self.note_exponent(number, self.token.text if is_joined else "")
+        self.note_plain_row(item)
         if self.is_name(self.at) and (item.has_star or not self.is_label(self.at)) and not self.starts_next_row(item):
             is_joined = is_joined and not item.has_star
             if self.token.line != number.line:
-                reason = "a number at the end of a line, and a name on the next one: write the term on one line"
-                self.unclear.append(AdaptError(number.line, f"{reason}: {number.text} {self.token.text}"))
+                self.note_term_on_two_lines(number, self.token)
             self.note_fraction(number, self.token)
             self.take_joined(number, self.token, is_joined)
             self.name_item(item)
         elif item.has_star:
             raise self.error("a factor without a name")
+
+    def note_plain_row(self, item: Item) -> None:
+        """A row that is read as a whole may start with a name that is a part of the term before it."""
+        is_row = self.token.kind == PLAIN_ROW and ":" not in self.token.text and not self.token.text[0].isdigit()
+        if is_row and not self.starts_next_row(item):
+            self.note_term_on_two_lines(item.numbers[-1], self.token)
+
+    def note_term_on_two_lines(self, number: Token, name: Token) -> None:
+        reason = "a number at the end of a line, and a name on the next one: write the term on one line"
+        self.unclear.append(AdaptError(number.line, f"{reason}: {number.text} {name.text}"))
 
     def note_exponent(self, number: Token, rest: str) -> None:
         at = number.text.lower().find("e")
@@ -446,9 +456,8 @@ class Reader:
             name = item.name
             if name is None:
                 continue
-            if self.dialect == "pulp":
-                if name.text[0].isdigit() or name.text.lower() in RESERVED:
-                    self.unclear.append(number_of_pulp(name))
+            if self.dialect == "pulp" and (name.text[0].isdigit() or name.text.lower() in RESERVED):
+                self.unclear.append(number_of_pulp(name))
             elif item.numbers and (self.joined_with(item.numbers[0], name) or _EXPONENT.fullmatch(name.text)):
                 self.note_tail(item.numbers[0], name)
 

@@ -9,9 +9,9 @@ from decimal import Decimal
 
 from mpslp._adapt._changes import AdaptError
 from mpslp._adapt._lp_context import Context
-from mpslp._adapt._lp_forms import Form, form_with_constant
+from mpslp._adapt._lp_forms import Form, form_of_row
 from mpslp._adapt._lp_parts import FLIPPED, Item, Objective, Row, has_terms, negated, sense_of, spelled
-from mpslp._adapt._lp_plain import Sum, has_two_relations, parts_of, row_of, sum_of
+from mpslp._adapt._lp_plain import Sides, names_in, parts_of, row_of, sides_of, sum_of, with_names, with_one_equals_sign
 from mpslp._adapt._lp_print import Cell, labelled, literal_cells, printed, term_cells
 from mpslp._adapt._lp_sections import ORDERED_SETS
 from mpslp._adapt._lp_tokens import Token
@@ -27,6 +27,7 @@ _MOST_FORMS = 10_000
 
 ONLY_ON_THE_RIGHT = "only after numbers on the right"
 _ORDERED_SET = re.compile(r"sos[0-9]*", re.IGNORECASE)
+_SETS = ("S1", "S2")
 
 
 class ObjectiveRules:
@@ -163,24 +164,41 @@ class RowRules:
     def settle_plain(self, statement: Token) -> None:
         """The same for a row that is read as a whole."""
         label, body = parts_of(statement.text)
-        found = sum_of(body)
-        is_limit = found.constants == 1 or (found.constants == 2 and has_two_relations(body))
-        if not label and len(found.names) == 1 and is_limit:
+        sides = sides_of(body)
+        if sides is not None and not label and is_one_term(sides):
+            self.context.reader.has_spaces = True
             self.settle(row_of(statement, body))  # it may look as a bound
             return
         self.take_other_row(label != "")
-        self.context.take_plain(statement, body, found.names)
-        if not is_limit or found.has_products or found.is_again:
-            form = self.form_of(statement, body, found)
-            self.context.rewrite(statement, form.kinds, f"{label}: {form.text}" if label else form.text)
+        self.take_names(statement, label, body, sides)
+        form = self.form_of(statement, body, sides)
+        if form.kinds:
+            self.write(statement, label, form)
+        elif "[" in statement.text or "==" in statement.text:
+            self.write_kept(statement, label, body)
 
-    def form_of(self, statement: Token, body: str, found: Sum) -> Form:
+    def take_names(self, statement: Token, label: str, body: str, sides: Sides | None) -> None:
+        """Takes the columns of a row that is read as a whole."""
+        context = self.context
+        if sides is None or not sides.names_on_the_right:
+            context.take_plain(statement, body, names_in(body) if sides is None else sides.names_on_the_left)
+        elif not sides.names_on_the_left:
+            context.take_plain(statement, body, sides.names_on_the_right)
+        elif len(sides.right) == 1 and is_like_set(label, *sides.right[0]):
+            raise AdaptError(statement.line, ORDERED_SETS)  # token by token, it is known whether it is one
+        else:
+            context.take_plain(statement, body[: body.index(sides.relation)], sides.names_on_the_left)
+            context.take_plain_on_the_right(statement, sides)
+
+    def form_of(self, statement: Token, body: str, sides: Sides | None) -> Form:
         """How a row is written that is read as a whole. Files that programs write have many rows that differ in their
         labels only.
         """
         form = self.forms.get(body)
         if form is None:
-            form = form_with_constant(body, found) or self.form_by_tokens(row_of(statement, body))
+            form = form_of_row(sides, self.context.names.of) if sides is not None else None
+            if form is None:
+                return self.form_by_tokens(row_of(statement, body))
             if len(self.forms) < _MOST_FORMS:
                 self.forms[body] = form
         return form
@@ -188,8 +206,31 @@ class RowRules:
     def form_by_tokens(self, row: Row) -> Form:
         kinds: list[str] = []
         terms, outer = self.parted(row, kinds)
-        kinds += self.kinds_of_sides(row, terms, outer, False)
-        return Form(tuple(kinds), printed(self.row_cells(row, terms, outer, False)))
+        kinds += self.kinds_of_sides(row, terms, outer, "terms-on-the-right" in kinds)
+        if not kinds:
+            return Form((), "")
+        return Form(tuple(kinds), printed(self.row_cells(row, terms, outer, "number-first" in kinds)))
+
+    def write(self, statement: Token, label: str, form: Form) -> None:
+        """Writes a row again that is read as a whole."""
+        context = self.context
+        for given, name in form.renamed:
+            context.log.add(statement.line, "name", given, name)
+        label = context.written_name(statement.line, label) if "[" in label else label
+        context.rewrite(statement, form.kinds, f"{label}: {form.text}" if label else form.text)
+
+    def write_kept(self, statement: Token, label: str, body: str) -> None:
+        """Writes a row that stays with the names and the relation that mpslp reads."""
+        context, text = self.context, statement.text
+        if "[" in label:
+            context.written_name(statement.line, label)
+        if "==" in body:
+            context.log.add(statement.line + text.count("\n"), "symbol", "==", "=")
+        for name in names_in(body):
+            if "[" in name:
+                context.written_name(statement.line, name)
+        text = with_one_equals_sign(with_names(text, context.names.of))
+        context.script.replace(statement.start, statement.end, text)
 
     def parted(self, row: Row, kinds: list[str]) -> tuple[list[Item], list[list[Item]]]:
         """The side with the terms, and those with numbers."""
@@ -219,7 +260,7 @@ class RowRules:
         """Xpress has special ordered sets as sos1: x + y = S1."""
         item = side[0]
         if len(side) == 1 and item.name is not None and not item.numbers and not item.signs:
-            if item.name.text in ("S1", "S2") or (row.label is not None and _ORDERED_SET.fullmatch(row.label.text)):
+            if is_like_set(row.label.text if row.label is not None else "", "", "", "", item.name.text):
                 self.lone_names.append((row, item.name))
 
     def kinds_of_sides(self, row: Row, terms: list[Item], outer: list[list[Item]], is_moved: bool) -> list[str]:
@@ -392,6 +433,16 @@ class RowRules:
         self.context.script.replace(row.first.start, row.last.end, [])
         self.previous = None
         return True
+
+
+def is_one_term(sides: Sides) -> bool:
+    """Whether a row is a term and a number."""
+    return len(sides.left) == len(sides.right) == 1 and len(sides.names_on_the_left + sides.names_on_the_right) == 1
+
+
+def is_like_set(label: str, sign: str, number: str, star: str, name: str) -> bool:
+    """Whether a row may be a special ordered set as Xpress has it, by its label and what is on its right."""
+    return not (sign or number) and (name in _SETS or _ORDERED_SET.fullmatch(label) is not None)
 
 
 def is_like_bound(row: Row) -> bool:

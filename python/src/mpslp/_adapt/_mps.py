@@ -10,6 +10,7 @@ import re
 from collections.abc import Sequence
 
 from mpslp._adapt import _mps_fixed as fixed
+from mpslp._adapt._accepted import left_for
 from mpslp._adapt._changes import AdaptError, Log
 from mpslp._adapt._long_lines import with_short_lines
 from mpslp._adapt._mps_data import SPECIAL_SETS, DataLines
@@ -19,6 +20,7 @@ from mpslp._adapt._mps_meant import Meant
 from mpslp._adapt._mps_reasons import nearest
 from mpslp._adapt._mps_state import Row, State
 from mpslp._adapt._mps_trailing import Place, reason_to_keep
+from mpslp._errors._faults import ModelFileError
 from mpslp._text._mps_words import HEADERS, SENSES
 
 _LONE_RETURN = re.compile(r"\r(?!\n)")
@@ -243,18 +245,22 @@ class Reader:
     # ---- sections
 
     def open(self, line: Line, keyword: str) -> None:
-        """Opens a section: a part of one that came before goes on there, and the sense goes before ROWS."""
+        """Opens a section: a part of RHS, RANGES or BOUNDS that came before goes on there, and the sense goes before
+        ROWS.
+        """
         before = self.sections.found(keyword)
         missing = next((each for each in _NEEDS.get(keyword, ()) if self.sections.found(each) is None), None)
         if missing is not None:
             raise AdaptError(line.number, f"{keyword} before {missing}: move it after that section")
-        if before is not None and keyword in _MAY_COME_AGAIN:
+        if before is not None and keyword not in _MAY_COME_AGAIN:  # its rows and columns may be named before it
+            raise left_for(ModelFileError("SectionRepeated", line.number), line.number)
+        if before is not None:
             self.log.add(line.number, "section-again", line.text, f"in the first {keyword}")
             self.state.section = before
             return
         section = Section(keyword, [line])
         rows = self.sections.found("ROWS")
-        if keyword in _ONE_WORD and rows is not None and before is None:
+        if keyword in _ONE_WORD and rows is not None:
             self.log.add(line.number, "section-order", line.text, "before ROWS")
             self.sections.insert_before(rows, section)
         else:

@@ -93,6 +93,9 @@ class _Lines:
         """Those after the last token that are too long for its line."""
 
     def add(self, statement: Statement) -> None:
+        if statement.is_name and not self._long_comments:
+            self.all.append(f" {statement.start.text}")  # a file may list very many
+            return
         if statement.keyword:
             self._skip()
         self._start = "" if statement.keyword else " "

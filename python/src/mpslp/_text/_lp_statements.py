@@ -11,7 +11,7 @@ from itertools import chain
 from typing import NamedTuple
 
 from mpslp._text._lp_tokens import OTHERS, WORD
-from mpslp._text._lp_words import BOUNDS, END, FREE, OBJECTIVE, OPENINGS, ROWS, ROWS_IN_TWO_WORDS, VALUES
+from mpslp._text._lp_words import BOUNDS, END, FREE, LISTS, OBJECTIVE, OPENINGS, ROWS, ROWS_IN_TWO_WORDS, VALUES
 
 KEYWORD, VALUE = "keyword", "value"
 """The sorts of the words that open a section, and of ``inf`` and ``free``; the others are the groups of TOKEN."""
@@ -117,6 +117,11 @@ class Statement(NamedTuple):
     """A relation and the side after it, or the word ``free``."""
 
     @property
+    def is_name(self) -> bool:
+        """Whether it is a name in a list, without comments."""
+        return self.section in LISTS and not self.keyword and self.terms[0][0].around is None
+
+    @property
     def start(self) -> Token:
         return (self.keyword or self.label or self.first or self.terms[0])[0]
 
@@ -138,6 +143,8 @@ class LpStatements:
             if self._now.sort == KEYWORD:
                 section = OPENINGS[self._now.text.lower()]
                 yield Statement(section, keyword=self._keyword())
+            elif section in LISTS:
+                yield _make(Statement, (section, (), (), (), [[self._take()]], ()))
             else:
                 yield self._part(section)
 
