@@ -21,15 +21,16 @@ from mpslp._messages._lp_suspects import (
 from mpslp._messages._tokens import Token
 from mpslp._text._lp_words import INFINITIES
 
-_FUNCTION = re.compile(r"(?<![\w.])(?:max|min|abs|and|or|norm|exp|log|ln|sqrt|sin|cos|tan|pow)\s*\(", re.IGNORECASE)
+_FUNCTION = re.compile(r"(?<![\w.])(?:max|min|abs|and|or|norm|exp|log|ln|sqrt|sin|cos|tan|pow)\s*\(|[\w)]\s+(?:mod|div|xor)\s+[\w(]", re.IGNORECASE)
 _LOOP = re.compile(
-    r"(?<![\w.])(?:(?:sum|prod|for|forall)\s*(?:\{|\([^()]*(?:\bin\b|\.\.|=))|for\s+\w+\s*(?:\bin\b|=)|forall\s+\w+)",
+    r"(?<![\w.])(?:(?:sum|prod|for|forall)\s*(?:\{|\([^()]*(?:\bin\b|\.\.|=))|(?:for|sum|prod)\s+\w+\s*(?:\bin\b|=)"
+    r"|forall\s+\w+|for\s+(?:all|each|every)\b|(?:sum|prod)\s*_|sum\s+over\b)|\\sum\b|@(?:sum|for)\b",
     re.IGNORECASE,
 )
 _NUMBER = r"[-+]?(?:\d+(?:\.\d+)?|\.\d+)"
 _IN_QUOTES = re.compile(rf"(?:\[\s*{_NUMBER}\s*\]|\(\s*{_NUMBER}\s*\)|\"{_NUMBER}\"|'{_NUMBER}')\s*$")
 _BRACKETS = re.compile(
-    rf"(?<![\w.])(?P<name>[A-Za-z_][\w.]*)\s*(?::?=|\bin\b|\bis\b)\s*[\[({{]\s*(?P<lower>{_NUMBER})\s*"
+    rf"(?<![\w.])(?P<name>[A-Za-z_][\w.]*)\s*(?::?=|:|\bin\b|\bis\b|\s)\s*[\[({{]\s*(?P<lower>{_NUMBER})\s*"
     rf"(?:\.\.|,|;)\s*(?P<upper>{_NUMBER})\s*[\])}}]\s*$",
     re.IGNORECASE,
 )
@@ -37,6 +38,9 @@ _BETWEEN = re.compile(
     rf"(?<![\w.])(?P<name>[A-Za-z_][\w.]*)\s+(?:is\s+)?(?:between|from|in)\s+(?P<lower>{_NUMBER})\s+(?:and|to)\s+"
     rf"(?P<upper>{_NUMBER})\s*$",
     re.IGNORECASE,
+)
+_SIDE_BY_SIDE = re.compile(
+    rf"\s*(?P<name>[A-Za-z_][\w.]*)\s*(?:[:=]\s*)?(?<![\w.])(?P<lower>{_NUMBER})\s*(?:,|;|\s)\s*(?P<upper>{_NUMBER})\s*$"
 )
 _DOTS = re.compile(
     rf"(?:(?<![\w.])(?P<before>[A-Za-z_][\w.]*)\s*(?::?=|\bin\b)\s*|(?<![\w.]))(?P<lower>{_NUMBER})\s*\.\.\s*"
@@ -118,6 +122,8 @@ def range_of_values(case: Case, line: Sequence[Token]) -> Found | None:
     """Two numbers in brackets, with two points between them, or after ``between``."""
     text = text_of(case, line)
     match = _BRACKETS.search(text) or _BETWEEN.search(text) or _DOTS.search(text)
+    if match is None and section_of(case, line) == "bounds":
+        match = _SIDE_BY_SIDE.match(text)
     if match is None:
         return None
     name = match.groupdict().get("before") or match["name"]

@@ -9,11 +9,13 @@ from collections.abc import Sequence
 
 from mpslp._messages._case import Case, Found
 from mpslp._messages._causes_both import Rule
-from mpslp._messages._lp_suspects import is_word, joined, lp_section, mark_of_text, on_lines, section_of, shown, text_of
+from mpslp._messages._lp_edits import instead_of
+from mpslp._messages._lp_suspects import is_word, joined, lp_section, mark_of_text, on_lines, section_of, shown, suspects, text_of
+from mpslp._messages._lp_trials import Trial
 from mpslp._messages._tokens import Token
 
-_COMMENT = re.compile(r"\s*(\*+|!+|%+|--+|#+|//+|/\*|;+|'|\"|(?:REM|rem|Rem)(?=\s))\s*(.*?)\s*(?:\*/)?$")
-_TRAILING = re.compile(r"[<>=]\s*[-+]*\s*[\d.]+(?:[eE][-+]?\d+)?\s*(!+|%+|#+|//+|/\*|--+|;+|\*+)\s*(\D.*?)\s*(?:\*/)?$")
+_COMMENT = re.compile(r"\s*(\*+|!+|%+|--+|#+|//+|/\*|/(?=\s)|;+|'|\"|(?:REM|rem|Rem)(?=\s))\s*(.*?)\s*(?:\*/)?$")
+_TRAILING = re.compile(r"[<>=]\s*[-+]*\s*[\d.]+(?:[eE][-+]?\d+)?\s*(!+|%+|#+|//+|/\*|/(?=\s)|--+|;+|\*+)\s*(\D.*?)\s*(?:\*/)?$")
 _FREE = frozenset(("unbounded", "unbound", "unrestricted", "urs", "sign-free", "free-sign"))
 _TYPES = {
     "integer": "Generals",
@@ -170,19 +172,39 @@ def label_in_bounds(case: Case, line: Sequence[Token]) -> Found | None:
         return None
     rest = line[2:]
     mend = f"{line[0].text} free" if joined(rest).lower() == "free" else joined(rest)
-    return shown(case, line[:2], mend=mend)
+    passes = Trial(case).passes(instead_of(case, line, mend))
+    return shown(case, line[:2], mend=mend if passes else "")
 
 
-@on_lines
-def type_in_bounds(case: Case, line: Sequence[Token]) -> Found | None:
-    """A column, and the word that is its type, at the end of a line."""
-    if len(line) != 2 or not is_word(line[0]) or line[1].word not in _TYPES:
+def type_in_bounds(case: Case) -> Found | None:
+    """A column, and the word that is its type, at the end of a line; the line of the last section, if it is before."""
+    opening = next((each for each in reversed(case.tokens[: case.token_at]) if each.is_section), None)
+    lines = [[each for each in case.tokens if each.line == opening.line]] if opening is not None else []
+    return next((found for line in [*lines, *suspects(case)] if (found := _type_in(case, line)) is not None), None)
+
+
+def _type_in(case: Case, line: Sequence[Token]) -> Found | None:
+    if len(line) < 2 or line[-1].word not in _TYPES or line[0].is_section:
         return None
-    kind = _TYPES[line[1].word]
-    return shown(case, line, f"{line[0].text} belongs under {kind}")
+    names = [each for each in line if is_word(each)]
+    has_colon = len(line) == 3 and line[1].text == ":"
+    if len(names) != 1 or (len(line) > 2 and not has_colon and not any(each.is_relation for each in line)):
+        return None
+    rest = "" if len(line) == 2 or has_colon else joined(line[:-1])
+    return shown(case, line, f"{names[0].text} belongs under {_TYPES[line[-1].word]}", rest)
 
 
 # ---- lists
+
+
+@on_lines
+def row_in_list(case: Case, line: Sequence[Token]) -> Found | None:
+    """A label, a colon and a relation, or terms and a relation, in a list of names."""
+    if section_of(case, line) != "list" or not any(each.is_relation for each in line):
+        return None
+    is_row = len(line) > 3 and line[1].text == ":" and line[0].is_name
+    names = [each for each in line if is_word(each)]
+    return shown(case, line) if is_row or (len(names) > 1 and any(each.is_sign for each in line)) else None
 
 
 @on_lines
@@ -206,8 +228,9 @@ RULES: tuple[Rule, ...] = (
     piecewise_linear,
     scenarios,
     word_for_free,
+    type_in_bounds,
     several_in_bounds,
     label_in_bounds,
-    type_in_bounds,
+    row_in_list,
     bound_in_list,
 )

@@ -1,0 +1,213 @@
+"""Rules for LP: text that is not a comment, parentheses, names with a space or with a digit first, words that are glued,
+placeholders.
+
+Where a rule says what to write, the text with it gets past the error.
+"""
+
+from __future__ import annotations
+
+import re
+from collections.abc import Iterator, Sequence
+
+from mpslp._messages._case import Case, Found
+from mpslp._messages._causes_both import Rule
+from mpslp._messages._lp_edits import instead_of, is_used, line_without, mark_of, near, span
+from mpslp._messages._lp_suspects import (
+    is_glued,
+    is_word,
+    joined,
+    lp_section,
+    mark_of_text,
+    on_lines,
+    section_of,
+    shown,
+    suspects,
+    text_of,
+)
+from mpslp._messages._lp_sums import Term, decimal_text, terms_of, value_of
+from mpslp._messages._lp_trials import Edit, Trial
+from mpslp._messages._tokens import Token, tokens_of
+from mpslp._text._lp_words import FREE, RESERVED, SECTIONS, SENSES
+
+_MOST_WORDS = 18
+_MOST_LOOKED_AT = 2**20
+_WORDS = re.compile(r"[A-Za-z]{2}")
+_PLACEHOLDER = re.compile(
+    r"[<>=]\s*[-+]?\s*(<[\w .-]+>|\{\{?[\w .:-]*\}?\}|%[\d.]*[dfgsx]\b|%\w+%|\$\{?[A-Za-z_]\w*\}?|#[A-Z]\w*[!?/]*\w*|\?+|\.\.\.+|"
+    r"_+|[xX]{2,}|\[[a-z ]+\])(?!\w)\s*$"
+)
+
+
+# ---- text
+
+
+def text_after_statement(case: Case) -> Found | None:
+    """Words at the end of a line, or a line of words, without which the text gets further, and which are no columns."""
+    trial = Trial(case)
+    for line in suspects(case):
+        if section_of(case, line) == "list" and lp_section(case) != "list":
+            continue
+        for at in range(max(0, len(line) - _MOST_WORDS), len(line)):
+            rest = line[at:]
+            if _is_text(case, rest, line[at - 1] if at else None) and trial.passes(instead_of(case, rest)):
+                text = case.content[slice(*span(case, rest[0], rest[-1]))].decode("latin-1")
+                return shown(case, rest, mend=f"\\ {text}")._replace(means_other=True)
+    return None
+
+
+def _is_text(case: Case, tokens: Sequence[Token], before: Token | None) -> bool:
+    """Whether tokens have words that are nowhere else, and no relation or sign, after a whole number or a keyword."""
+    words = [each for each in tokens if _WORDS.search(each.text)]
+    if not words or any(each.is_relation or each.text == ":" or each.is_section for each in tokens):
+        return False
+    if before is not None and not (before.is_number or before.is_section or before.word in (FREE, *SENSES, "to")):
+        return False
+    return not any(is_used(case, each.text) for each in words if is_word(each))
+
+
+
+# ---- placeholders
+
+
+@on_lines
+def placeholder(case: Case, line: Sequence[Token]) -> Found | None:
+    """After a relation, what a template has in the place of a number."""
+    match = _PLACEHOLDER.search(text_of(case, line))
+    if match is None or is_used(case, match[1]):
+        return None
+    mark = mark_of_text(case, line, *match.span(1))
+    return Found(f"{match[1]} is one", marks=(mark,), moves=True, means_other=True)
+
+
+# ---- parentheses and brackets
+
+
+@on_lines
+def parentheses_in_sum(case: Case, line: Sequence[Token]) -> Found | None:
+    """A token with a parenthesis that another one closes."""
+    first = next((at for at, each in enumerate(line) if each.text.count("(") > each.text.count(")")), None)
+    if first is None or line[first].line != case.line.number:
+        return None
+    depth, last = 0, first
+    for last in range(first, len(line)):
+        depth += line[last].text.count("(") - line[last].text.count(")")
+        if depth <= 0:
+            break
+    if depth > 0 or last == first:
+        return None
+    before = line[first].text.partition("(")[0]
+    if before and before.lower() not in SENSES:
+        return None
+    return shown(case, line[first : last + 1], mend=_multiplied(case, line, first, last))._replace(means_other=True)
+
+
+def _multiplied(case: Case, line: Sequence[Token], first: int, last: int) -> str:
+    """The line without its parentheses, whose terms are multiplied by the number before them; empty if it has another
+    form, or is not accepted.
+    """
+    content = text_of(case, line)[line[first].start : line[last].end]
+    terms = terms_of(tokens_of(re.sub(r"[()]", " ", content).encode("latin-1")))
+    start, factor = first, 1
+    number = value_of(line[start - 1].text) if start and line[start - 1].is_number else None
+    if number is not None:
+        start -= 1
+    sign = line[start - 1] if start and line[start - 1].is_sign else None
+    if terms is None or any(not term.name for term in terms) or content.count("(") > 1:
+        return ""
+    factor = -1 if sign is not None and sign.text == "-" else 1
+    texts = [_term_times(term, (1 if number is None else number) * factor) for term in terms]
+    if not all(texts):
+        return ""
+    start -= 0 if sign is None else 1
+    sum_text = " ".join(texts)
+    sum_text = sum_text if sign is not None else sum_text.removeprefix("+ ")
+    if not Trial(case).passes(instead_of(case, line[start : last + 1], sum_text)):
+        return ""
+    return line_without(case, line[start : last + 1], sum_text)
+
+
+def _term_times(term: Term, factor: object) -> str:
+    value = term.value
+    text = None if value is None else decimal_text(value * factor)  # type: ignore[operator]
+    return "" if text is None else f"{'-' if text.startswith('-') else '+'} {text.lstrip('-')} {term.name}"
+
+
+@on_lines
+def brackets_in_sum(case: Case, line: Sequence[Token]) -> Found | None:
+    """Square brackets around terms, without which the text gets further."""
+    opening = [each for each in line if each.text == "["]
+    closing = [each for each in line if each.text == "]"]
+    if len(opening) != 1 or len(closing) != 1 or _is_beside_name(line, opening[0]):
+        return None
+    if not Trial(case).passes(instead_of(case, opening), instead_of(case, closing)):
+        return None
+    return shown(case, [*opening, *closing][:1])
+
+
+def _is_beside_name(line: Sequence[Token], bracket: Token) -> bool:
+    return any(each.is_name and is_glued(each, bracket) for each in line)
+
+
+# ---- names
+
+
+def space_in_name(case: Case) -> Found | None:
+    """Two words that are side by side wherever the second one is, more than once."""
+    tokens = near(case)
+    for first, second in zip(tokens, tokens[1:]):
+        if first.line != second.line or not is_word(first) or not (is_word(second) or second.text.isdigit()):
+            continue
+        if _are_together(case, first.text, second.text):
+            return shown(case, (first, second), mend=f"{first.text}_{second.text}")._replace(means_other=True)
+    return None
+
+
+def _are_together(case: Case, first: str, second: str) -> bool:
+    start = max(0, case.line.start - _MOST_LOOKED_AT // 2)
+    content = case.content[start : start + _MOST_LOOKED_AT]
+    pair = re.compile(rb"(?<![\w.])%b[ \t]+%b(?![\w.])" % (re.escape(first.encode()), re.escape(second.encode())))
+    count = len(pair.findall(content))
+    word = re.compile(rb"(?<![\w.])%b(?![\w.])" % re.escape((second if second.isalpha() else first).encode()))
+    return count > 1 and count == len(word.findall(content))
+
+
+@on_lines
+def digit_first_name(case: Case, line: Sequence[Token]) -> Found | None:
+    """A number, and after a space a number with letters beside it."""
+    for before, number, name in zip(line, line[1:], line[2:]):
+        if before.is_number and number.text.isdigit() and is_glued(number, name) and is_word(name):
+            text = number.text + name.text
+            if before.end < number.start and Trial(case).passes(instead_of(case, (number, name), f"_{text}")):
+                return shown(case, (number, name), mend=f"_{text}")._replace(means_other=True)
+    return None
+
+
+def glued_words(case: Case) -> Found | None:
+    """A word that is two, of which one is a keyword; with a space or a line end between them the text gets further."""
+    trial = Trial(case)
+    for token in reversed(near(case)):
+        for first, second in _parts(case, token.text) if token.is_name and not is_used(case, token.text) else ():
+            for between in (" ", "\n"):
+                if trial.passes(instead_of(case, (token,), first + between + second)):
+                    what = f"{first} {second}" if between == " " else f"{first}, and {second} in a line of its own"
+                    return shown(case, (token,), mend=what)._replace(means_other=True)
+    return None
+
+
+def _parts(case: Case, text: str) -> Iterator[tuple[str, str]]:
+    keywords = (*SENSES, *SECTIONS, FREE)
+    for at in range(1, len(text)):
+        first, second = text[:at], text[at:]
+        is_first = first.lower() in keywords and (second.lower() in keywords or is_used(case, second, 0))
+        if is_first or (second.lower() in keywords and is_used(case, first, 0)):
+            yield first, second
+
+
+RULES: tuple[Rule, ...] = (
+    placeholder,
+    parentheses_in_sum,
+    brackets_in_sum,
+    space_in_name,
+    digit_first_name,
+    glued_words,
+)
