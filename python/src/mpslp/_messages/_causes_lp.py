@@ -14,7 +14,6 @@ from fractions import Fraction
 from mpslp._messages._case import FOUND, Case, Found
 from mpslp._messages._causes_both import Rule, comma_in, conflict_marker, is_nan
 from mpslp._messages._causes_lp_marks import has_rows
-from mpslp._messages._causes_lp_relations import line_of_text
 from mpslp._messages._causes_lp_text import text_after_statement
 from mpslp._messages._causes_lp_words import lone_mark
 from mpslp._messages._lp_edits import instead_of, is_used, span
@@ -563,7 +562,6 @@ RULES: tuple[Rule, ...] = (
     fraction,
     punctuation_after_row,
     lone_mark,
-    line_of_text,
     text_after_statement,
     row_without_terms,
     no_subject_to,

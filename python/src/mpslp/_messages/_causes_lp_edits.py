@@ -9,6 +9,7 @@ from collections.abc import Iterator, Sequence
 
 from mpslp._messages._case import Case, Found
 from mpslp._messages._causes_both import Rule
+from mpslp._messages._causes_lp_marks import label_of_words
 from mpslp._messages._lp_edits import instead_of, is_used, line_without, near, span
 from mpslp._messages._lp_suspects import is_glued, is_word, lp_section, section_of, shown, suspects
 from mpslp._messages._lp_trials import Edit, Trial
@@ -25,10 +26,18 @@ def mark_left_over(case: Case) -> Found | None:
     """A mark near the error without which the text gets further."""
     trial = Trial(case)
     for tokens in _marks_near(case):
+        if _joins_numbers(case, tokens):
+            continue
         edit = instead_of(case, tokens)
         if trial.passes(edit):
             return shown(case, tokens, mend=line_without(case, tokens))._replace(means_other=True)
     return None
+
+
+def _joins_numbers(case: Case, tokens: Sequence[Token]) -> bool:
+    """Whether the marks are between digits."""
+    start, end = span(case, tokens[0], tokens[-1])
+    return case.content[start - 1 : start].isdigit() and case.content[end : end + 1].isdigit()
 
 
 def _marks_near(case: Case) -> Iterator[Sequence[Token]]:
@@ -101,6 +110,7 @@ _ADDED = {"a sign": "+", "a relation": "<=", "a colon": ":", "a number": "1", "a
 
 
 RULES: tuple[Rule, ...] = (
+    label_of_words,
     repeated,
     mark_left_over,
     mark_at_name,

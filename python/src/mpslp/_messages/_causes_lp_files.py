@@ -127,6 +127,17 @@ def two_models(case: Case) -> Found | None:
     return Found(f"the second starts in line {case.line.number}", marks=(case.mark_of_tokens([case.token]),))
 
 
+_OUTPUT = re.compile(
+    rb"(?i)\s*(?:Model status\s|Problem:[^\n]*\n(?:Rows|Rows:)|#\s*=+\s*\n#\s*=\s*Solver Results|Value of objective function|"
+    rb"Actual values of the|Problem name[ \t]*:|Variable Name\s+Solution Value|<\?xml[^>]*>\s*<CPLEXSolution)"
+)
+
+
+def solver_output(case: Case) -> Found | None:
+    """What solvers print, or write to a file, of the result."""
+    return FOUND if _OUTPUT.match(case.content) else None
+
+
 # ---- other languages
 
 
@@ -177,6 +188,7 @@ def lp_solve_statements(case: Case) -> Found | None:
 
 
 RULES: tuple[Rule, ...] = (
+    solver_output,
     escaped_lines,
     diff_of_model,
     markdown_fence,

@@ -34,7 +34,7 @@ _KEYWORDS = {
     "subject to": "constraints constraint subjectto subj subject subj.to subj_to subject_to subject-to such-that s.t "
     "s.t.c where with under restrictions restriction conditions condition equations rows relations requirements suchthat",
     "such that": "",
-    "bounds": "limits limit boundaries boundary bnds bnd domains domain box ranges",
+    "bounds": "limits limit boundaries boundary bnds bnd domains domain box",
     "generals": "integral integrals gens discrete discretes whole generalintegers",
     "integers": "ints intvars integervariables entiers",
     "binaries": "boolean booleans bool bools logical logicals bins binvars 0-1 zero-one zeroone 01 binaryvariables",
@@ -66,6 +66,7 @@ _LAZY = frozenset(
 _START = "values to start from are for a solver, and no part of a model"
 _PRIORITY = "priorities are for a solver, and no part of a model"
 _NONE = {
+    **dict.fromkeys("ranges|range|row ranges".split("|"), "a row with two limits is 1 <= x + y <= 4"),
     **dict.fromkeys(
         "mipstart|mip start|mipstarts|mip starts|mst|start|starts|warmstart|warm start|hints|hint|var hints|"
         "initial|initial values|initial solution|initial point|start values|starting values|start solution|solution|"
@@ -88,7 +89,7 @@ _NONE = {
 }
 """Sections of other readers that say nothing that this format has, and why."""
 _SENSE = re.compile(rb"(?im)^[ \t]*(?:min|max)(?:imi[sz]e|imum)?\b[ \t]*(?![ \t\w.]*=)(?!\w)")
-_ANY_SENSE = re.compile(rb"(?im)^[^\\\n]*?(?<![\w.])(?:min|max)(?:imi[sz]e|imum)?(?![\w.])")
+_ANY_SENSE = re.compile(rb"(?im)^[^\\\n]*?(?<![\w./])(?:min|max)(?:imi[sz]e|imum)?(?![\w./])")
 _MOST_SKIPPED = 600
 _MOST_READ_AGAIN = 2**20
 _NO_SENSE = ("optimize", "optimise", "opt", "min/max", "max/min", "minmax", "objective", "goal", "optimization", "target")
@@ -258,7 +259,7 @@ def text_before_model(case: Case) -> Found | None:
             return None
     count = case.content.count(b"\n", 0, start)
     is_one = not case.content[case.line.start + len(case.line.content) : start].strip()
-    if count > _MOST_SKIPPED or lines_read(case, case.content[start:]) < 2 or is_one:
+    if count > _MOST_SKIPPED or lines_read(case, case.content[start:]) < 2 or (is_one and (case.kind == "BadToken" or case.line.content.lstrip()[:1] in b"*/")):
         return None
     sense = case.mark_at(start, start + len(case.content[start:].split(maxsplit=1)[0]))
     first = case.line.number

@@ -24,7 +24,8 @@ from mpslp._text._lp_words import INFINITIES
 _FUNCTION = re.compile(r"(?<![\w.])(?:max|min|abs|and|or|norm|exp|log|ln|sqrt|sin|cos|tan|pow)\s*\(|[\w)]\s+(?:mod|div|xor)\s+[\w(]", re.IGNORECASE)
 _LOOP = re.compile(
     r"(?<![\w.])(?:(?:sum|prod|for|forall)\s*(?:\{|\([^()]*(?:\bin\b|\.\.|=))|(?:for|sum|prod)\s+\w+\s*(?:\bin\b|=)"
-    r"|forall\s+\w+|for\s+(?:all|each|every)\b|(?:sum|prod)\s*_|sum\s+over\b)|\\sum\b|@(?:sum|for)\b",
+    r"|forall\s+\w+|for\s+(?:all|each|every)\b|(?:sum|prod)\s*_|sum\s+over\b)|\\sum\b|@(?:sum|for)\b"
+    r"|\bsum\s*\(\s*\w+:\w+\s*\)|,\s*(?:for\s+)?[a-z]\s*(?:=|in\b)\s*\d+\s*(?:,|\.\.|to\b)",
     re.IGNORECASE,
 )
 _NUMBER = r"[-+]?(?:\d+(?:\.\d+)?|\.\d+)"
@@ -41,6 +42,12 @@ _BETWEEN = re.compile(
 )
 _SIDE_BY_SIDE = re.compile(
     rf"\s*(?P<name>[A-Za-z_][\w.]*)\s*(?:[:=]\s*)?(?<![\w.])(?P<lower>{_NUMBER})\s*(?:,|;|\s)\s*(?P<upper>{_NUMBER})\s*$"
+)
+_TO = re.compile(
+    rf"\s*(?P<lower>{_NUMBER})\s*(?:to|-|\.\.+)\s*(?P<upper>{_NUMBER})\s+(?P<name>[A-Za-z_][\w.]*)\s*$"
+)
+_DASH = re.compile(
+    r"\s*(?P<name>[A-Za-z_][\w.]*)\s*(?:[:=]|in\b)\s*(?P<lower>\d+(?:\.\d+)?)\s*-\s*(?P<upper>\d+(?:\.\d+)?)\s*$"
 )
 _DOTS = re.compile(
     rf"(?:(?<![\w.])(?P<before>[A-Za-z_][\w.]*)\s*(?::?=|\bin\b)\s*|(?<![\w.]))(?P<lower>{_NUMBER})\s*\.\.\s*"
@@ -123,12 +130,19 @@ def range_of_values(case: Case, line: Sequence[Token]) -> Found | None:
     text = text_of(case, line)
     match = _BRACKETS.search(text) or _BETWEEN.search(text) or _DOTS.search(text)
     if match is None and section_of(case, line) == "bounds":
-        match = _SIDE_BY_SIDE.match(text)
+        match = _SIDE_BY_SIDE.match(text) or _TO.match(text) or _DASH.match(text)
     if match is None:
         return None
     name = match.groupdict().get("before") or match["name"]
     if name is None and not text[: match.start()].rstrip().endswith(":"):  # it may be a number with two points
         return None
+    if re.fullmatch(r".*\{\s*0\s*[,;]\s*1\s*\}\s*", text):
+        return Found(
+            "{0, 1} is meant for a column under Binaries",
+            marks=(mark_of_text(case, line, *match.span()),),
+            moves=True,
+            means_other=True,
+        )
     mend = "" if name is None else f"{match['lower']} <= {name} <= {match['upper']}"
     return Found(mend=mend, marks=(mark_of_text(case, line, *match.span()),), moves=True, means_other=True)
 

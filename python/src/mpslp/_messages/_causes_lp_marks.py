@@ -19,18 +19,39 @@ from mpslp._text._lp_words import RESERVED, SENSES
 _MOST_LOOKED_AT = 2**20
 _ROWS = re.compile(rb"(?im)^[ \t]*(?:subject[ \t]+to|such[ \t]+that|st|s\.t\.|st\.)[ \t\r:]*$")
 _NUMBER_MARK = re.compile(r"\d+[).]+")
-_LIST_MARKS = ("-", "*", "+", "#", "o", "~", ".", ">", "|")
+_LIST_MARKS = ("-", "*", "+", "#", "o", "~", ".", ">", "|", "=")
+_LABEL_MARK = re.compile(r"[^\w\s\[\]\\]+")
+_NO_LETTER = re.compile(r"\W+")
 _CONTINUED = re.compile(r"&|_|\.{1,3}|[\\+,-]")
 
 
-def double_colon(case: Case) -> Found | None:
-    """Two colons after a label."""
-    token, before = case.token, case.before()
-    if token is None or before is None or token.text != "::" or not before.is_name:
+def other_colon(case: Case) -> Found | None:
+    """Marks other than a colon after the first word of a row; with a colon the text gets further."""
+    line = [each for each in case.tokens if each.line == case.line.number]
+    line = line[1:] if line and line[0].word in SENSES else line
+    end = 1
+    while end < len(line) and _LABEL_MARK.fullmatch(line[end].text):
+        end += 1
+    marks = line[1:end]
+    text = "".join(each.text for each in marks)
+    if not marks or text[0] in "$%#" or text in (":", ":=", "=", "<", ">", "<=", ">=") or all(each.is_sign for each in marks):
         return None
-    if not Trial(case).passes(instead_of(case, (token,), ":")):
+    if not is_word(line[0]) or is_used(case, line[0].text) or not Trial(case).passes(instead_of(case, marks, ":")):
         return None
-    return shown(case, (token,), mend=f"{before.text}:")
+    return shown(case, marks, mend=f"{line[0].text}:")._replace(means_other=True)
+
+
+def label_of_words(case: Case) -> Found | None:
+    """Several words or marks before the colon at the start of a row; with one word the text gets further."""
+    line = [each for each in case.tokens if each.line == case.line.number]
+    colon = next((at for at, each in enumerate(line) if each.text == ":"), 0)
+    label = line[:colon]
+    if len(label) < 2 or any(each.is_relation or each.text in "[]" for each in label) or not label[0].is_name:
+        return None
+    text = "_".join(word for each in label if (word := _NO_LETTER.sub("", each.text)))
+    if not text[:1].isalpha() or lp_section(case) == "list" or not Trial(case).passes(instead_of(case, label, text)):
+        return None
+    return shown(case, label, mend=f"{text}:")._replace(means_other=True)
 
 
 def label_in_brackets(case: Case) -> Found | None:
@@ -77,6 +98,11 @@ def split_name(case: Case) -> Found | None:
     """Two parts that are a name of the text, a number or a keyword if they are joined."""
     tokens = near(case)
     trial = Trial(case)
+    for first, point, second in zip(tokens, tokens[1:], tokens[2:]):
+        if first.is_number and point.text == "." and second.is_number and first.line == second.line:
+            text = f"{first.text}.{second.text}"
+            if trial.passes(instead_of(case, (first, point, second), text)):
+                return shown(case, (first, point, second), f"{text} is with spaces", text)._replace(means_other=True)
     for first, second in zip(tokens, tokens[1:]):
         text = first.text + second.text
         if is_glued(first, second) or not _is_split(case, first, second, text):
@@ -90,7 +116,8 @@ def split_name(case: Case) -> Found | None:
 
 def _is_split(case: Case, first: Token, second: Token, text: str) -> bool:
     if first.is_number and second.is_number:
-        return first.line < second.line and first.text.isdigit() and second.text.isdigit()
+        is_split = first.line < second.line and first.text.isdigit() and second.text.isdigit()
+        return is_split and sum(each.line == second.line for each in case.tokens) == 1
     if not first.is_name or not (second.is_name or second.is_number):
         return False
     if text.lower() in RESERVED and not (first.is_section or second.is_section):
@@ -122,8 +149,10 @@ def mark_before_row(case: Case) -> Found | None:
     """A mark of a list, or a number with one, at the start of a row; without it the text gets further."""
     line = [each for each in case.tokens if each.line == case.line.number]
     text = "".join(each.text for each in line[:2])
-    count = 2 if _NUMBER_MARK.fullmatch(text) else 1 if line and line[0].text in _LIST_MARKS else 0
-    if not 0 < count < len(line) or (count == 1 and ":" not in (each.text for each in line[:4])):
+    is_number = len(line) > 2 and line[0].text.isdigit() and line[1].is_name and line[2].text == ":"
+    is_mark = is_number or (bool(line) and line[0].text in _LIST_MARKS)
+    count = 2 if _NUMBER_MARK.fullmatch(text) else 1 if is_mark else 0
+    if not 0 < count < len(line) or (is_number and is_glued(*line[:2])) or (count == 1 and text[0] != "=" and ":" not in (each.text for each in line[:4])):
         return None
     if not Trial(case).passes(instead_of(case, line[:count])):
         return None
@@ -158,7 +187,7 @@ def sign_at_line_end(case: Case) -> Found | None:
 
 
 RULES: tuple[Rule, ...] = (
-    double_colon,
+    other_colon,
     label_in_brackets,
     relation_in_objective,
     line_continuation,

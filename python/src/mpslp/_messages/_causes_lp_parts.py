@@ -9,14 +9,15 @@ from collections.abc import Sequence
 
 from mpslp._messages._case import Case, Found
 from mpslp._messages._causes_both import Rule
+from mpslp._messages._causes_lp_words import TYPES_OF_MPS
 from mpslp._messages._lp_edits import instead_of
-from mpslp._messages._lp_suspects import is_word, joined, lp_section, mark_of_text, on_lines, section_of, shown, suspects, text_of
+from mpslp._messages._lp_suspects import is_column, is_word, joined, lp_section, mark_of_text, on_lines, section_of, shown, suspects, text_of
 from mpslp._messages._lp_trials import Trial
 from mpslp._messages._tokens import Token
 
 _COMMENT = re.compile(r"\s*(\*+|!+|%+|--+|#+|//+|/\*|/(?=\s)|;+|'|\"|(?:REM|rem|Rem)(?=\s))\s*(.*?)\s*(?:\*/)?$")
 _TRAILING = re.compile(r"[<>=]\s*[-+]*\s*[\d.]+(?:[eE][-+]?\d+)?\s*(!+|%+|#+|//+|/\*|/(?=\s)|--+|;+|\*+)\s*(\D.*?)\s*(?:\*/)?$")
-_FREE = frozenset(("unbounded", "unbound", "unrestricted", "urs", "sign-free", "free-sign"))
+_FREE = frozenset(("fre", "freee", "fee", "feer", "frei", "freeing", "unbounded", "unbound", "unrestricted", "urs", "sign-free", "free-sign"))
 _TYPES = {
     "integer": "Generals",
     "integers": "Generals",
@@ -28,6 +29,7 @@ _TYPES = {
     "boolean": "Binaries",
     "bool": "Binaries",
 }
+_ALL = ("all", "every", "each", "any")
 _SEVERAL = re.compile(r"multi-?objectives?")
 _NEXT_SECTION = re.compile(rb"(?im)^[ \t]*(?:subject[ \t]+to|such[ \t]+that|st|s\.t\.)[ \t\r:]*$")
 _OTHER_SECTION = re.compile(
@@ -141,8 +143,11 @@ def several_in_bounds(case: Case, line: Sequence[Token]) -> Found | None:
         len(names) < 2
         or not any(each.word == "free" or each.is_relation for each in rest)
         or names[-1].lower() in _FREE
+        or names[-1].lower() in TYPES_OF_MPS
     ):
         return None
+    if names[0].lower() in _ALL:
+        return shown(case, line[first:end], "LP has no word for all columns; their lower bounds are 0 by default")
     before, after = joined(line[:first]), joined(line[end:])
     lines = [" ".join(filter(None, (before, name, after))) for name in names]
     more = ["..."] if len(lines) > _MOST_LINES else []
@@ -156,6 +161,16 @@ def word_for_free(case: Case, line: Sequence[Token]) -> Found | None:
             name = line[0] if first.text == ":" else first
             return shown(case, (second,), mend=f"{name.text} free")
     return None
+
+
+@on_lines
+def word_in_bounds(case: Case, line: Sequence[Token]) -> Found | None:
+    """A column and a word that is none, and no more."""
+    if len(line) != 2 or section_of(case, line) != "bounds" or not is_word(line[0]) or not is_word(line[1]):
+        return None
+    is_default = line[1].word.startswith(("nonneg", "non-neg", "positive", "pos"))
+    detail = "without a bound a column is not negative" if is_default else ""
+    return shown(case, line[1:], detail)._replace(means_other=True)
 
 
 @on_lines
@@ -216,8 +231,9 @@ def bound_in_list(case: Case, line: Sequence[Token]) -> Found | None:
         return None
     if not any(each.is_relation or each.is_number or each.is_sign or each.text == ":" for each in line):
         return None
-    name = next((each.text for each in line if is_word(each)), "")
-    has_relation = name and any(each.is_relation for each in line)
+    names = [each.text for each in line if is_word(each) and is_column(case, each.text)]
+    name = " ".join(names) or next((each.text for each in line if is_word(each)), "")
+    has_relation = len(names) == 1 and any(each.is_relation for each in line)
     return shown(case, line, f"the bound {joined(line)} belongs under Bounds" if has_relation else "", name)
 
 
@@ -230,6 +246,7 @@ RULES: tuple[Rule, ...] = (
     word_for_free,
     type_in_bounds,
     several_in_bounds,
+    word_in_bounds,
     label_in_bounds,
     row_in_list,
     bound_in_list,

@@ -94,7 +94,6 @@ _IMPLICATION = re.compile(
 )
 _CONJUNCTIONS = ("and", "or", "for", "forall", "where", "if", "when", "&", "&&", ",", ";")
 _KEYWORDS_OF_LABELS = (FREE, *(word for word, section in SECTIONS.items() if section != ROWS))
-_LETTERS = re.compile(r"[A-Za-z']+[,.;!?]?|\d+")
 
 
 # ---- relations
@@ -253,31 +252,6 @@ def label_without_row(case: Case) -> Found | None:
         if before.is_name and label.is_name and lp_section(case) == "rows"
         else None
     )
-
-
-@on_lines
-def line_of_text(case: Case, line: Sequence[Token]) -> Found | None:
-    """Two words or more without a mark of LP, which are no columns."""
-    words = [each for each in line if each.is_name]
-    if (
-        len(words) < 2
-        or not all(_LETTERS.fullmatch(each.text) for each in line)
-        or any(each.word in SENSES for each in line[:1])
-    ):
-        return None
-    if (
-        section_of(case, line) == "list"
-        or words[-1].word == "free"
-        or any(is_elsewhere(case, each.text) for each in words)
-    ):
-        return None
-    return shown(case, line, mend="\\ " + " ".join(text_of(case, line).split()))
-
-
-def is_elsewhere(case: Case, name: str) -> bool:
-    """Whether a word is in the text more than once."""
-    word = re.compile(rb"(?<![\w.])" + re.escape(name.encode("latin-1")) + rb"(?![\w.])")
-    return len(word.findall(case.content[: 2**20])) > 1
 
 
 # ---- signs and words

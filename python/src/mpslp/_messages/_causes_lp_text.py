@@ -11,12 +11,13 @@ from collections.abc import Iterator, Sequence
 
 from mpslp._messages._case import Case, Found
 from mpslp._messages._causes_both import Rule
-from mpslp._messages._lp_edits import instead_of, is_used, line_without, mark_of, near, span
+from mpslp._messages._causes_lp_parts import other_comment
+from mpslp._messages._causes_lp_relations import relation_in_words
+from mpslp._messages._lp_edits import instead_of, is_term, is_used, line_without, mark_of, near, span
 from mpslp._messages._lp_suspects import (
+    is_column,
     is_glued,
     is_word,
-    joined,
-    lp_section,
     mark_of_text,
     on_lines,
     section_of,
@@ -31,39 +32,85 @@ from mpslp._text._lp_words import FREE, RESERVED, SECTIONS, SENSES
 
 _MOST_WORDS = 18
 _MOST_LOOKED_AT = 2**20
-_WORDS = re.compile(r"[A-Za-z]{2}")
+_FEWEST_MARKS = 3
+_BEFORE_TEXT = (FREE, *SENSES, "to", "that")
+_WORD = re.compile(r"[A-Za-z]{2}")
+_WORDS = re.compile(r"[\"'(\[{]*[A-Za-z][A-Za-z'-]+[\"')\]}.,:;!?]*")
+_MARKS = re.compile(r"[^\w\s]+")
+_DATE = re.compile(r"(?<![\w.])(?:\d{1,2}:\d\d(?::\d\d)?|\d{4}-\d\d-\d\d|\d{1,2}([./])\d{1,2}\1\d{2,4})(?![\w.])")
 _PLACEHOLDER = re.compile(
     r"[<>=]\s*[-+]?\s*(<[\w .-]+>|\{\{?[\w .:-]*\}?\}|%[\d.]*[dfgsx]\b|%\w+%|\$\{?[A-Za-z_]\w*\}?|#[A-Z]\w*[!?/]*\w*|\?+|\.\.\.+|"
-    r"_+|[xX]{2,}|\[[a-z ]+\])(?!\w)\s*$"
+    r"_+|[xX]{2,}|\[[a-z ]+\]|\*+)(?!\w)\s*$"
 )
 
 
 # ---- text
 
 
-def text_after_statement(case: Case) -> Found | None:
-    """Words at the end of a line, or a line of words, without which the text gets further, and which are no columns."""
+def free_text(case: Case) -> Found | None:
+    """A line, or the end of one, that is no part of the model: words that are side by side, or that follow a mark, and a
+    line of marks. Without it the text gets further.
+    """
+    if relation_in_words(case) is not None or other_comment(case) is not None:
+        return None
     trial = Trial(case)
     for line in suspects(case):
-        if section_of(case, line) == "list" and lp_section(case) != "list":
-            continue
         for at in range(max(0, len(line) - _MOST_WORDS), len(line)):
             rest = line[at:]
-            if _is_text(case, rest, line[at - 1] if at else None) and trial.passes(instead_of(case, rest)):
+            if _may_end(line[:at]) and _is_free(case, rest, not at) and trial.passes(instead_of(case, rest)):
                 text = case.content[slice(*span(case, rest[0], rest[-1]))].decode("latin-1")
                 return shown(case, rest, mend=f"\\ {text}")._replace(means_other=True)
     return None
 
 
-def _is_text(case: Case, tokens: Sequence[Token], before: Token | None) -> bool:
-    """Whether tokens have words that are nowhere else, and no relation or sign, after a whole number or a keyword."""
-    words = [each for each in tokens if _WORDS.search(each.text)]
-    if not words or any(each.is_relation or each.text == ":" or each.is_section for each in tokens):
-        return False
-    if before is not None and not (before.is_number or before.is_section or before.word in (FREE, *SENSES, "to")):
-        return False
-    return not any(is_used(case, each.text) for each in words if is_word(each))
+def _may_end(line: Sequence[Token]) -> bool:
+    """Whether a statement may end after the tokens of a line."""
+    last = line[-1] if line else None
+    return last is None or last.is_number or last.is_section or last.word in _BEFORE_TEXT
 
+
+def _is_free(case: Case, tokens: Sequence[Token], is_line: bool) -> bool:
+    lead = _lead(tokens)
+    if len(lead) == len(tokens):
+        return is_line and len("".join(each.text for each in tokens)) >= _FEWEST_MARKS
+    rest = tokens[len(lead) :]
+    words = [each for each in rest if _WORDS.fullmatch(each.text)]
+    new = [each for each in words if not is_column(case, each.text) or not is_term(case, each.text)]
+    if not new or any(each.is_section for each in rest[:1]):
+        return False
+    has_mark = len("".join(each.text for each in lead)) > 1 or (bool(lead) and not lead[0].is_sign)
+    if has_mark:
+        return not any(each.is_relation for each in rest[:-1]) or lead[0].text[0] in "#!%/;<"
+    if any(each.is_relation or each.is_sign for each in rest):
+        return False
+    has_pair = any(first.is_name and second.is_name for first, second in zip(rest, rest[1:]))
+    is_known = any(is_word(each) and is_term(case, each.text) for each in rest) and len(new) == 1
+    return has_pair and not (is_line and is_known)
+
+
+def _lead(tokens: Sequence[Token]) -> Sequence[Token]:
+    """The marks at the start of tokens."""
+    count = next((at for at, each in enumerate(tokens) if _MARKS.fullmatch(each.text) is None), len(tokens))
+    return tokens[:count]
+
+
+def text_after_statement(case: Case) -> Found | None:
+    """Words at the end of a line without which the text gets further, and which are no columns."""
+    trial = Trial(case)
+    for line in suspects(case):
+        for at in range(max(1, len(line) - _MOST_WORDS), len(line)):
+            rest = line[at:]
+            if _may_end(line[:at]) and _are_new(case, rest) and trial.passes(instead_of(case, rest)):
+                text = case.content[slice(*span(case, rest[0], rest[-1]))].decode("latin-1")
+                return shown(case, rest, mend=f"\\ {text}")._replace(means_other=True)
+    return None
+
+
+def _are_new(case: Case, tokens: Sequence[Token]) -> bool:
+    """Whether tokens have words that are nowhere else, and no relation."""
+    words = [each for each in tokens if _WORD.search(each.text)]
+    has_mark = any(each.is_relation or each.text == ":" or each.is_section for each in tokens)
+    return bool(words) and not has_mark and not any(is_used(case, each.text) for each in words if is_word(each))
 
 
 # ---- placeholders
@@ -77,6 +124,13 @@ def placeholder(case: Case, line: Sequence[Token]) -> Found | None:
         return None
     mark = mark_of_text(case, line, *match.span(1))
     return Found(f"{match[1]} is one", marks=(mark,), moves=True, means_other=True)
+
+
+@on_lines
+def date_or_time(case: Case, line: Sequence[Token]) -> Found | None:
+    """Two or three numbers with colons, dashes or slashes between them, as a date or a time has."""
+    match = _DATE.search(text_of(case, line))
+    return None if match is None else Found(f"{match[0]} is one", marks=(mark_of_text(case, line, *match.span()),), moves=True)
 
 
 # ---- parentheses and brackets
@@ -96,7 +150,8 @@ def parentheses_in_sum(case: Case, line: Sequence[Token]) -> Found | None:
     if depth > 0 or last == first:
         return None
     before = line[first].text.partition("(")[0]
-    if before and before.lower() not in SENSES:
+    names = [each.text.strip("()") for each in line[first : last + 1] if is_word(each)]
+    if (before and before.lower() not in SENSES) or not all(is_used(case, name) for name in names if name):
         return None
     return shown(case, line[first : last + 1], mend=_multiplied(case, line, first, last))._replace(means_other=True)
 
@@ -205,6 +260,8 @@ def _parts(case: Case, text: str) -> Iterator[tuple[str, str]]:
 
 RULES: tuple[Rule, ...] = (
     placeholder,
+    date_or_time,
+    free_text,
     parentheses_in_sum,
     brackets_in_sum,
     space_in_name,

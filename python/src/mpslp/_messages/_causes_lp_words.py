@@ -16,7 +16,7 @@ from mpslp._text._lp_words import FREE, INFINITIES, SENSES
 
 _MARKS = re.compile(r"[!\"#$%&,/;?@'`{}|~^.]+")
 _INFINITY = frozenset(("unlimited", "infinite", "unbounded", "infty", "oo", "infinit"))
-_TYPES_OF_MPS = {
+TYPES_OF_MPS = {
     "up": "<=",
     "lo": ">=",
     "fx": "=",
@@ -134,11 +134,11 @@ def bound_of_mps(case: Case, line: Sequence[Token]) -> Found | None:
     if section_of(case, line) != "bounds" or not 2 <= len(line) <= 5 or any(each.is_relation and each.text != "=" for each in line):
         return None
     words = [each for each in line if each.is_name]
-    kind = next((each for each in words if each.word in _TYPES_OF_MPS), None)
+    kind = next((each for each in words if each.word.strip(".:=") in TYPES_OF_MPS), None)
     names = [each.text for each in words if each is not kind]
     if kind is None or not names:
         return None
-    relation = _TYPES_OF_MPS[kind.word]
+    relation = TYPES_OF_MPS[kind.word.strip(".:=")]
     number = "".join(each.text for each in line if each.is_number or each.is_sign)
     mend = f"{names[-1]} {relation} {number}".strip() if relation == FREE or (relation and number) else ""
     return shown(case, line, mend=mend)

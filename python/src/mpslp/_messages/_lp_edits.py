@@ -47,6 +47,13 @@ def is_used(case: Case, name: str, times: int = 1) -> bool:
     return len(word.findall(case.content[start : start + _MOST_LOOKED_AT])) > times
 
 
+def is_term(case: Case, name: str) -> bool:
+    """Whether a name is in the text more than once, other than as a label."""
+    word = re.compile(rb"(?<![\w.])" + re.escape(name.encode("latin-1")) + rb"(?![\w.])(?![ \t]*:)")
+    start = max(0, case.line.start - _MOST_LOOKED_AT // 2)
+    return len(word.findall(case.content[start : start + _MOST_LOOKED_AT])) > 1
+
+
 def mark_of(case: Case, token: Token) -> Mark:
     line = line_at(case.content, token.line)
     return Mark(line.number, line.content, token.start, token.end)
