@@ -26,7 +26,7 @@ from mpslp._text._lp_words import FURTHER_TOKENS, ROWS_IN_TWO_WORDS, SENSES
 _MOST_BACK = 12
 """So many lines before the error may be the heading that it comes from."""
 _MOST_WORDS = 4
-_MOST_LOOKED_AT = 2**20
+_MOST_LOOKED_AT = 2**18
 _MOST_READ = 2**22
 _KEYWORDS = {
     "minimize": "minimise minimization minimisation minimizing minimising minimum minimization: minim mini minimizar min.",

@@ -34,7 +34,7 @@ def other_colon(case: Case) -> Found | None:
         end += 1
     marks = line[1:end]
     text = "".join(each.text for each in marks)
-    if not marks or text[0] in "$%#" or text in (":", ":=", "=", "<", ">", "<=", ">=") or all(each.is_sign for each in marks):
+    if not marks or set(text) & set("$%#") or text in (":", ":=", "=", "<", ">", "<=", ">=") or all(each.is_sign for each in marks):
         return None
     if not is_word(line[0]) or is_used(case, line[0].text) or not Trial(case).passes(instead_of(case, marks, ":")):
         return None

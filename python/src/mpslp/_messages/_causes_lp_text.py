@@ -8,6 +8,7 @@ from __future__ import annotations
 
 import re
 from collections.abc import Iterator, Sequence
+from fractions import Fraction
 
 from mpslp._messages._case import Case, Found
 from mpslp._messages._causes_both import Rule
@@ -31,7 +32,7 @@ from mpslp._messages._tokens import Token, tokens_of
 from mpslp._text._lp_words import FREE, RESERVED, SECTIONS, SENSES
 
 _MOST_WORDS = 18
-_MOST_LOOKED_AT = 2**20
+_MOST_LOOKED_AT = 2**18
 _FEWEST_MARKS = 3
 _BEFORE_TEXT = (FREE, *SENSES, "to", "that")
 _WORD = re.compile(r"[A-Za-z]{2}")
@@ -162,28 +163,23 @@ def _multiplied(case: Case, line: Sequence[Token], first: int, last: int) -> str
     """
     content = text_of(case, line)[line[first].start : line[last].end]
     terms = terms_of(tokens_of(re.sub(r"[()]", " ", content).encode("latin-1")))
-    start, factor = first, 1
-    number = value_of(line[start - 1].text) if start and line[start - 1].is_number else None
-    if number is not None:
-        start -= 1
-    sign = line[start - 1] if start and line[start - 1].is_sign else None
     if terms is None or any(not term.name for term in terms) or content.count("(") > 1:
         return ""
-    factor = -1 if sign is not None and sign.text == "-" else 1
-    texts = [_term_times(term, (1 if number is None else number) * factor) for term in terms]
-    if not all(texts):
+    number = value_of(line[first - 1].text) if first and line[first - 1].is_number else None
+    start = first if number is None else first - 1
+    sign = line[start - 1] if start and line[start - 1].is_sign else None
+    factor = (Fraction(1) if number is None else number) * (-1 if sign is not None and sign.text == "-" else 1)
+    texts = [_term_times(term, factor) for term in terms]
+    start = start if sign is None else start - 1
+    multiplied = " ".join(texts) if sign is not None else " ".join(texts).removeprefix("+ ")
+    if not all(texts) or not Trial(case).passes(instead_of(case, line[start : last + 1], multiplied)):
         return ""
-    start -= 0 if sign is None else 1
-    sum_text = " ".join(texts)
-    sum_text = sum_text if sign is not None else sum_text.removeprefix("+ ")
-    if not Trial(case).passes(instead_of(case, line[start : last + 1], sum_text)):
-        return ""
-    return line_without(case, line[start : last + 1], sum_text)
+    return line_without(case, line[start : last + 1], multiplied)
 
 
-def _term_times(term: Term, factor: object) -> str:
-    value = term.value
-    text = None if value is None else decimal_text(value * factor)  # type: ignore[operator]
+def _term_times(term: Term, factor: Fraction) -> str:
+    """A term with its sign, times a number; empty if it is beyond the limits."""
+    text = None if term.value is None else decimal_text(term.value * factor)
     return "" if text is None else f"{'-' if text.startswith('-') else '+'} {text.lstrip('-')} {term.name}"
 
 

@@ -30,7 +30,7 @@ TYPES_OF_MPS = {
     "max": "<=",
     "min": ">=",
 }
-_MOST_LOOKED_AT = 2**20
+_MOST_LOOKED_AT = 2**18
 _MOST_WRITTEN = 30
 """A row of more tokens is not written again."""
 

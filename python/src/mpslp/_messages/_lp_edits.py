@@ -4,6 +4,7 @@ from __future__ import annotations
 
 import re
 from collections.abc import Sequence
+from itertools import islice
 
 from mpslp._messages._case import Case
 from mpslp._messages._excerpt import Mark
@@ -12,7 +13,7 @@ from mpslp._messages._tokens import Token
 from mpslp._text._lines import line_at
 
 _MOST_BACK = 6
-_MOST_LOOKED_AT = 2**20
+_MOST_LOOKED_AT = 2**18
 _MOST_SHOWN = 30
 """A statement of more words is not written again."""
 
@@ -44,14 +45,14 @@ def is_used(case: Case, name: str, times: int = 1) -> bool:
     """Whether a name is in the text more often than so many times."""
     word = re.compile(rb"(?<![\w.])" + re.escape(name.encode("latin-1")) + rb"(?![\w.])")
     start = max(0, case.line.start - _MOST_LOOKED_AT // 2)
-    return len(word.findall(case.content[start : start + _MOST_LOOKED_AT])) > times
+    return next(islice(word.finditer(case.content, start, start + _MOST_LOOKED_AT), times, None), None) is not None
 
 
 def is_term(case: Case, name: str) -> bool:
     """Whether a name is in the text more than once, other than as a label."""
     word = re.compile(rb"(?<![\w.])" + re.escape(name.encode("latin-1")) + rb"(?![\w.])(?![ \t]*:)")
     start = max(0, case.line.start - _MOST_LOOKED_AT // 2)
-    return len(word.findall(case.content[start : start + _MOST_LOOKED_AT])) > 1
+    return next(islice(word.finditer(case.content, start, start + _MOST_LOOKED_AT), 1, None), None) is not None
 
 
 def mark_of(case: Case, token: Token) -> Mark:

@@ -54,6 +54,10 @@ class Trial:
         """Keeps the lines from the start of the statement on, after the words that open its section."""
         content, line = self._case.content, self._case.line
         self._end = min(line.start + len(line.content) + _MOST_AFTER, self._end)
+        if self._case.is_long_line:
+            self._start, self._end = self._case.part_of_line
+            self._before = _OPENINGS[lp_section(self._case)] if self._start > line.start else b"min\nst\n"
+            return
         if line.start <= _MOST_BEFORE:
             return
         near = [match.start() + 1 for match in _LABEL.finditer(content, line.start - _MOST_BEFORE, line.start)]
@@ -61,7 +65,8 @@ class Trial:
         self._before = _OPENINGS[lp_section(self._case)]
 
     def _lines_of_error(self) -> int:
-        return self._case.content.count(b"\n", self._case.line.start, self._end) + _END.count(b"\n")
+        start = max(self._case.line.start, self._start)
+        return self._case.content.count(b"\n", start, self._end) + _END.count(b"\n")
 
     def _read_with(self, edits: Sequence[Edit] = ()) -> bytes:
         parts, place = [self._before], self._start
@@ -89,6 +94,11 @@ class Trial:
         if left is None or self._left is None:
             return left is None
         return left < self._left and self._may_end(text, left)
+
+    def may_come(self, place: int, tried: str) -> bool:
+        """Whether the text up to a place, and what is tried there, have no error of a line."""
+        before = self._before + self._case.content[self._start : place].rstrip()
+        return self.is_known and self._lines_left(b"%b %b\n" % (before, tried.encode())) is None
 
     def _may_end(self, text: bytes, left: int) -> bool:
         """Whether a text may end before its last lines."""

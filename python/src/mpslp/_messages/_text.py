@@ -19,6 +19,7 @@ from mpslp._messages import (
     _causes_lp_languages,
     _causes_lp_marks,
     _causes_lp_numbers,
+    _causes_lp_others,
     _causes_lp_parts,
     _causes_lp_relations,
     _causes_lp_text,
@@ -65,6 +66,7 @@ class Message(NamedTuple):
 
 _OF_MPS = (_causes_mps_fields, _causes_mps)
 _OF_LP = (
+    _causes_lp_others,
     _causes_lp_headings,
     _causes_lp_marks,
     _causes_lp_languages,
