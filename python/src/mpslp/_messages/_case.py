@@ -163,7 +163,9 @@ class Case:
         after it.
         """
         place = self.place.start if self.place is not None else 0
-        start = place_between(self.line.content, max(place - _MOST_OF_LINE // 2, 0)) if place > _MOST_OF_LINE // 2 else 0
+        start = (
+            place_between(self.line.content, max(place - _MOST_OF_LINE // 2, 0)) if place > _MOST_OF_LINE // 2 else 0
+        )
         end = place_between(self.line.content, place + _MOST_AFTER)
         return self.line.start + start, self.line.start + end
 

@@ -12,7 +12,7 @@ from collections.abc import Sequence
 from fractions import Fraction
 
 from mpslp._messages._case import FOUND, Case, Found
-from mpslp._messages._causes_both import Rule, comma_in, conflict_marker, is_nan
+from mpslp._messages._causes_both import Rule, comma_in, is_nan
 from mpslp._messages._causes_lp_marks import has_rows
 from mpslp._messages._causes_lp_text import text_after_statement
 from mpslp._messages._causes_lp_words import lone_mark
@@ -361,10 +361,18 @@ def no_sign(case: Case) -> Found | None:
         return None
     if not (token.is_name or token.is_number) or token.is_section or lp_section(case) not in ("", "rows"):
         return None
+    if _is_stray(case, before) or _is_stray(case, token):
+        return None
     place = span(case, token, token)[0]
     if not Trial(case).passes(Edit(place, place, b"+ ")):
         return None
     return Found(mend=f"{before.text} + {token.text}")
+
+
+def _is_stray(case: Case, token: Token) -> bool:
+    """Whether a token is a word that is nowhere else, and without which the text gets further."""
+    is_new = token.text.isalpha() and len(token.text) > 2 and not is_used(case, token.text)
+    return is_new and Trial(case).passes(instead_of(case, (token,)))
 
 
 def space_in_label(case: Case) -> Found | None:
@@ -554,7 +562,6 @@ def _signed(tokens: Sequence[Token]) -> Fraction | None:
 
 
 RULES: tuple[Rule, ...] = (
-    conflict_marker,
     no_label,
     colon_after_keyword,
     other_relation,

@@ -1,6 +1,4 @@
-"""Rules for LP that try a small edit near the error: a mark, a word, or a line that is left out, two parts that are
-joined, a mark that is added. Each says what it has found only if the text with the edit gets past the error.
-"""
+"""Rules for LP that are asked last: something near the error is left over, and the text without it gets further."""
 
 from __future__ import annotations
 
@@ -11,15 +9,11 @@ from mpslp._messages._case import Case, Found
 from mpslp._messages._causes_both import Rule
 from mpslp._messages._causes_lp_marks import label_of_words
 from mpslp._messages._lp_edits import instead_of, is_used, line_without, near, span
-from mpslp._messages._lp_suspects import is_glued, is_word, lp_section, section_of, shown, suspects
-from mpslp._messages._lp_trials import Edit, Trial
+from mpslp._messages._lp_suspects import is_glued, is_word, on_lines, section_of, shown
+from mpslp._messages._lp_trials import Trial
 from mpslp._messages._tokens import Token
-from mpslp._text._lp_words import FREE, RESERVED, SENSES
 
-_MOST_WORDS = 18
 _MARK = re.compile(r"[^\w\s]+")
-_AT_END = re.compile(r"(.*?\w\)?)([^\w)]+)")
-_WORDS = re.compile(r"[A-Za-z]{2}")
 
 
 def mark_left_over(case: Case) -> Found | None:
@@ -57,18 +51,6 @@ def _is_mark(token: Token) -> bool:
     return _MARK.fullmatch(token.text) is not None and not token.is_sign and not token.is_relation
 
 
-def mark_at_name(case: Case) -> Found | None:
-    """A name with a mark at its end, without which the text gets further, and without which it is used elsewhere."""
-    trial = Trial(case)
-    for token in reversed(near(case)):
-        match = _AT_END.fullmatch(token.text) if token.is_name or token.is_section else None
-        if match is None or not (is_used(case, match[1], 0) or match[1].lower() in RESERVED):
-            continue
-        if trial.passes(instead_of(case, (token,), match[1])):
-            return shown(case, (token,), f"{match[2]} is read as a part of the name", match[1])._replace(means_other=True)
-    return None
-
-
 def repeated(case: Case) -> Found | None:
     """The same twice in a row, of which one is enough."""
     tokens, trial = near(case), Trial(case)
@@ -89,31 +71,14 @@ def word_left_over(case: Case) -> Found | None:
     return None
 
 
-def missing_mark(case: Case) -> Found | None:
-    """A sign, a relation, a colon or a number before the error with which the text gets further."""
-    token, before = case.token, case.before()
-    if token is None or before is None:
+@on_lines
+def word_in_bounds(case: Case, line: Sequence[Token]) -> Found | None:
+    """A column and a word that is none, and no more."""
+    if len(line) != 2 or section_of(case, line) != "bounds" or not is_word(line[0]) or not is_word(line[1]):
         return None
-    place, trial = span(case, token, token)[0], Trial(case)
-    fitting = [
-        what
-        for what, tried in _ADDED.items()
-        if trial.passes(Edit(place, place, f"{tried} ".encode()))
-    ]
-    if not fitting:
-        return None
-    listed = fitting[0] if len(fitting) == 1 else f"{', '.join(fitting[:-1])} or {fitting[-1]}"
-    return Found(f"between {before.text} and {token.text}", listed)
+    is_default = line[1].word.startswith(("nonneg", "non-neg", "positive", "pos"))
+    detail = "without a bound a column is not negative" if is_default else ""
+    return shown(case, line[1:], detail)._replace(means_other=True)
 
 
-_ADDED = {"a sign": "+", "a relation": "<=", "a colon": ":", "a number": "1", "a relation and a number": "<= 1"}
-
-
-RULES: tuple[Rule, ...] = (
-    label_of_words,
-    repeated,
-    mark_left_over,
-    mark_at_name,
-    word_left_over,
-    missing_mark,
-)
+RULES: tuple[Rule, ...] = (word_in_bounds, label_of_words, repeated, mark_left_over, word_left_over)

@@ -9,8 +9,7 @@ from collections.abc import Iterator
 from typing import NamedTuple
 
 from mpslp._messages._case import FOUND, Case, Found
-from mpslp._messages._causes_both import Rule
-from mpslp._messages._excerpt import Mark
+from mpslp._messages._causes_both import Rule, conflict_marker
 from mpslp._messages._lp_trials import is_accepted, lines_read
 from mpslp._text._lp_words import SENSES
 
@@ -44,7 +43,9 @@ def mark_at_each_line(case: Case) -> Found | None:
         return None
     for marks in _marks(case.content):
         text = _without(case.content, marks)
-        if lines_read(case, text) > max(case.line.number + 1, case.content.count(b"\n") // 2) or is_accepted(case, text):
+        if lines_read(case, text) > max(case.line.number + 1, case.content.count(b"\n") // 2) or is_accepted(
+            case, text
+        ):
             place = "start" if marks.start else "end"
             place = "start and at the end" if marks.start and marks.end else place
             return Found(f"{marks.shown} is at the {place} of each", mend=_first_line(text), means_other=True)
@@ -102,7 +103,11 @@ def escaped_lines(case: Case) -> Found | None:
     if len(content) > _MOST_READ or content.count(b"\\n") <= content.count(b"\n") + 1:
         return None
     text = content.replace(b"\\r\\n", b"\n").replace(b"\\n", b"\n").replace(b"\\t", b"\t").strip(b" \t\r\n\"'")
-    return Found(mend=_first_line(text), means_other=True) if lines_read(case, text) > _FEWEST or is_accepted(case, text) else None
+    return (
+        Found(mend=_first_line(text), means_other=True)
+        if lines_read(case, text) > _FEWEST or is_accepted(case, text)
+        else None
+    )
 
 
 # ---- text before the model, and after it
@@ -122,15 +127,13 @@ def two_models(case: Case) -> Found | None:
     """At a second sense another text starts that can be read."""
     if case.words.lower() not in SENSES or len(case.content) > _MOST_READ:
         return None
-    if case.token is None or case.token.line != case.line.number or not is_accepted(case, case.content[case.line.start :]):
+    if (
+        case.token is None
+        or case.token.line != case.line.number
+        or not is_accepted(case, case.content[case.line.start :])
+    ):
         return None
     return Found(f"the second starts in line {case.line.number}", marks=(case.mark_of_tokens([case.token]),))
 
 
-RULES: tuple[Rule, ...] = (
-    escaped_lines,
-    diff_of_model,
-    markdown_fence,
-    mark_at_each_line,
-    two_models,
-)
+RULES: tuple[Rule, ...] = (conflict_marker, escaped_lines, diff_of_model, markdown_fence, mark_at_each_line, two_models)

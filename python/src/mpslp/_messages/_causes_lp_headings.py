@@ -92,7 +92,18 @@ _SENSE = re.compile(rb"(?im)^[ \t]*(?:min|max)(?:imi[sz]e|imum)?\b[ \t]*(?![ \t\
 _ANY_SENSE = re.compile(rb"(?im)^[^\\\n]*?(?<![\w./])(?:min|max)(?:imi[sz]e|imum)?(?![\w./])")
 _MOST_SKIPPED = 600
 _MOST_READ_AGAIN = 2**20
-_NO_SENSE = ("optimize", "optimise", "opt", "min/max", "max/min", "minmax", "objective", "goal", "optimization", "target")
+_NO_SENSE = (
+    "optimize",
+    "optimise",
+    "opt",
+    "min/max",
+    "max/min",
+    "minmax",
+    "objective",
+    "goal",
+    "optimization",
+    "target",
+)
 """Words for an objective without a sense."""
 _PLAIN_END = re.compile(rb"(?im)^[ \t]*end[ \t]*(?:\\[^\n]*)?\r?$")
 _NEXT_KEYWORD = re.compile(
@@ -137,6 +148,8 @@ def _headings(case: Case) -> Iterator[_Heading]:
         is_keyword = line[0].is_section or line[0].word in SENSES
         if _is_like_heading(line):
             yield _Heading(case, line)
+        elif not start and line[0].is_name:
+            yield _Heading(case, line[:1])
         if is_keyword:
             return
         end = start
@@ -198,7 +211,7 @@ def other_keyword(case: Case) -> Found | None:
         meant = heading.meant
         if meant is None and not lp_section(case) and not has_rows(case):
             meant = "subject to"
-        if meant is None or heading.words in _NO_SENSE or _is_used(case, heading) or meant == heading.words:
+        if meant is None or heading.words in _NO_SENSE or _is_used(case, heading) or meant == heading.text.lower():
             continue
         if trial.passes(Edit(heading.start, heading.end, meant.encode())):
             return shown(case, heading.tokens, mend=meant)._replace(means_other=True)
@@ -226,7 +239,9 @@ def unknown_section(case: Case) -> Found | None:
     for heading in _headings(case):
         if heading.tokens[0].line == case.line.number or not _is_set_off(case, heading) or _is_used(case, heading):
             continue
-        edits = {each: Edit(heading.start, heading.end, each.encode()) for each in _KEYWORDS if each not in _NO_SECTIONS}
+        edits = {
+            each: Edit(heading.start, heading.end, each.encode()) for each in _KEYWORDS if each not in _NO_SECTIONS
+        }
         fitting = [keyword for keyword, edit in edits.items() if trial.passes(edit)]
         if len(fitting) == 1:
             return shown(case, heading.tokens, f"with {fitting[0]} instead of {heading.text} its lines are accepted")
@@ -252,14 +267,19 @@ def _is_set_off(case: Case, heading: _Heading) -> bool:
 def text_before_model(case: Case) -> Found | None:
     """Lines before the first one with a sense; without them more of the text can be read."""
     start = next(
-        (each.start() for each in _SENSE.finditer(case.content[:_MOST_READ_AGAIN]) if each.start() > case.line.start), None
+        (each.start() for each in _SENSE.finditer(case.content[:_MOST_READ_AGAIN]) if each.start() > case.line.start),
+        None,
     )
     if start is None or len(case.content) > _MOST_READ_AGAIN or case.content[: case.line.start].strip(b" \t\r\n"):
         if start is None or not _are_comments(case.content[: case.line.start]):
             return None
     count = case.content.count(b"\n", 0, start)
     is_one = not case.content[case.line.start + len(case.line.content) : start].strip()
-    if count > _MOST_SKIPPED or lines_read(case, case.content[start:]) < 2 or (is_one and (case.kind == "BadToken" or case.line.content.lstrip()[:1] in b"*/")):
+    if (
+        count > _MOST_SKIPPED
+        or lines_read(case, case.content[start:]) < 2
+        or (is_one and (case.kind == "BadToken" or case.line.content.lstrip()[:1] in b"*/"))
+    ):
         return None
     sense = case.mark_at(start, start + len(case.content[start:].split(maxsplit=1)[0]))
     first = case.line.number
@@ -333,7 +353,9 @@ def misspelt_end(case: Case) -> Found | None:
     if not is_end or _PLAIN_END.search(text) or not is_accepted(case, text[:start] + b"end\n"):
         return None
     number = case.content.count(b"\n", 0, first) + 1
-    return Found(f"the last line is {last}", "End", marks=(Mark(number, text[first:], start - first, len(text) - first),))
+    return Found(
+        f"the last line is {last}", "End", marks=(Mark(number, text[first:], start - first, len(text) - first),)
+    )
 
 
 def text_after_end(case: Case) -> Found | None:
@@ -344,7 +366,9 @@ def text_after_end(case: Case) -> Found | None:
     line = [each for each in case.tokens if each.line == case.tokens[at].line]
     if line[0] is not case.tokens[at] or len(line) < 2 or line[1].text == ":":
         return None
-    return Found(mend="End", marks=(mark_of_text(case, line, line[1].start, line[-1].end),), moves=True, means_other=True)
+    return Found(
+        mend="End", marks=(mark_of_text(case, line, line[1].start, line[-1].end),), moves=True, means_other=True
+    )
 
 
 def _is_end(case: Case, at: int) -> bool:

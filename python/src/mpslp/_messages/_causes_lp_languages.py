@@ -21,7 +21,10 @@ from mpslp._messages._lp_suspects import (
 from mpslp._messages._tokens import Token
 from mpslp._text._lp_words import INFINITIES
 
-_FUNCTION = re.compile(r"(?<![\w.])(?:max|min|abs|and|or|norm|exp|log|ln|sqrt|sin|cos|tan|pow)\s*\(|[\w)]\s+(?:mod|div|xor)\s+[\w(]", re.IGNORECASE)
+_FUNCTION = re.compile(
+    r"(?<![\w.])(?:max|min|abs|and|or|norm|exp|log|ln|sqrt|sin|cos|tan|pow)\s*\(|[\w)]\s+(?:mod|div|xor)\s+[\w(]",
+    re.IGNORECASE,
+)
 _LOOP = re.compile(
     r"(?<![\w.])(?:(?:sum|prod|for|forall)\s*(?:\{|\([^()]*(?:\bin\b|\.\.|=))|(?:for|sum|prod)\s+\w+\s*(?:\bin\b|=)"
     r"|forall\s+\w+|for\s+(?:all|each|every)\b|(?:sum|prod)\s*_|sum\s+over\b)|\\sum\b|@(?:sum|for)\b"
@@ -43,9 +46,7 @@ _BETWEEN = re.compile(
 _SIDE_BY_SIDE = re.compile(
     rf"\s*(?P<name>[A-Za-z_][\w.]*)\s*(?:[:=]\s*)?(?<![\w.])(?P<lower>{_NUMBER})\s*(?:,|;|\s)\s*(?P<upper>{_NUMBER})\s*$"
 )
-_TO = re.compile(
-    rf"\s*(?P<lower>{_NUMBER})\s*(?:to|-|\.\.+)\s*(?P<upper>{_NUMBER})\s+(?P<name>[A-Za-z_][\w.]*)\s*$"
-)
+_TO = re.compile(rf"\s*(?P<lower>{_NUMBER})\s*(?:to|-|\.\.+)\s*(?P<upper>{_NUMBER})\s+(?P<name>[A-Za-z_][\w.]*)\s*$")
 _DASH = re.compile(
     r"\s*(?P<name>[A-Za-z_][\w.]*)\s*(?:[:=]|in\b)\s*(?P<lower>\d+(?:\.\d+)?)\s*-\s*(?P<upper>\d+(?:\.\d+)?)\s*$"
 )

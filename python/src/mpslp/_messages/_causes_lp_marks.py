@@ -34,7 +34,12 @@ def other_colon(case: Case) -> Found | None:
         end += 1
     marks = line[1:end]
     text = "".join(each.text for each in marks)
-    if not marks or set(text) & set("$%#") or text in (":", ":=", "=", "<", ">", "<=", ">=") or all(each.is_sign for each in marks):
+    if (
+        not marks
+        or set(text) & set("$%#")
+        or text in (":", ":=", "=", "<", ">", "<=", ">=")
+        or all(each.is_sign for each in marks)
+    ):
         return None
     if not is_word(line[0]) or is_used(case, line[0].text) or not Trial(case).passes(instead_of(case, marks, ":")):
         return None
@@ -78,7 +83,7 @@ def relation_in_objective(case: Case) -> Found | None:
     line = [each for each in case.tokens if each.line == token.line]
     at = line.index(token)
     first = line[1:] if line[0].word in SENSES else line
-    if at == len(line) - len(first) + 1 and first[0].is_name and len(line) > at + 2 and line[at - 1].text != ":":
+    if at == len(line) - len(first) + 1 and first[0].is_name and len(line) > at + 1 and line[at - 1].text != ":":
         edit = instead_of(case, (token,), ":")
         if Trial(case).passes(edit):
             return shown(case, (first[0], token), mend=f"{first[0].text}:")
@@ -130,7 +135,11 @@ def line_continuation(case: Case) -> Found | None:
     trial = Trial(case)
     for line in suspects(case):
         start = len(line)
-        while start and _CONTINUED.fullmatch(line[start - 1].text) and not (start < len(line) and not is_glued(*line[start - 1 : start + 1])):
+        while (
+            start
+            and _CONTINUED.fullmatch(line[start - 1].text)
+            and not (start < len(line) and not is_glued(*line[start - 1 : start + 1]))
+        ):
             start -= 1
         marks = line[start:]
         if not 0 < start < len(line) or all(each.is_sign for each in marks) or _ends_row(line[start - 1], marks):
@@ -152,7 +161,11 @@ def mark_before_row(case: Case) -> Found | None:
     is_number = len(line) > 2 and line[0].text.isdigit() and line[1].is_name and line[2].text == ":"
     is_mark = is_number or (bool(line) and line[0].text in _LIST_MARKS)
     count = 2 if _NUMBER_MARK.fullmatch(text) else 1 if is_mark else 0
-    if not 0 < count < len(line) or (is_number and is_glued(*line[:2])) or (count == 1 and text[0] != "=" and ":" not in (each.text for each in line[:4])):
+    if (
+        not 0 < count < len(line)
+        or (is_number and is_glued(*line[:2]))
+        or (count == 1 and text[0] != "=" and ":" not in (each.text for each in line[:4]))
+    ):
         return None
     if not Trial(case).passes(instead_of(case, line[:count])):
         return None

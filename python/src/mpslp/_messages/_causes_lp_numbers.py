@@ -253,7 +253,12 @@ def coefficient_after(case: Case, line: Sequence[Token]) -> Found | None:
     """A column, and after it a number, and then a sign, a relation or the end of the objective."""
     has_relation = any(each.is_relation for each in line)
     for at, (name, number) in enumerate(zip(line, line[1:])):
-        if not is_word(name) or not number.is_number or is_glued(name, number) or (at > 0 and (line[at - 1].is_number or is_word(line[at - 1]))):
+        if (
+            not is_word(name)
+            or not number.is_number
+            or is_glued(name, number)
+            or (at > 0 and (line[at - 1].is_number or is_word(line[at - 1])))
+        ):
             continue
         after = line[at + 2] if at + 2 < len(line) else None
         if (after is None and not has_relation and section_of(case, line)) or (

@@ -11,13 +11,41 @@ from mpslp._messages._case import Case, Found
 from mpslp._messages._causes_both import Rule
 from mpslp._messages._causes_lp_words import TYPES_OF_MPS
 from mpslp._messages._lp_edits import instead_of
-from mpslp._messages._lp_suspects import is_column, is_word, joined, lp_section, mark_of_text, on_lines, section_of, shown, suspects, text_of
+from mpslp._messages._lp_suspects import (
+    is_column,
+    is_word,
+    joined,
+    lp_section,
+    mark_of_text,
+    on_lines,
+    section_of,
+    shown,
+    suspects,
+    text_of,
+)
 from mpslp._messages._lp_trials import Trial
 from mpslp._messages._tokens import Token
 
 _COMMENT = re.compile(r"\s*(\*+|!+|%+|--+|#+|//+|/\*|/(?=\s)|;+|'|\"|(?:REM|rem|Rem)(?=\s))\s*(.*?)\s*(?:\*/)?$")
-_TRAILING = re.compile(r"[<>=]\s*[-+]*\s*[\d.]+(?:[eE][-+]?\d+)?\s*(!+|%+|#+|//+|/\*|/(?=\s)|--+|;+|\*+)\s*(\D.*?)\s*(?:\*/)?$")
-_FREE = frozenset(("fre", "freee", "fee", "feer", "frei", "freeing", "unbounded", "unbound", "unrestricted", "urs", "sign-free", "free-sign"))
+_TRAILING = re.compile(
+    r"[<>=]\s*[-+]*\s*[\d.]+(?:[eE][-+]?\d+)?\s*(!+|%+|#+|//+|/\*|/(?=\s)|--+|;+|\*+)\s*(\D.*?)\s*(?:\*/)?$"
+)
+_FREE = frozenset(
+    (
+        "fre",
+        "freee",
+        "fee",
+        "feer",
+        "frei",
+        "freeing",
+        "unbounded",
+        "unbound",
+        "unrestricted",
+        "urs",
+        "sign-free",
+        "free-sign",
+    )
+)
 _TYPES = {
     "integer": "Generals",
     "integers": "Generals",
@@ -164,16 +192,6 @@ def word_for_free(case: Case, line: Sequence[Token]) -> Found | None:
 
 
 @on_lines
-def word_in_bounds(case: Case, line: Sequence[Token]) -> Found | None:
-    """A column and a word that is none, and no more."""
-    if len(line) != 2 or section_of(case, line) != "bounds" or not is_word(line[0]) or not is_word(line[1]):
-        return None
-    is_default = line[1].word.startswith(("nonneg", "non-neg", "positive", "pos"))
-    detail = "without a bound a column is not negative" if is_default else ""
-    return shown(case, line[1:], detail)._replace(means_other=True)
-
-
-@on_lines
 def label_in_bounds(case: Case, line: Sequence[Token]) -> Found | None:
     """A name and a colon at the start of a line."""
     if (
@@ -246,7 +264,6 @@ RULES: tuple[Rule, ...] = (
     word_for_free,
     type_in_bounds,
     several_in_bounds,
-    word_in_bounds,
     label_in_bounds,
     row_in_list,
     bound_in_list,

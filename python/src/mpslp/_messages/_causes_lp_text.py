@@ -14,22 +14,12 @@ from mpslp._messages._case import Case, Found
 from mpslp._messages._causes_both import Rule
 from mpslp._messages._causes_lp_parts import other_comment
 from mpslp._messages._causes_lp_relations import relation_in_words
-from mpslp._messages._lp_edits import instead_of, is_term, is_used, line_without, mark_of, near, span
-from mpslp._messages._lp_suspects import (
-    is_column,
-    is_glued,
-    is_word,
-    mark_of_text,
-    on_lines,
-    section_of,
-    shown,
-    suspects,
-    text_of,
-)
+from mpslp._messages._lp_edits import instead_of, is_term, is_used, line_without, near, span
+from mpslp._messages._lp_suspects import is_column, is_glued, is_word, mark_of_text, on_lines, shown, suspects, text_of
 from mpslp._messages._lp_sums import Term, decimal_text, terms_of, value_of
-from mpslp._messages._lp_trials import Edit, Trial
+from mpslp._messages._lp_trials import Trial
 from mpslp._messages._tokens import Token, tokens_of
-from mpslp._text._lp_words import FREE, RESERVED, SECTIONS, SENSES
+from mpslp._text._lp_words import FREE, SECTIONS, SENSES
 
 _MOST_WORDS = 18
 _MOST_LOOKED_AT = 2**18
@@ -111,7 +101,7 @@ def _are_new(case: Case, tokens: Sequence[Token]) -> bool:
     """Whether tokens have words that are nowhere else, and no relation."""
     words = [each for each in tokens if _WORD.search(each.text)]
     has_mark = any(each.is_relation or each.text == ":" or each.is_section for each in tokens)
-    return bool(words) and not has_mark and not any(is_used(case, each.text) for each in words if is_word(each))
+    return bool(words) and not has_mark and all(is_word(each) and not is_used(case, each.text) for each in words)
 
 
 # ---- placeholders
@@ -131,7 +121,11 @@ def placeholder(case: Case, line: Sequence[Token]) -> Found | None:
 def date_or_time(case: Case, line: Sequence[Token]) -> Found | None:
     """Two or three numbers with colons, dashes or slashes between them, as a date or a time has."""
     match = _DATE.search(text_of(case, line))
-    return None if match is None else Found(f"{match[0]} is one", marks=(mark_of_text(case, line, *match.span()),), moves=True)
+    return (
+        None
+        if match is None
+        else Found(f"{match[0]} is one", marks=(mark_of_text(case, line, *match.span()),), moves=True)
+    )
 
 
 # ---- parentheses and brackets

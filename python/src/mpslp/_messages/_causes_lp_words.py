@@ -131,7 +131,11 @@ def word_between_terms(case: Case) -> Found | None:
 @on_lines
 def bound_of_mps(case: Case, line: Sequence[Token]) -> Found | None:
     """A type of MPS before a column, or after it."""
-    if section_of(case, line) != "bounds" or not 2 <= len(line) <= 5 or any(each.is_relation and each.text != "=" for each in line):
+    if (
+        section_of(case, line) != "bounds"
+        or not 2 <= len(line) <= 5
+        or any(each.is_relation and each.text != "=" for each in line)
+    ):
         return None
     words = [each for each in line if each.is_name]
     kind = next((each for each in words if each.word.strip(".:=") in TYPES_OF_MPS), None)
@@ -150,7 +154,11 @@ def word_for_infinity(case: Case, line: Sequence[Token]) -> Found | None:
         is_beside = before is not None and (before.is_relation or before.is_sign)
         is_none = each.word in ("none", "no") and section_of(case, line) == "bounds"
         if (
-            (each.word in _INFINITY or is_none or (each.word.startswith("inf") and each.word not in INFINITIES and is_word(each)))
+            (
+                each.word in _INFINITY
+                or is_none
+                or (each.word.startswith("inf") and each.word not in INFINITIES and is_word(each))
+            )
             and (is_beside or each is line[0])
             and any(other.is_relation for other in line)
         ):

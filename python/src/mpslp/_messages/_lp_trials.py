@@ -20,12 +20,7 @@ _MOST_READ = 2**16
 _MOST_BEFORE = 2**15
 _MOST_AFTER = 2**11
 _LABEL = re.compile(rb"\n[ \t]*[A-Za-z_][\w.]*[ \t]*:")
-_OPENINGS = {
-    "": b"min\n",
-    "rows": b"min\nst\n",
-    "bounds": b"min\nst\nbounds\n",
-    "list": b"min\nst\ngenerals\n",
-}
+_OPENINGS = {"": b"min\n", "rows": b"min\nst\n", "bounds": b"min\nst\nbounds\n", "list": b"min\nst\ngenerals\n"}
 _END = b"\nend\n"
 """What is cut off by the end of the part has this end; after the end of a whole text it is ignored."""
 

@@ -49,7 +49,9 @@ class Token(NamedTuple):
         return self.word in SECTIONS
 
 
-def tokens_of(content: bytes, line: int = 1, start: int = 0, end: int | None = None, first: int | None = None) -> list[Token]:
+def tokens_of(
+    content: bytes, line: int = 1, start: int = 0, end: int | None = None, first: int | None = None
+) -> list[Token]:
     """The tokens of a part of a text. Its first line has a number, and starts where the part does, or at another place.
     Comments have no tokens.
     """
