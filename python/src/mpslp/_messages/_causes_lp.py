@@ -213,12 +213,21 @@ def sum_on_the_right(case: Case) -> Found | None:
 def missing_number(case: Case) -> Found | None:
     """After a relation a section or the next row comes."""
     token = case.token
-    if token is None or not _follows_relation(case):
+    if token is None or not (_follows_relation(case) or _is_number_of_next(case)):
         return None
-    if not token.is_section and not _starts_row(case):
+    if not (token.is_section or _starts_row(case) or _is_number_of_next(case)):
         return None
-    mark = case.mark_of_tokens([each for each in case.tokens[: case.token_at] if each.is_relation][-1:])
+    relations = [each for each in case.tokens[: case.token_at] if each.is_relation]
+    mark = case.mark_of_tokens(relations[-1:])
     return Found(marks=(mark._replace(start=mark.end + 1, end=mark.end + 2),))
+
+
+def _is_number_of_next(case: Case) -> bool:
+    """Whether the error is a relation after a number at the start of its line, and a relation ends the line before."""
+    token, number, relation = case.token, case.before(), case.before(2)
+    if token is None or number is None or relation is None or not (token.is_relation and number.is_number):
+        return False
+    return relation.is_relation and relation.line < number.line == token.line
 
 
 def _starts_row(case: Case) -> bool:

@@ -7,7 +7,6 @@ from collections.abc import Iterator, Sequence
 
 from mpslp._messages._case import Case, Found
 from mpslp._messages._causes_both import Rule
-from mpslp._messages._causes_lp_marks import label_of_words
 from mpslp._messages._lp_edits import instead_of, is_used, line_without, near, span
 from mpslp._messages._lp_suspects import is_glued, is_word, on_lines, section_of, shown
 from mpslp._messages._lp_trials import Trial
@@ -81,4 +80,4 @@ def word_in_bounds(case: Case, line: Sequence[Token]) -> Found | None:
     return shown(case, line[1:], detail)._replace(means_other=True)
 
 
-RULES: tuple[Rule, ...] = (word_in_bounds, label_of_words, repeated, mark_left_over, word_left_over)
+RULES: tuple[Rule, ...] = (word_in_bounds, repeated, mark_left_over, word_left_over)

@@ -20,7 +20,7 @@ from mpslp._messages._lp_suspects import is_word, lp_section, mark_of_text, show
 from mpslp._messages._lp_trials import Edit, Trial, is_accepted, lines_read
 from mpslp._messages._nearest import nearest
 from mpslp._messages._tokens import Token
-from mpslp._text._lines import line_at
+from mpslp._text._lines import line_at, line_with
 from mpslp._text._lp_words import FURTHER_TOKENS, ROWS_IN_TWO_WORDS, SENSES
 
 _MOST_BACK = 12
@@ -107,7 +107,7 @@ _NO_SENSE = (
 """Words for an objective without a sense."""
 _PLAIN_END = re.compile(rb"(?im)^[ \t]*end[ \t]*(?:\\[^\n]*)?\r?$")
 _NEXT_KEYWORD = re.compile(
-    rb"(?im)^[ \t]*(?:bounds?|generals?|gen|integers?|int|binar(?:y|ies)|bin|semis?|semi-continuous|sos[12]?|end)"
+    rb"(?im)^[ \t]*(?:subject[ \t]+to|such[ \t]+that|st|s\.t\.|bounds?|generals?|gen|integers?|int|binar(?:y|ies)|bin|semis?|semi-continuous|sos[12]?|end)"
     rb"[ \t:]*\r?$"
 )
 _NEAR_END = frozenset(
@@ -211,7 +211,12 @@ def other_keyword(case: Case) -> Found | None:
         meant = heading.meant
         if meant is None and not lp_section(case) and not has_rows(case):
             meant = "subject to"
-        if meant is None or heading.words in _NO_SENSE or _is_used(case, heading) or meant == heading.text.lower():
+        if (
+            meant is None
+            or heading.words in (*_NO_SENSE, *_NONE, *_LAZY)
+            or _is_used(case, heading)
+            or meant == heading.text.lower()
+        ):
             continue
         if trial.passes(Edit(heading.start, heading.end, meant.encode())):
             return shown(case, heading.tokens, mend=meant)._replace(means_other=True)
@@ -237,7 +242,7 @@ def unknown_section(case: Case) -> Found | None:
         return None
     trial = Trial(case)
     for heading in _headings(case):
-        if heading.tokens[0].line == case.line.number or not _is_set_off(case, heading) or _is_used(case, heading):
+        if not _is_set_off(case, heading) or _is_used(case, heading):
             continue
         edits = {
             each: Edit(heading.start, heading.end, each.encode()) for each in _KEYWORDS if each not in _NO_SECTIONS
@@ -258,6 +263,8 @@ def _is_set_off(case: Case, heading: _Heading) -> bool:
     """Whether a line starts with a capital letter, and further left than the next line."""
     first = heading.tokens[0]
     after = next((each for each in case.tokens if each.line > first.line), None)
+    if after is None and first.line == case.line.number:
+        after = case.after
     return first.text[0].isupper() and after is not None and first.start < after.start
 
 
@@ -358,6 +365,23 @@ def misspelt_end(case: Case) -> Found | None:
     )
 
 
+def text_after_model(case: Case) -> Found | None:
+    """After an empty line at the end of a text without an end, words that are nowhere else."""
+    if len(case.content) > _MOST_READ_AGAIN:
+        return None
+    text = case.content.rstrip()
+    start = text.rfind(b"\n\n") + 2
+    words = text[start:].split()
+    if start < 2 or len(words) < 2 or any(word in text[:start].split() or not word[:1].isalpha() for word in words):
+        return None
+    if not is_accepted(case, text[:start] + b"end\n"):
+        return None
+    line = line_with(text, start)
+    return Found(
+        f"it starts in line {line.number}", "End", marks=(Mark(line.number, line.content, 0, len(line.content)),)
+    )
+
+
 def text_after_end(case: Case) -> Found | None:
     """The word end, and more in its line."""
     at = next((at for at in (case.token_at - 1, case.token_at) if _is_end(case, at)), None)
@@ -380,6 +404,7 @@ RULES: tuple[Rule, ...] = (
     other_section,
     text_after_end,
     misspelt_end,
+    text_after_model,
     other_keyword,
     text_before_model,
     text_before_sense,

@@ -8,8 +8,10 @@ from collections.abc import Sequence
 from mpslp._messages._case import Case, Found
 from mpslp._messages._causes_both import Rule
 from mpslp._messages._causes_lp_parts import general_constraints
+from mpslp._messages._lp_edits import is_used
 from mpslp._messages._lp_suspects import (
     is_glued,
+    is_word,
     joined,
     lp_section,
     mark_of_text,
@@ -27,7 +29,7 @@ _FUNCTION = re.compile(
 )
 _LOOP = re.compile(
     r"(?<![\w.])(?:(?:sum|prod|for|forall)\s*(?:\{|\([^()]*(?:\bin\b|\.\.|=))|(?:for|sum|prod)\s+\w+\s*(?:\bin\b|=)"
-    r"|forall\s+\w+|for\s+(?:all|each|every)\b|(?:sum|prod)\s*_|sum\s+over\b)|\\sum\b|@(?:sum|for)\b"
+    r"|forall\s+\w+|for\s+(?:all|each|every)\b|(?:sum|prod)\s*_|sum\s+over\b)|\+\s*\.\.\.?\s*\+|\\sum\b|@(?:sum|for)\b"
     r"|\bsum\s*\(\s*\w+:\w+\s*\)|,\s*(?:for\s+)?[a-z]\s*(?:=|in\b)\s*\d+\s*(?:,|\.\.|to\b)",
     re.IGNORECASE,
 )
@@ -48,7 +50,7 @@ _SIDE_BY_SIDE = re.compile(
 )
 _TO = re.compile(rf"\s*(?P<lower>{_NUMBER})\s*(?:to|-|\.\.+)\s*(?P<upper>{_NUMBER})\s+(?P<name>[A-Za-z_][\w.]*)\s*$")
 _DASH = re.compile(
-    r"\s*(?P<name>[A-Za-z_][\w.]*)\s*(?:[:=]|in\b)\s*(?P<lower>\d+(?:\.\d+)?)\s*-\s*(?P<upper>\d+(?:\.\d+)?)\s*$"
+    r"\s*(?P<name>[A-Za-z_][\w.]*)\s*(?:[:=]|in\b|\s)\s*(?P<lower>\d+(?:\.\d+)?)\s*-\s*(?P<upper>\d+(?:\.\d+)?)\s*$"
 )
 _DOTS = re.compile(
     rf"(?:(?<![\w.])(?P<before>[A-Za-z_][\w.]*)\s*(?::?=|\bin\b)\s*|(?<![\w.]))(?P<lower>{_NUMBER})\s*\.\.\s*"
@@ -153,6 +155,8 @@ def other_section(case: Case, line: Sequence[Token]) -> Found | None:
 def sign_in_words(case: Case, line: Sequence[Token]) -> Found | None:
     """A word for a sign between two columns."""
     for before, word, after in zip(line, line[1:], line[2:]):
+        if word.word == "x" and before.is_number and is_word(after) and not is_used(case, word.text):
+            return shown(case, (word,), mend=f"{before.text} {after.text}")._replace(means_other=True)
         if word.word in _SIGN_WORDS and before.is_name and (after.is_name or after.is_number):
             mend = " ".join(filter(None, (before.text, _SIGN_WORDS[word.word], after.text)))
             return shown(case, (word,), mend=mend)._replace(means_other=True)

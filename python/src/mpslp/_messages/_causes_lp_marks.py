@@ -53,6 +53,8 @@ def label_of_words(case: Case) -> Found | None:
     label = line[:colon]
     if len(label) < 2 or any(each.is_relation or each.text in "[]" for each in label) or not label[0].is_name:
         return None
+    if all(each.is_name or each.is_number for each in label) or all(is_glued(*pair) for pair in zip(label, label[1:])):
+        return None
     text = "_".join(word for each in label if (word := _NO_LETTER.sub("", each.text)))
     if not text[:1].isalpha() or lp_section(case) == "list" or not Trial(case).passes(instead_of(case, label, text)):
         return None
@@ -84,9 +86,10 @@ def relation_in_objective(case: Case) -> Found | None:
     at = line.index(token)
     first = line[1:] if line[0].word in SENSES else line
     if at == len(line) - len(first) + 1 and first[0].is_name and len(line) > at + 1 and line[at - 1].text != ":":
-        edit = instead_of(case, (token,), ":")
-        if Trial(case).passes(edit):
+        if Trial(case).passes(instead_of(case, (token,), ":")):
             return shown(case, (first[0], token), mend=f"{first[0].text}:")
+    if first[0] is token and Trial(case).passes(instead_of(case, (token,))):
+        return shown(case, (token,), mend=line_without(case, (token,)))
     end = next((place for place in range(at, len(line)) if line[place].is_section), len(line))
     rest = line[at:end]
     if not Trial(case).passes(instead_of(case, rest)):
@@ -189,7 +192,8 @@ def sign_at_line_end(case: Case) -> Found | None:
     if token is None or before is None or before.line == token.line or not is_word(before):
         return None
     line = [each for each in case.tokens if each.line == before.line]
-    if lp_section(case) not in ("", "rows") or not (token.is_name or token.is_number) or token.is_section:
+    is_term = token.is_number or (is_word(token) and is_used(case, token.text))
+    if lp_section(case) not in ("", "rows") or not is_term:
         return None
     if len(line) < 3 or line[1].text != ":" or any(each.is_relation for each in line):
         return None
@@ -208,4 +212,5 @@ RULES: tuple[Rule, ...] = (
     mark_before_row,
     numbered_label,
     sign_at_line_end,
+    label_of_words,
 )

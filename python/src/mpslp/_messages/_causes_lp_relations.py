@@ -22,6 +22,7 @@ from mpslp._messages._lp_suspects import (
     text_of,
     without_label,
 )
+from mpslp._messages._lp_sums import terms_of
 from mpslp._messages._tokens import Token
 from mpslp._text._lp_words import FREE, INFINITIES, ROWS, SECTIONS, SENSES
 
@@ -37,6 +38,13 @@ _WORDS = {
         "less than",
         "at most",
         "no more than",
+        "not more than",
+        "not greater than",
+        "no greater than",
+        "up to",
+        "max",
+        "kleiner gleich",
+        "kleiner als",
         "=l=",
         ".le.",
         ".lt.",
@@ -54,6 +62,12 @@ _WORDS = {
         "more than",
         "at least",
         "no less than",
+        "not less than",
+        "not fewer than",
+        "no fewer than",
+        "min",
+        "groesser gleich",
+        "groesser als",
         "=g=",
         ".ge.",
         ".gt.",
@@ -64,7 +78,7 @@ _WORDS = {
     "=": ("eq", "equal to", "equals", "is", "=e=", ".eq."),
 }
 _RELATION_OF = {word: relation for relation, words in _WORDS.items() for word in words}
-_ENGLISH = ("is", "equals", "equal to")
+_ENGLISH = ("is", "equals", "equal to", "max", "min", "up to")
 """Words that are a relation only before a number."""
 _BY_LENGTH = sorted(_RELATION_OF, key=len, reverse=True)
 _IN_WORDS = re.compile(
@@ -199,7 +213,7 @@ def no_relation(case: Case, line: Sequence[Token]) -> Found | None:
         or any(each.is_relation or each.is_section or each.text == ":" for each in tokens)
     ):
         return None
-    if section_of(case, line) not in ("rows", "bounds") or (len(tokens) > 2 and tokens[-3].is_name):
+    if section_of(case, line) not in ("rows", "bounds") or terms_of(tokens[:-1]) is None:
         return None
     before = joined(tokens[:-1])
     return shown(

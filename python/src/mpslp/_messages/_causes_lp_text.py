@@ -14,6 +14,7 @@ from mpslp._messages._case import Case, Found
 from mpslp._messages._causes_both import Rule
 from mpslp._messages._causes_lp_parts import other_comment
 from mpslp._messages._causes_lp_relations import relation_in_words
+from mpslp._messages._causes_lp_words import TYPES_OF_MPS
 from mpslp._messages._lp_edits import instead_of, is_term, is_used, line_without, near, span
 from mpslp._messages._lp_suspects import is_column, is_glued, is_word, mark_of_text, on_lines, shown, suspects, text_of
 from mpslp._messages._lp_sums import Term, decimal_text, terms_of, value_of
@@ -61,6 +62,8 @@ def _may_end(line: Sequence[Token]) -> bool:
 
 
 def _is_free(case: Case, tokens: Sequence[Token], is_line: bool) -> bool:
+    if is_line and any(each.word in TYPES_OF_MPS for each in tokens[:1]):
+        return False
     lead = _lead(tokens)
     if len(lead) == len(tokens):
         return is_line and len("".join(each.text for each in tokens)) >= _FEWEST_MARKS
