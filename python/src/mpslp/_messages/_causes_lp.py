@@ -134,9 +134,12 @@ def nan_on_the_right(case: Case) -> Found | None:
 def lone_word_on_the_right(case: Case) -> Found | None:
     """After a relation a word that is a column nowhere else, and nothing more in the line."""
     token = case.token
-    if token is None or not token.is_name or token.is_section or not _follows_relation(case) or _has_more(case, token):
+    if token is None or not token.is_name or token.is_section or not _follows_relation(case):
         return None
-    return Found(means_other=True) if _has_lone_name(case, [token]) else None
+    rest = [each for each in case.tokens[case.token_at :] if each.line == token.line]
+    if not all(is_word(each) and _has_lone_name(case, [each]) for each in rest):
+        return None
+    return shown(case, rest)._replace(means_other=True)
 
 
 def _has_lone_name(case: Case, tokens: Sequence[Token]) -> bool:

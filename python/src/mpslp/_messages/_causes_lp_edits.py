@@ -63,11 +63,24 @@ def repeated(case: Case) -> Found | None:
 def word_left_over(case: Case) -> Found | None:
     """A word near the error that is nowhere else, and without which the text gets further."""
     trial = Trial(case)
-    for token in reversed(near(case)):
-        if not is_word(token) or is_used(case, token.text) or not trial.passes(instead_of(case, (token,))):
-            continue
-        return shown(case, (token,), mend=line_without(case, (token,)))._replace(means_other=True)
+    for words in _new_words(case):
+        if trial.passes(instead_of(case, words)):
+            return shown(case, words, mend=line_without(case, words))._replace(means_other=True)
     return None
+
+
+def _new_words(case: Case) -> Iterator[Sequence[Token]]:
+    """Words near the error that are nowhere else, each with those before it that are, too."""
+    tokens = near(case)
+    for end in range(len(tokens), 0, -1):
+        for start in range(end - 1, -1, -1):
+            if (
+                not is_word(tokens[start])
+                or tokens[start].line != tokens[end - 1].line
+                or is_used(case, tokens[start].text)
+            ):
+                break
+            yield tokens[start:end]
 
 
 @on_lines

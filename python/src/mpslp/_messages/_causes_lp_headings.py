@@ -9,6 +9,7 @@ from __future__ import annotations
 
 import re
 from collections.abc import Iterator, Sequence
+from difflib import SequenceMatcher
 
 from mpslp._messages._case import FOUND, Case, Found
 from mpslp._messages._causes_both import Rule
@@ -26,6 +27,8 @@ from mpslp._text._lp_words import FURTHER_TOKENS, ROWS_IN_TWO_WORDS, SENSES
 _MOST_BACK = 12
 """So many lines before the error may be the heading that it comes from."""
 _MOST_WORDS = 4
+_NEAR = 0.75
+"""How near a misspelt keyword is, on the scale of difflib."""
 _MOST_LOOKED_AT = 2**18
 _MOST_READ = 2**22
 _KEYWORDS = {
@@ -111,7 +114,7 @@ _NEXT_KEYWORD = re.compile(
     rb"[ \t:]*\r?$"
 )
 _NEAR_END = frozenset(
-    "edn ned endd eend ennd enf emd wnd rnd enc en nd e.n.d. ende enddata endmodel endfile endlp end-file eof fin finish "
+    "finished edn ned endd eend ennd enf emd wnd rnd enc en nd e.n.d. ende enddata endmodel endfile endlp end-file eof fin finish "
     "exit quit endata stop done end_file endprob ends ended".split()
 )
 
@@ -132,7 +135,8 @@ class _Heading:
         if self.words in _MEANT:
             return _MEANT[self.words]
         near = nearest(self.words, _KEYWORDS) or nearest(self.words, _MEANT)
-        return None if near is None else _MEANT[near]
+        is_near = near is not None and SequenceMatcher(None, near, self.words).ratio() >= _NEAR
+        return _MEANT[near] if near is not None and is_near else None
 
 
 def _headings(case: Case) -> Iterator[_Heading]:
@@ -209,7 +213,7 @@ def other_keyword(case: Case) -> Found | None:
     trial = Trial(case)
     for heading in _headings(case):
         meant = heading.meant
-        if meant is None and not lp_section(case) and not has_rows(case):
+        if heading.words not in _MEANT and not lp_section(case) and case.token_at and not has_rows(case):
             meant = "subject to"
         if (
             meant is None

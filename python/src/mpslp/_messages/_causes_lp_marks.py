@@ -53,7 +53,9 @@ def label_of_words(case: Case) -> Found | None:
     label = line[:colon]
     if len(label) < 2 or any(each.is_relation or each.text in "[]" for each in label) or not label[0].is_name:
         return None
-    if all(each.is_name or each.is_number for each in label) or all(is_glued(*pair) for pair in zip(label, label[1:])):
+    if (len(label) == 2 and (label[1].is_name or label[1].is_number)) or all(
+        is_glued(*pair) for pair in zip(label, label[1:])
+    ):
         return None
     text = "_".join(word for each in label if (word := _NO_LETTER.sub("", each.text)))
     if not text[:1].isalpha() or lp_section(case) == "list" or not Trial(case).passes(instead_of(case, label, text)):
@@ -163,7 +165,8 @@ def mark_before_row(case: Case) -> Found | None:
     text = "".join(each.text for each in line[:2])
     is_number = len(line) > 2 and line[0].text.isdigit() and line[1].is_name and line[2].text == ":"
     is_mark = is_number or (bool(line) and line[0].text in _LIST_MARKS)
-    count = 2 if _NUMBER_MARK.fullmatch(text) else 1 if is_mark else 0
+    is_bracket = [each.text for each in line[:3:2]] == ["[", "]"] and line[1].is_number
+    count = 3 if is_bracket else 2 if _NUMBER_MARK.fullmatch(text) else 1 if is_mark else 0
     if (
         not 0 < count < len(line)
         or (is_number and is_glued(*line[:2]))

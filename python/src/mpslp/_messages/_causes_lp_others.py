@@ -20,6 +20,8 @@ def solver_output(case: Case) -> Found | None:
 
 
 _LANGUAGES = {
+    "GAMS": (rb"^[ \t]*(?:(?:free|positive|binary|integer)[ \t]+)?variables?\b[^;]*;|\s=[leg]=\s", rb";"),
+    "Mosel": (rb"\A\s*(?:![^\n]*\n\s*)*model\s+\S+\s+(?:uses|options|declarations)\b", b""),
     "LINGO": (
         rb"^[ \t]*model[ \t]*:|^[ \t]*\[?\w*\]?[ \t]*(?:min|max)[ \t]*=[^;]*;|@(?:gin|bin|free|for|sum|bnd)[ \t]*\(",
         rb";",
@@ -51,7 +53,7 @@ def other_language(case: Case) -> Found | None:
 
 
 _LP_SOLVE = re.compile(
-    rb"(?im)^[ \t]*(?:(?:min|max)(?:imi[sz]e|imum)?[ \t]*:[^;]*;|(?:int|sec|sin|free|declare|bin)[ \t]+[\w, \t\n]+;)"
+    rb"(?im)^[ \t]*(?:(?:min|max)(?:imi[sz]e|imum)?[ \t]*:[^;]*;|(?:int|sec|sin|free|declare|bin)[ \t]+(?!variables?\b)[\w, \t\n]+;)"
 )
 
 
@@ -65,4 +67,4 @@ def lp_solve_statements(case: Case) -> Found | None:
     return Found(marks=(case.mark_at(start, start + len(first)),), moves=True, means_other=True)
 
 
-RULES: tuple[Rule, ...] = (solver_output, lp_solve_statements, other_language)
+RULES: tuple[Rule, ...] = (solver_output, other_language, lp_solve_statements)

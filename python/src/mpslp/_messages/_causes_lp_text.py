@@ -29,7 +29,7 @@ _BEFORE_TEXT = (FREE, *SENSES, "to", "that")
 _WORD = re.compile(r"[A-Za-z]{2}")
 _WORDS = re.compile(r"[\"'(\[{]*[A-Za-z][A-Za-z'-]+[\"')\]}.,:;!?]*")
 _MARKS = re.compile(r"[^\w\s]+")
-_DATE = re.compile(r"(?<![\w.])(?:\d{1,2}:\d\d(?::\d\d)?|\d{4}-\d\d-\d\d|\d{1,2}([./])\d{1,2}\1\d{2,4})(?![\w.])")
+_DATE = re.compile(r"(?<=[<>=])\s*(?:\d{1,2}:\d\d(?::\d\d)?|\d{4}-\d\d-\d\d|\d{1,2}([./])\d{1,2}\1\d{2,4})(?![\w.])")
 _PLACEHOLDER = re.compile(
     r"[<>=]\s*[-+]?\s*(<[\w .-]+>|\{\{?[\w .:-]*\}?\}|%[\d.]*[dfgsx]\b|%\w+%|\$\{?[A-Za-z_]\w*\}?|#[A-Z]\w*[!?/]*\w*|\?+|\.\.\.+|"
     r"_+|[xX]{2,}|\[[a-z ]+\]|\*+)(?!\w)\s*$"
@@ -75,11 +75,16 @@ def _is_free(case: Case, tokens: Sequence[Token], is_line: bool) -> bool:
     has_mark = len("".join(each.text for each in lead)) > 1 or (bool(lead) and not lead[0].is_sign)
     if has_mark:
         return not any(each.is_relation for each in rest[:-1]) or lead[0].text[0] in "#!%/;<"
-    if any(each.is_relation or each.is_sign for each in rest):
+    if any(each.is_relation or (each.is_sign and not _is_hyphen(rest, at)) for at, each in enumerate(rest)):
         return False
     has_pair = any(first.is_name and second.is_name for first, second in zip(rest, rest[1:]))
     is_known = any(is_word(each) and is_term(case, each.text) for each in rest) and len(new) == 1
     return has_pair and not (is_line and is_known)
+
+
+def _is_hyphen(tokens: Sequence[Token], at: int) -> bool:
+    """Whether a sign is beside both of its words."""
+    return 0 < at < len(tokens) - 1 and is_glued(*tokens[at - 1 : at + 1]) and is_glued(*tokens[at : at + 2])
 
 
 def _lead(tokens: Sequence[Token]) -> Sequence[Token]:
@@ -127,7 +132,7 @@ def date_or_time(case: Case, line: Sequence[Token]) -> Found | None:
     return (
         None
         if match is None
-        else Found(f"{match[0]} is one", marks=(mark_of_text(case, line, *match.span()),), moves=True)
+        else Found(f"{match[0].strip()} is one", marks=(mark_of_text(case, line, *match.span()),), moves=True)
     )
 
 
@@ -148,7 +153,7 @@ def parentheses_in_sum(case: Case, line: Sequence[Token]) -> Found | None:
     if depth > 0 or last == first:
         return None
     before = line[first].text.partition("(")[0]
-    names = [each.text.strip("()") for each in line[first : last + 1] if is_word(each)]
+    names = [each.text.strip("()") for each in line[first : last + 1] if each.text.strip("()")[:1].isalpha()]
     if (before and before.lower() not in SENSES) or not all(is_used(case, name) for name in names if name):
         return None
     return shown(case, line[first : last + 1], mend=_multiplied(case, line, first, last))._replace(means_other=True)

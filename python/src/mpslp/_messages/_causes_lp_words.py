@@ -118,7 +118,14 @@ def word_between_terms(case: Case) -> Found | None:
     if lp_section(case) not in ("", "rows"):
         return None
     for first, word, second in zip(near, near[1:], near[2:]):
-        if not (is_word(first) and is_word(word) and (is_word(second) or second.is_number)) or not word.text.isalpha():
+        if (
+            not (
+                is_word(first)
+                and is_word(word)
+                and ((is_word(second) and _is_used(case, second.text, second.line)) or second.is_number)
+            )
+            or not word.text.isalpha()
+        ):
             continue
         if _is_used(case, first.text, first.line) and not _is_used(case, word.text, word.line):
             return shown(case, (word,))._replace(means_other=True)
