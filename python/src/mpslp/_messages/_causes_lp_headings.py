@@ -336,7 +336,7 @@ def no_sense(case: Case) -> Found | None:
 def _sense_before(case: Case, number: int, lines: int) -> Found:
     """What is said of a text whose sense is missing before a line, after lines that are a title."""
     if not lines:
-        return Found(mend=f"Minimize or Maximize before line {number}", means_other=True)
+        return Found(means_other=True)
     title = " ".join(case.line.content.decode("latin-1").split())
     return Found(
         f"{title} is no part of the model: start it with \\",

@@ -87,7 +87,12 @@ def relation_in_objective(case: Case) -> Found | None:
     line = [each for each in case.tokens if each.line == token.line]
     at = line.index(token)
     first = line[1:] if line[0].word in SENSES else line
-    if at == len(line) - len(first) + 1 and first[0].is_name and len(line) > at + 1 and line[at - 1].text != ":":
+    if (
+        at == len(line) - len(first) + 1
+        and first[0].is_name
+        and any(is_word(each) for each in line[at + 1 :])
+        and line[at - 1].text != ":"
+    ):
         if Trial(case).passes(instead_of(case, (token,), ":")):
             return shown(case, (first[0], token), mend=f"{first[0].text}:")
     if first[0] is token and Trial(case).passes(instead_of(case, (token,))):

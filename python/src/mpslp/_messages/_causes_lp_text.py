@@ -68,7 +68,7 @@ def _is_free(case: Case, tokens: Sequence[Token], is_line: bool) -> bool:
     if len(lead) == len(tokens):
         return is_line and len("".join(each.text for each in tokens)) >= _FEWEST_MARKS
     rest = tokens[len(lead) :]
-    words = [each for each in rest if _WORDS.fullmatch(each.text)]
+    words = [each for each in rest if is_word(each) and _WORDS.fullmatch(each.text)]
     new = [each for each in words if not is_column(case, each.text) or not is_term(case, each.text)]
     if not new or any(each.is_section for each in rest[:1]):
         return False
