@@ -2,52 +2,14 @@
 
 from __future__ import annotations
 
-import re
 from collections.abc import Iterator, Sequence
 
 from mpslp._messages._case import Case, Found
 from mpslp._messages._causes_both import Rule
-from mpslp._messages._lp_edits import instead_of, is_used, line_without, near, span
-from mpslp._messages._lp_suspects import is_glued, is_word, on_lines, section_of, shown
+from mpslp._messages._lp_edits import instead_of, is_used, line_without, near
+from mpslp._messages._lp_suspects import is_word, on_lines, section_of, shown
 from mpslp._messages._lp_trials import Trial
 from mpslp._messages._tokens import Token
-
-_MARK = re.compile(r"[^\w\s]+")
-
-
-def mark_left_over(case: Case) -> Found | None:
-    """A mark near the error without which the text gets further."""
-    trial = Trial(case)
-    for tokens in _marks_near(case):
-        if _joins_numbers(case, tokens):
-            continue
-        edit = instead_of(case, tokens)
-        if trial.passes(edit):
-            return shown(case, tokens, mend=line_without(case, tokens))._replace(means_other=True)
-    return None
-
-
-def _joins_numbers(case: Case, tokens: Sequence[Token]) -> bool:
-    """Whether the marks are between digits."""
-    start, end = span(case, tokens[0], tokens[-1])
-    return case.content[start - 1 : start].isdigit() and case.content[end : end + 1].isdigit()
-
-
-def _marks_near(case: Case) -> Iterator[Sequence[Token]]:
-    """Marks beside each other, which are no signs or relations, the last first."""
-    tokens = near(case)
-    end = len(tokens)
-    while end:
-        start = end
-        while start and _is_mark(tokens[start - 1]) and (start == end or is_glued(tokens[start - 1], tokens[start])):
-            start -= 1
-        if start < end:
-            yield tokens[start:end]
-        end = min(start, end - 1)
-
-
-def _is_mark(token: Token) -> bool:
-    return _MARK.fullmatch(token.text) is not None and not token.is_sign and not token.is_relation
 
 
 def repeated(case: Case) -> Found | None:
@@ -93,4 +55,4 @@ def word_in_bounds(case: Case, line: Sequence[Token]) -> Found | None:
     return shown(case, line[1:], detail)._replace(means_other=True)
 
 
-RULES: tuple[Rule, ...] = (word_in_bounds, repeated, mark_left_over, word_left_over)
+RULES: tuple[Rule, ...] = (word_in_bounds, repeated, word_left_over)

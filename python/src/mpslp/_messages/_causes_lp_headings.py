@@ -95,6 +95,8 @@ _SENSE = re.compile(rb"(?im)^[ \t]*(?:min|max)(?:imi[sz]e|imum)?\b[ \t]*(?![ \t\
 _ANY_SENSE = re.compile(rb"(?im)^[^\\\n]*?(?<![\w./])(?:min|max)(?:imi[sz]e|imum)?(?![\w./])")
 _MOST_SKIPPED = 600
 _MOST_READ_AGAIN = 2**20
+_OF_ADAPT = ("minimize", "maximize")
+"""Keywords whose other spellings adapt does not take for columns."""
 _NO_SENSE = (
     "optimize",
     "optimise",
@@ -152,7 +154,7 @@ def _headings(case: Case) -> Iterator[_Heading]:
         is_keyword = line[0].is_section or line[0].word in SENSES
         if _is_like_heading(line):
             yield _Heading(case, line)
-        elif not start and line[0].is_name:
+        if not start and len(line) > 1 and line[0].is_name:
             yield _Heading(case, line[:1])
         if is_keyword:
             return
@@ -223,7 +225,7 @@ def other_keyword(case: Case) -> Found | None:
         ):
             continue
         if trial.passes(Edit(heading.start, heading.end, meant.encode())):
-            return shown(case, heading.tokens, mend=meant)._replace(means_other=True)
+            return shown(case, heading.tokens, mend=meant)._replace(means_other=meant not in _OF_ADAPT)
     return None
 
 
