@@ -223,7 +223,7 @@ def _type_in(case: Case, line: Sequence[Token]) -> Found | None:
     has_colon = len(line) == 3 and line[1].text == ":"
     if len(names) != 1 or (len(line) > 2 and not has_colon and not any(each.is_relation for each in line)):
         return None
-    rest = "" if len(line) == 2 or has_colon else joined(line[:-1])
+    rest = joined(line[:-1]) if line[-2].is_number else ""
     return shown(case, line, f"{names[0].text} belongs under {_TYPES[line[-1].word]}", rest)
 
 

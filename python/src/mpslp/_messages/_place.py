@@ -28,6 +28,8 @@ _MOST_READ_AGAIN = 2**24
 _PART = 2**12
 """Of a long line, two parts of so many bytes are cut into tokens: the one with the error, and the one before it."""
 _MOST_WHOLE = 2**17
+_MOST_OF_LP = 2**20
+"""An LP text of more bytes than the first is read again in part, if that has the same error, and else up to the second."""
 _MOST_BEFORE = 2**16
 """Of a larger LP text, so many bytes before the line are read again, if they have the same error."""
 _PACKED = {
@@ -191,7 +193,7 @@ class _Finder:
             before = self._last_part(content, start)
             if before is not None and self._is_error_of(before, self._line.content):
                 return before
-        if start > (_MOST_READ_AGAIN if self._text.format == _mpslp.MPS else _MOST_READ_AGAIN // 16):
+        if start > (_MOST_READ_AGAIN if self._text.format == _mpslp.MPS else _MOST_OF_LP):
             raise _TooLarge
         return content[:start]
 
