@@ -20,8 +20,37 @@ _FEWEST = 4
 """So many lines have to have the same mark."""
 _SHARE = 0.9
 _NUMBERED = re.compile(rb"[ \t]*(\d+)[ \t]*[:.)|]?(?:[ \t]+|$)")
-_PREFIXES = (rb"[ \t]*>+[ \t]?", rb"\+", rb"-(?!-)", rb"[ \t]*\|[ \t]?", rb"[ \t]*\$[ \t]", rb"[ \t]*\*[ \t]", rb"[ \t]*//+[ \t]?", rb"[ \t]*#+[ \t]?", rb"[ \t]*%[ \t]?", rb"[ \t]*;[ \t]?", rb"[ \t]*&[ \t]?", rb"[ \t]*@[ \t]?", rb"(?:\w+[ \t]?)?>>>?[ \t]?", rb"[ \t]*!+[ \t]?", rb"[ \t]*~[ \t]?", rb"[ \t]*['\"`]", rb"[ \t]*\[\d+\][ \t]?", rb"[ \t]*<(?:p|li|td|code)>")  # fmt: skip
-_SUFFIXES = (rb"[ \t]*\\n['\"]?[+,]?[ \t]*", rb"[ \t]*,{2,}[ \t]*", rb"[ \t]*;+[ \t]*", rb"[ \t]*\|[ \t]*", rb"[ \t]*,[ \t]*", rb"[ \t]*<br[ /]*>", rb"['\"`],?[ \t]*", rb"[ \t]*\$+[ \t]*", rb"[ \t]*</(?:p|li|td|code)>")  # fmt: skip
+_PREFIXES = (
+    rb"[ \t]*>+[ \t]?",
+    rb"\+",
+    rb"-(?!-)",
+    rb"[ \t]*\|[ \t]?",
+    rb"[ \t]*\$[ \t]",
+    rb"[ \t]*\*[ \t]",
+    rb"[ \t]*//+[ \t]?",
+    rb"[ \t]*#+[ \t]?",
+    rb"[ \t]*%[ \t]?",
+    rb"[ \t]*;[ \t]?",
+    rb"[ \t]*&[ \t]?",
+    rb"[ \t]*@[ \t]?",
+    rb"(?:\w+[ \t]?)?>>>?[ \t]?",
+    rb"[ \t]*!+[ \t]?",
+    rb"[ \t]*~[ \t]?",
+    rb"[ \t]*['\"`]",
+    rb"[ \t]*\[\d+\][ \t]?",
+    rb"[ \t]*<(?:p|li|td|code)>",
+)
+_SUFFIXES = (
+    rb"[ \t]*\\n['\"]?[+,]?[ \t]*",
+    rb"[ \t]*,{2,}[ \t]*",
+    rb"[ \t]*;+[ \t]*",
+    rb"[ \t]*\|[ \t]*",
+    rb"[ \t]*,[ \t]*",
+    rb"[ \t]*<br[ /]*>",
+    rb"['\"`],?[ \t]*",
+    rb"[ \t]*\$+[ \t]*",
+    rb"[ \t]*</(?:p|li|td|code)>",
+)
 _DIFF = re.compile(rb"(?:diff |Index: |--- \S+[^\n]*\n\+\+\+ |\+\+\+ \S|@@ -\d)")
 _FENCE = re.compile(rb"\s*(```+|~~~+)[ \t]*\w*[ \t]*\r?\n")
 

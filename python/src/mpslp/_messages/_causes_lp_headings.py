@@ -32,10 +32,12 @@ _NEAR = 0.75
 _MOST_LOOKED_AT = 2**18
 _MOST_READ = 2**22
 _KEYWORDS = {
-    "minimize": "minimise minimization minimisation minimizing minimising minimum minimization: minim mini minimizar min.",
+    "minimize": "minimise minimization minimisation minimizing minimising minimum minimization: minim "
+    "mini minimizar min.",
     "maximize": "maximise maximization maximisation maximizing maximising maximum maxim maxi maximizar max.",
     "subject to": "constraints constraint subjectto subj subject subj.to subj_to subject_to subject-to such-that s.t "
-    "s.t.c where with under restrictions restriction conditions condition equations rows relations requirements suchthat",
+    "s.t.c where with under restrictions restriction conditions condition equations rows "
+    "relations requirements suchthat",
     "such that": "",
     "bounds": "limits limit boundaries boundary bnds bnd domains domain box",
     "generals": "integral integrals gens discrete discretes whole generalintegers",
@@ -51,10 +53,12 @@ _PHRASES = {
     "bounds": "variable bounds|bounds on variables|variable limits|upper bounds|lower bounds|column bounds|"
     "bounds for variables|simple bounds|limits on variables|variable domains|bound section|bounds section",
     "generals": "general integers|general integer|general variables|general vars|generals integers",
-    "integers": "integer variables|integer vars|integers variables|int vars|int variables|integer columns|whole numbers",
+    "integers": "integer variables|integer vars|integers variables|int vars|int variables|integer "
+    "columns|whole numbers",
     "binaries": "binary variables|binary vars|binaries variables|boolean variables|bin vars|0 1 variables|zero one|"
     "binary integers|binary columns|bin variables",
-    "semi-continuous": "semi continuous|semi continuous variables|semi-continuous variables|semi cont|semicontinuous variables",
+    "semi-continuous": "semi continuous|semi continuous variables|semi-continuous variables|semi cont|"
+    "semicontinuous variables",
     "end": "end file|end of file|end model|end of model|end of the model|the end|end lp|end of lp|end problem",
 }
 _MEANT = {
@@ -63,7 +67,8 @@ _MEANT = {
 }
 _LAZY = frozenset(
     "lazy|lazy constraints|lazy constraint|lazy rows|lazy cons|lazyconstraints|lazyconstraint|lazyrows|lazycons|"
-    "delayed rows|delayed constraints|delayedrows|delayed cuts|model cuts|modelcuts|user cuts|user cut|usercuts|usercut|"
+    "delayed rows|delayed constraints|delayedrows|delayed cuts|model cuts|modelcuts|user "
+    "cuts|user cut|usercuts|usercut|"
     "cuts|cut constraints|lazy cuts|soft constraints".split("|")
 )
 _START = "values to start from are for a solver, and no part of a model"
@@ -112,11 +117,13 @@ _NO_SENSE = (
 """Words for an objective without a sense."""
 _PLAIN_END = re.compile(rb"(?im)^[ \t]*end[ \t]*(?:\\[^\n]*)?\r?$")
 _NEXT_KEYWORD = re.compile(
-    rb"(?im)^[ \t]*(?:subject[ \t]+to|such[ \t]+that|st|s\.t\.|bounds?|generals?|gen|integers?|int|binar(?:y|ies)|bin|semis?|semi-continuous|sos[12]?|end)"
+    rb"(?im)^[ \t]*(?:subject[ \t]+to|such[ \t]+that|st|s\.t\.|bounds?|generals?|gen|"
+    rb"integers?|int|binar(?:y|ies)|bin|semis?|semi-continuous|sos[12]?|end)"
     rb"[ \t:]*\r?$"
 )
 _NEAR_END = frozenset(
-    "finished edn ned endd eend ennd enf emd wnd rnd enc en nd e.n.d. ende enddata endmodel endfile endlp end-file eof fin finish "
+    "finished edn ned endd eend ennd enf emd wnd rnd enc en nd e.n.d. ende enddata "
+    "endmodel endfile endlp end-file eof fin finish "
     "exit quit endata stop done end_file endprob ends ended".split()
 )
 

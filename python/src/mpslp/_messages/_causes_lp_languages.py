@@ -29,7 +29,8 @@ _FUNCTION = re.compile(
 )
 _LOOP = re.compile(
     r"(?<![\w.])(?:(?:sum|prod|for|forall)\s*(?:\{|\([^()]*(?:\bin\b|\.\.|=))|(?:for|sum|prod)\s+\w+\s*(?:\bin\b|=)"
-    r"|forall\s+\w+|for\s+(?:all|each|every)\b|(?:sum|prod)\s*_|sum\s+over\b|(?:sum|prod)\s*\(\w+\)\s+[A-Za-z_]\w*)|\+\s*\.\.\.?\s*\+|\\sum\b|@(?:sum|for)\b"
+    r"|forall\s+\w+|for\s+(?:all|each|every)\b|(?:sum|prod)\s*_|sum\s+over\b|(?:sum|"
+    r"prod)\s*\(\w+\)\s+[A-Za-z_]\w*)|\+\s*\.\.\.?\s*\+|\\sum\b|@(?:sum|for)\b"
     r"|\bsum\s*\(\s*\w+:\w+\s*\)|,\s*(?:for\s+)?[a-z]\s*(?:=|in\b)\s*\d+\s*(?:,|\.\.|to\b)",
     re.IGNORECASE,
 )
@@ -46,7 +47,8 @@ _BETWEEN = re.compile(
     re.IGNORECASE,
 )
 _SIDE_BY_SIDE = re.compile(
-    rf"\s*(?P<name>[A-Za-z_][\w.]*)\s*(?:[:=]\s*)?(?<![\w.])(?P<lower>{_NUMBER})\s*(?:,|;|to\b|\s)\s*(?P<upper>{_NUMBER})\s*$"
+    rf"\s*(?P<name>[A-Za-z_][\w.]*)\s*(?:[:=]\s*)?(?<![\w.])(?P<lower>{_NUMBER})\s*(?:,|;|"
+    rf"to\b|\s)\s*(?P<upper>{_NUMBER})\s*$"
 )
 _TO = re.compile(rf"\s*(?P<lower>{_NUMBER})\s*(?:to|-|\.\.+)\s*(?P<upper>{_NUMBER})\s+(?P<name>[A-Za-z_][\w.]*)\s*$")
 _DASH = re.compile(

@@ -9,7 +9,8 @@ from mpslp._messages._causes_both import Rule
 
 _HEAD = 4_000
 _OUTPUT = re.compile(
-    rb"(?i)\s*(?:Model status\s|Problem:[^\n]*\n(?:Rows|Rows:)|#\s*=+\s*\n#\s*=\s*Solver Results|Value of objective function|"
+    rb"(?i)\s*(?:Model status\s|Problem:[^\n]*\n(?:Rows|Rows:)|#\s*=+\s*\n#\s*=\s*Solver "
+    rb"Results|Value of objective function|"
     rb"Actual values of the|Problem name[ \t]*:|Variable Name\s+Solution Value|<\?xml[^>]*>\s*<CPLEXSolution)"
 )
 
@@ -53,7 +54,8 @@ def other_language(case: Case) -> Found | None:
 
 
 _LP_SOLVE = re.compile(
-    rb"(?im)^[ \t]*(?:(?:min|max)(?:imi[sz]e|imum)?[ \t]*:[^;]*;|(?:int|sec|sin|free|declare|bin)[ \t]+(?!variables?\b)[\w, \t\n]+;)"
+    rb"(?im)^[ \t]*(?:(?:min|max)(?:imi[sz]e|imum)?[ \t]*:[^;]*;|(?:int|sec|sin|free|"
+    rb"declare|bin)[ \t]+(?!variables?\b)[\w, \t\n]+;)"
 )
 
 

@@ -1,4 +1,4 @@
-"""Rules for LP: text that is not a comment, parentheses, names with a space or with a digit first, words that are glued,
+"""Rules for LP: text that is not a comment, parentheses, names with a space or with a digit first, glued words,
 placeholders.
 
 Where a rule says what to write, the text with it gets past the error.
@@ -31,7 +31,8 @@ _WORDS = re.compile(r"[\"'(\[{]*[A-Za-z][A-Za-z'-]+[\"')\]}.,:;!?]*")
 _MARKS = re.compile(r"[^\w\s]+")
 _DATE = re.compile(r"(?<=[<>=])\s*(?:\d{1,2}:\d\d(?::\d\d)?|\d{4}-\d\d-\d\d|\d{1,2}([./])\d{1,2}\1\d{2,4})(?![\w.])")
 _PLACEHOLDER = re.compile(
-    r"[<>=]\s*[-+]?\s*(<[\w .-]+>|\{\{?[\w .:-]*\}?\}|%[\d.]*[dfgsx]\b|%\w+%|\$\{?[A-Za-z_]\w*\}?|#[A-Z]\w*[!?/]*\w*|\?+|\.\.\.+|"
+    r"[<>=]\s*[-+]?\s*(<[\w .-]+>|\{\{?[\w .:-]*\}?\}|%[\d.]*[dfgsx]\b|%\w+%|"
+    r"\$\{?[A-Za-z_]\w*\}?|#[A-Z]\w*[!?/]*\w*|\?+|\.\.\.+|"
     r"_+|[xX]{2,}|\[[a-z ]+\]|\*+)(?!\w)\s*$"
 )
 
@@ -40,8 +41,8 @@ _PLACEHOLDER = re.compile(
 
 
 def free_text(case: Case) -> Found | None:
-    """A line, or the end of one, that is no part of the model: words that are side by side, or that follow a mark, and a
-    line of marks. Without it the text gets further.
+    """A line, or the end of one, that is no part of the model: words that are side by side, or that follow a mark, and
+    lines of marks. Without it the text gets further.
     """
     if relation_in_words(case) is not None or other_comment(case) is not None:
         return None

@@ -29,7 +29,8 @@ _PART = 2**12
 """Of a long line, two parts of so many bytes are cut into tokens: the one with the error, and the one before it."""
 _MOST_WHOLE = 2**17
 _MOST_OF_LP = 2**20
-"""An LP text of more bytes than the first is read again in part, if that has the same error, and else up to the second."""
+"""An LP text of more bytes than the first is read again in part, if that has the "
+"same error, and else up to the second."""
 _MOST_BEFORE = 2**16
 """Of a larger LP text, so many bytes before the line are read again, if they have the same error."""
 _PACKED = {
