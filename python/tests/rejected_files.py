@@ -372,7 +372,6 @@ FAMILIES = {
             "c: x <= 4 and y <= 5",
             "c: x + y <= 4, x >= 1",
             "c: x <= 4 & y <= 3",
-            "c: x >= 0 for all x",
             "c: x <= 4 or y <= 5",
         ),
         *bounds("x >= 0 and y >= 0"),
@@ -380,7 +379,7 @@ FAMILIES = {
     "punctuation-after-row": rows(
         "c: x <= 1;", "c: x <= 1;\nd: y <= 2;", "c: x <= 1,\nd: y <= 2", "c: x <= 1 ;\nd: y <= 3"
     ),
-    "line-of-text": [
+    "free-text": [
         *heads("This is my model"),
         *rows(
             "capacity of the plant\nc: x <= 4", "The limits\nc: x <= 4", "c: x <= 4\nsee the mail of Monday\nd: y <= 3"

@@ -89,12 +89,13 @@ m: MissingEnd
 
     def test_a_cause_that_no_rule_recognises(self):
         self.assertEqual(
-            str(about("min x + y\nst\nd: x + y <= 9\nbounds\nx free free\nend\n", "lp")),
+            str(about("min x + y\nst\nd: x + y <= 9\ngenerals 4\nx\nend\n", "lp")),
             """\
-m:5: BadToken: free
-  5 | x free free
-    |        ^^^^
-  cause: a word or a mark that does not fit; after free comes a number, a column, a sign or end
+m:4: BadToken: 4
+  4 | generals 4
+    |          ^
+  cause: a word or a mark that does not fit; the number 4 in a list of columns, where a column, bounds or end may come \
+after generals
   fix: correct it; mpslp-tools explain BadToken lists the usual causes""",
         )
 
@@ -306,7 +307,7 @@ class Parts(unittest.TestCase):
 
     def test_a_large_lp_text_is_read_in_part(self):
         """The token is found among the last rows or bounds; what is before them is not read again."""
-        with mock.patch.object(_place, "_MOST_READ_AGAIN", 100), mock.patch.object(_place, "_MOST_BEFORE", 60):
+        with mock.patch.multiple(_place, _MOST_WHOLE=100, _MOST_OF_LP=100, _MOST_BEFORE=60):
             rows = "".join(f"row{number}: x + y <= {number}\n" for number in range(30))
             for tail, words in (
                 ("bad: x y <= 1\nend\n", "y"),

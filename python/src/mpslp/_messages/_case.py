@@ -13,11 +13,13 @@ from mpslp._files._sources import Text
 from mpslp._messages._excerpt import Mark
 from mpslp._messages._nearest import Known
 from mpslp._messages._place import Field, Place, fields_of, place_of, section_before
-from mpslp._messages._tokens import Token, tokens_of
+from mpslp._messages._tokens import Token, place_between, tokens_of
 from mpslp._text._lines import Line, line_at, line_with
 
 _MOST_BACK = 2**16
 """A statement of LP is looked for among so many bytes before the line."""
+_MOST_OF_LINE = 2**15
+_MOST_AFTER = 2**10
 
 
 class Found(NamedTuple):
@@ -143,10 +145,29 @@ class Case:
         """The tokens from some lines before the line up to it, as far as they are needed to see the
         statement before.
         """
+        if self.is_long_line:
+            return tokens_of(self.content, self.line.number, *self.part_of_line, self.line.start)
         first = max(0, self.line.start - _MOST_BACK)
         start = 0 if first == 0 else self.content.find(b"\n", first, self.line.start) + 1 or self.line.start
         number = self.line.number - self.content.count(b"\n", start, self.line.start)
         return tokens_of(self.content, number, start, self.line.start + len(self.line.content))
+
+    @property
+    def is_long_line(self) -> bool:
+        """Whether only a part of the line is looked at."""
+        return self.error.line is not None and len(self.line.content) > _MOST_OF_LINE
+
+    @cached_property
+    def part_of_line(self) -> tuple[int, int]:
+        """The places in the text of the part of a long line that is looked at: some of it before the error, and some
+        after it.
+        """
+        place = self.place.start if self.place is not None else 0
+        start = (
+            place_between(self.line.content, max(place - _MOST_OF_LINE // 2, 0)) if place > _MOST_OF_LINE // 2 else 0
+        )
+        end = place_between(self.line.content, place + _MOST_AFTER)
+        return self.line.start + start, self.line.start + end
 
     @cached_property
     def token_at(self) -> int:

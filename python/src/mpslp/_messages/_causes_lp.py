@@ -12,66 +12,24 @@ from collections.abc import Sequence
 from fractions import Fraction
 
 from mpslp._messages._case import FOUND, Case, Found
-from mpslp._messages._causes_both import Rule, comma_in, conflict_marker, is_nan
-from mpslp._messages._causes_lp_relations import line_of_text
+from mpslp._messages._causes_both import Rule, comma_in, is_nan
+from mpslp._messages._causes_lp_marks import has_rows
+from mpslp._messages._causes_lp_text import text_after_statement
 from mpslp._messages._causes_lp_words import lone_mark
+from mpslp._messages._lp_edits import instead_of, is_used, span
 from mpslp._messages._lp_rows import first_duplicate
 from mpslp._messages._lp_sums import decimal_text, quotient_text, solved_row, sum_text, value_of
 from mpslp._messages._lp_suspects import is_word, lp_section, on_lines, section_of, shown
-from mpslp._messages._nearest import nearest
+from mpslp._messages._lp_trials import Edit, Trial
 from mpslp._messages._tokens import Token, tokens_of
 from mpslp._text._lines import line_at
 from mpslp._text._lp_words import INFINITIES, ROWS, ROWS_IN_TWO_WORDS, SENSES, SPELLINGS
 
 _MOST_BACK = 6
 """A comma, a semicolon or a comment that starts in another way is looked for among so many tokens before the error."""
-_KEYWORDS = (
-    "minimize",
-    "maximize",
-    "subject to",
-    "such that",
-    "bounds",
-    "generals",
-    "integers",
-    "binaries",
-    "semi-continuous",
-    "end",
-)
-_OTHER_KEYWORDS = {
-    "minimise": "minimize",
-    "minimization": "minimize",
-    "minimisation": "minimize",
-    "maximise": "maximize",
-    "maximization": "maximize",
-    "maximisation": "maximize",
-    "constraints": "subject to",
-    "subjectto": "subject to",
-    "subj": "subject to",
-    "s.t": "st",
-    "finish": "end",
-    "subj.": "subject to",
-    "where": "subject to",
-    "with": "subject to",
-    "under": "subject to",
-    "restrictions": "subject to",
-    "boolean": "binaries",
-    "booleans": "binaries",
-    "bool": "binaries",
-    "bools": "binaries",
-    "logical": "binaries",
-    "logicals": "binaries",
-    "integral": "generals",
-    "ints": "integers",
-    "gens": "generals",
-    "bins": "binaries",
-    "semicont": "semi-continuous",
-    "fin": "end",
-    "eof": "end",
-    "exit": "end",
-    "quit": "end",
-}
 _AFTER_KEYWORD = ("variables", "variable", "columns")
 _FLIPPED = {"<": ">", ">": "<", "<=": ">=", "=<": ">=", ">=": "<=", "=>": "<=", "=": "="}
+_TWO_LIMITS = re.compile(r"([^<>=]+) ([<>=]+) ((?:[-+] )?[\d.eE+-]+) ([<>=]+) ((?:[-+] )?[\d.eE+-]+)")
 _MARK = re.compile(r"[%$#&!?]+")
 _DIVISOR = re.compile(r"/(\d+(?:\.\d*)?)", re.ASCII)
 _BRACKETS = re.compile(r"([A-Za-z_][\w.]*)\s*((?:\[[^\[\]^*]*\])+)", re.ASCII)
@@ -79,14 +37,6 @@ _MOST_AFTER = 10_000
 
 
 # ---- keywords
-
-
-def no_sense(case: Case) -> Found | None:
-    return (
-        FOUND
-        if case.token_at == 0 and case.tokens and not case.content[: case.line.start].strip(b" \t\r\n\\")
-        else None
-    )
 
 
 def colon_after_keyword(case: Case) -> Found | None:
@@ -105,53 +55,14 @@ def colon_after_keyword(case: Case) -> Found | None:
     )
 
 
-def other_keyword(case: Case) -> Found | None:
-    """A word on a line of its own, or the first one of the file, that is nearly a keyword; or one half of a keyword."""
-    before, token = case.before(), case.token
-    if (
-        before is not None
-        and token is not None
-        and before.word in ROWS_IN_TWO_WORDS
-        and token.word != ROWS_IN_TWO_WORDS[before.word]
-    ):
-        return Found(mend=f"{before.text} {ROWS_IN_TWO_WORDS[before.word]}")
-    for at in (case.token_at, case.token_at - 1, case.token_at - 2):
-        if not 0 <= at < len(case.tokens) or not _is_like_keyword(case, at):
-            continue
-        token = case.tokens[at]
-        words = [each.word for each in case.tokens[at : at + 2]]
-        pair = " ".join(words) if words[1:] in (["to"], ["that"]) else token.word
-        meant = _OTHER_KEYWORDS.get(token.word) or nearest(token.word, _KEYWORDS) or nearest(pair, _KEYWORDS)
-        if meant is not None:
-            return Found(mend=meant, marks=(case.mark_of_tokens([token]),), moves=True)
-    return None
-
-
-def _is_like_keyword(case: Case, at: int) -> bool:
-    """Whether a token is a word that starts its line and, unless it starts the file, has the line for itself."""
-    token, other = case.tokens[at], case.tokens[at + 1] if at + 1 < len(case.tokens) else None
-    if not token.is_name or token.is_section or token.word in SENSES or not _starts_line(case, at):
-        return False
-    is_last = other is None or other.line > token.line
-    return is_last or at == 0 or (other is not None and other.word in ("to", "that", ":"))
-
-
 def _starts_line(case: Case, at: int) -> bool:
     return at == 0 or case.tokens[at - 1].line < case.tokens[at].line
-
-
-def lazy_constraints(case: Case) -> Found | None:
-    before, token = case.before(), case.token
-    is_section = (
-        before is not None and token is not None and f"{before.word} {token.word}" in ("lazy constraints", "user cuts")
-    )
-    return FOUND if is_section else None
 
 
 def no_subject_to(case: Case) -> Found | None:
     """A relation, or the label of a row, in the objective."""
     token = case.token
-    if token is None or lp_section(case) or not case.token_at:
+    if token is None or lp_section(case) or not case.token_at or has_rows(case):
         return None
     if token.is_relation or (token.text == ":" and case.token_at > 2):
         return FOUND
@@ -223,9 +134,12 @@ def nan_on_the_right(case: Case) -> Found | None:
 def lone_word_on_the_right(case: Case) -> Found | None:
     """After a relation a word that is a column nowhere else, and nothing more in the line."""
     token = case.token
-    if token is None or not token.is_name or token.is_section or not _follows_relation(case) or _has_more(case, token):
+    if token is None or not token.is_name or token.is_section or not _follows_relation(case):
         return None
-    return Found(means_other=True) if _has_lone_name(case, [token]) else None
+    rest = [each for each in case.tokens[case.token_at :] if each.line == token.line]
+    if not all(is_word(each) and _has_lone_name(case, [each]) for each in rest):
+        return None
+    return shown(case, rest)._replace(means_other=True)
 
 
 def _has_lone_name(case: Case, tokens: Sequence[Token]) -> bool:
@@ -302,12 +216,21 @@ def sum_on_the_right(case: Case) -> Found | None:
 def missing_number(case: Case) -> Found | None:
     """After a relation a section or the next row comes."""
     token = case.token
-    if token is None or not _follows_relation(case):
+    if token is None or not (_follows_relation(case) or _is_number_of_next(case)):
         return None
-    if not token.is_section and not _starts_row(case):
+    if not (token.is_section or _starts_row(case) or _is_number_of_next(case)):
         return None
-    mark = case.mark_of_tokens([each for each in case.tokens[: case.token_at] if each.is_relation][-1:])
+    relations = [each for each in case.tokens[: case.token_at] if each.is_relation]
+    mark = case.mark_of_tokens(relations[-1:])
     return Found(marks=(mark._replace(start=mark.end + 1, end=mark.end + 2),))
+
+
+def _is_number_of_next(case: Case) -> bool:
+    """Whether the error is a relation after a number at the start of its line, and a relation ends the line before."""
+    token, number, relation = case.token, case.before(), case.before(2)
+    if token is None or number is None or relation is None or not (token.is_relation and number.is_number):
+        return False
+    return relation.is_relation and relation.line < number.line == token.line
 
 
 def _starts_row(case: Case) -> bool:
@@ -327,7 +250,17 @@ def second_relation(case: Case) -> Found | None:
     if not before.is_number and before.word not in INFINITIES:
         return None
     first = next((each for each in reversed(case.tokens[: case.token_at - 1]) if not each.is_sign), None)
-    return FOUND if first is not None and first.is_relation else None
+    return Found(mend=_ordered(case)) if first is not None and first.is_relation else None
+
+
+def _ordered(case: Case) -> str:
+    """The line ``x >= 1 <= 4`` as ``1 <= x <= 4``; empty if it is not of this form."""
+    text = " ".join(each.text for each in case.tokens if each.line == case.line.number)
+    match = _TWO_LIMITS.fullmatch(text.rpartition(": ")[2])
+    if match is None or "=" in (match[2], match[4]) or match[2][0] == match[4][0]:
+        return ""
+    lower, upper = (match[3], match[5]) if match[2][0] == ">" else (match[5], match[3])
+    return f"{lower.replace(' ', '')} <= {match[1]} <= {upper.replace(' ', '')}"
 
 
 def terms_on_the_right(case: Case) -> Found | None:
@@ -440,7 +373,18 @@ def no_sign(case: Case) -> Found | None:
         return None
     if not (token.is_name or token.is_number) or token.is_section or lp_section(case) not in ("", "rows"):
         return None
+    if _is_stray(case, before) or _is_stray(case, token):
+        return None
+    place = span(case, token, token)[0]
+    if not Trial(case).passes(Edit(place, place, b"+ ")):
+        return None
     return Found(mend=f"{before.text} + {token.text}")
+
+
+def _is_stray(case: Case, token: Token) -> bool:
+    """Whether a token is a word that is nowhere else, and without which the text gets further."""
+    is_new = token.text.isalpha() and len(token.text) > 2 and not is_used(case, token.text)
+    return is_new and Trial(case).passes(instead_of(case, (token,)))
 
 
 def space_in_label(case: Case) -> Found | None:
@@ -448,8 +392,18 @@ def space_in_label(case: Case) -> Found | None:
     for at in (case.token_at - 1, case.token_at):
         words = case.tokens[at : at + 2] if at >= 0 else []
         if len(words) == 2 and _is_label_of_two(case, at, words):
-            return Found(mend=f"{words[0].text}_{words[1].text}", marks=(case.mark_of_tokens(words),), moves=True)
+            mend = f"{words[0].text}_{words[1].text}"
+            return Found(mend=_label_of_first(case, words) or mend, marks=(case.mark_of_tokens(words),), moves=True)
     return None
+
+
+def _label_of_first(case: Case, words: Sequence[Token]) -> str:
+    """The first word as a label, if the second one is a column that the colon should come before."""
+    if not is_word(words[1]) or not is_used(case, words[1].text) or is_used(case, words[0].text):
+        return ""
+    colon = case.tokens[case.tokens.index(words[1]) + 1]
+    edit = instead_of(case, (words[1], colon), f": {words[1].text}")
+    return f"{words[0].text}: {words[1].text}" if Trial(case).passes(edit) else ""
 
 
 def _is_label_of_two(case: Case, at: int, words: Sequence[Token]) -> bool:
@@ -503,8 +457,9 @@ def bound_without_relation(case: Case, line: Sequence[Token]) -> Found | None:
     if section_of(case, line) != "bounds" or any(each.is_section for each in line):
         return None
     is_name = len(line) == 1 and is_word(line[0])
-    is_number = all(each.is_number or each.is_sign for each in line)
-    return shown(case, line) if is_name or is_number else None
+    is_number = all(each.is_number or each.is_sign or is_word(each) for each in line) and not is_word(line[-1])
+    is_pair = len(line) > 1 and line[-2].is_number and is_word(line[-1]) and not any(each.is_relation for each in line)
+    return shown(case, line) if is_name or is_number or is_pair else None
 
 
 def coefficient_in_bounds(case: Case) -> Found | None:
@@ -515,6 +470,7 @@ def coefficient_in_bounds(case: Case) -> Found | None:
         or lp_section(case) != "bounds"
         or not token.is_name
         or not (before.is_number or before.is_sign)
+        or not any(each.is_relation for each in case.tokens if each.line == token.line)
     ):
         return None
     return Found(mend=_divided(case) or "")
@@ -618,18 +574,14 @@ def _signed(tokens: Sequence[Token]) -> Fraction | None:
 
 
 RULES: tuple[Rule, ...] = (
-    conflict_marker,
     no_label,
     colon_after_keyword,
     other_relation,
-    lazy_constraints,
     decimal_comma,
     fraction,
     punctuation_after_row,
     lone_mark,
-    other_keyword,
-    line_of_text,
-    no_sense,
+    text_after_statement,
     row_without_terms,
     no_subject_to,
     digit_first,

@@ -8,8 +8,10 @@ from collections.abc import Sequence
 from mpslp._messages._case import Case, Found
 from mpslp._messages._causes_both import Rule
 from mpslp._messages._causes_lp_parts import general_constraints
+from mpslp._messages._lp_edits import is_used
 from mpslp._messages._lp_suspects import (
     is_glued,
+    is_word,
     joined,
     lp_section,
     mark_of_text,
@@ -21,15 +23,21 @@ from mpslp._messages._lp_suspects import (
 from mpslp._messages._tokens import Token
 from mpslp._text._lp_words import INFINITIES
 
-_FUNCTION = re.compile(r"(?<![\w.])(?:max|min|abs|and|or|norm|exp|log|ln|sqrt|sin|cos|tan|pow)\s*\(", re.IGNORECASE)
+_FUNCTION = re.compile(
+    r"(?<![\w.])(?:max|min|abs|and|or|norm|exp|log|ln|sqrt|sin|cos|tan|pow)\s*\(|[\w)]\s+(?:mod|div|xor)\s+[\w(]",
+    re.IGNORECASE,
+)
 _LOOP = re.compile(
-    r"(?<![\w.])(?:(?:sum|prod|for|forall)\s*(?:\{|\([^()]*(?:\bin\b|\.\.|=))|for\s+\w+\s*(?:\bin\b|=)|forall\s+\w+)",
+    r"(?<![\w.])(?:(?:sum|prod|for|forall)\s*(?:\{|\([^()]*(?:\bin\b|\.\.|=))|(?:for|sum|prod)\s+\w+\s*(?:\bin\b|=)"
+    r"|forall\s+\w+|for\s+(?:all|each|every)\b|(?:sum|prod)\s*_|sum\s+over\b|(?:sum|"
+    r"prod)\s*\(\w+\)\s+[A-Za-z_]\w*)|\+\s*\.\.\.?\s*\+|\\sum\b|@(?:sum|for)\b"
+    r"|\bsum\s*\(\s*\w+:\w+\s*\)|,\s*(?:for\s+)?[a-z]\s*(?:=|in\b)\s*\d+\s*(?:,|\.\.|to\b)",
     re.IGNORECASE,
 )
 _NUMBER = r"[-+]?(?:\d+(?:\.\d+)?|\.\d+)"
 _IN_QUOTES = re.compile(rf"(?:\[\s*{_NUMBER}\s*\]|\(\s*{_NUMBER}\s*\)|\"{_NUMBER}\"|'{_NUMBER}')\s*$")
 _BRACKETS = re.compile(
-    rf"(?<![\w.])(?P<name>[A-Za-z_][\w.]*)\s*(?::?=|\bin\b|\bis\b)\s*[\[({{]\s*(?P<lower>{_NUMBER})\s*"
+    rf"(?<![\w.])(?P<name>[A-Za-z_][\w.]*)\s*(?::?=|:|\bin\b|\bis\b|\s)\s*[\[({{]\s*(?P<lower>{_NUMBER})\s*"
     rf"(?:\.\.|,|;)\s*(?P<upper>{_NUMBER})\s*[\])}}]\s*$",
     re.IGNORECASE,
 )
@@ -37,6 +45,14 @@ _BETWEEN = re.compile(
     rf"(?<![\w.])(?P<name>[A-Za-z_][\w.]*)\s+(?:is\s+)?(?:between|from|in)\s+(?P<lower>{_NUMBER})\s+(?:and|to)\s+"
     rf"(?P<upper>{_NUMBER})\s*$",
     re.IGNORECASE,
+)
+_SIDE_BY_SIDE = re.compile(
+    rf"\s*(?P<name>[A-Za-z_][\w.]*)\s*(?:[:=]\s*)?(?<![\w.])(?P<lower>{_NUMBER})\s*(?:,|;|"
+    rf"to\b|\s)\s*(?P<upper>{_NUMBER})\s*$"
+)
+_TO = re.compile(rf"\s*(?P<lower>{_NUMBER})\s*(?:to|-|\.\.+)\s*(?P<upper>{_NUMBER})\s+(?P<name>[A-Za-z_][\w.]*)\s*$")
+_DASH = re.compile(
+    r"\s*(?P<name>[A-Za-z_][\w.]*)\s*(?:[:=]|in\b|\s)\s*(?P<lower>\d+(?:\.\d+)?)\s*-\s*(?P<upper>\d+(?:\.\d+)?)\s*$"
 )
 _DOTS = re.compile(
     rf"(?:(?<![\w.])(?P<before>[A-Za-z_][\w.]*)\s*(?::?=|\bin\b)\s*|(?<![\w.]))(?P<lower>{_NUMBER})\s*\.\.\s*"
@@ -48,8 +64,6 @@ _FREE = re.compile(
 _SEMI_INTEGER = "semi-integer columns are not supported: write a binary column for each, as for a semi-continuous one"
 _TYPES = "columns are continuous unless they are listed"
 _OTHER = {
-    "ranges": "a row with two limits is 1 <= x + y <= 4",
-    "range": "a row with two limits is 1 <= x + y <= 4",
     "rhs": "the right-hand side is a part of its row",
     "continuous": _TYPES,
     "variables": _TYPES,
@@ -59,24 +73,10 @@ _OTHER = {
     "frees": "a column without bounds is x free under Bounds",
     "sec": "the keyword is semi-continuous",
     "sin": _SEMI_INTEGER,
-    "semi-integer": _SEMI_INTEGER,
-    "semiint": _SEMI_INTEGER,
-    "semiinteger": _SEMI_INTEGER,
     "special": "special ordered sets are not supported",
-    "lazy": "all rows come under subject to",
-    "start": "values to start from are for a solver, and no part of a model",
-    "hints": "values to start from are for a solver, and no part of a model",
-    "initial": "values to start from are for a solver, and no part of a model",
-    "solution": "values to start from are for a solver, and no part of a model",
-    "branch": "priorities are for a solver, and no part of a model",
     "print": "LP has no statements",
     "sets": "special ordered sets are not supported",
-    "partial": "partial integers are not supported",
     "pin": "partial integers are not supported",
-    "priorities": "priorities are for a solver, and no part of a model",
-    "priority": "priorities are for a solver, and no part of a model",
-    "options": "options are for a solver, and no part of a model",
-    "parameters": "options are for a solver, and no part of a model",
     "solve": "LP has no statements",
     "optimize": "LP has no statements",
     "display": "LP has no statements",
@@ -118,11 +118,20 @@ def range_of_values(case: Case, line: Sequence[Token]) -> Found | None:
     """Two numbers in brackets, with two points between them, or after ``between``."""
     text = text_of(case, line)
     match = _BRACKETS.search(text) or _BETWEEN.search(text) or _DOTS.search(text)
+    if match is None and section_of(case, line) == "bounds":
+        match = _SIDE_BY_SIDE.match(text) or _TO.match(text) or _DASH.match(text)
     if match is None:
         return None
     name = match.groupdict().get("before") or match["name"]
     if name is None and not text[: match.start()].rstrip().endswith(":"):  # it may be a number with two points
         return None
+    if re.fullmatch(r".*\{\s*0\s*[,;]\s*1\s*\}\s*", text):
+        return Found(
+            "{0, 1} is meant for a column under Binaries",
+            marks=(mark_of_text(case, line, *match.span()),),
+            moves=True,
+            means_other=True,
+        )
     mend = "" if name is None else f"{match['lower']} <= {name} <= {match['upper']}"
     return Found(mend=mend, marks=(mark_of_text(case, line, *match.span()),), moves=True, means_other=True)
 
@@ -148,6 +157,8 @@ def other_section(case: Case, line: Sequence[Token]) -> Found | None:
 def sign_in_words(case: Case, line: Sequence[Token]) -> Found | None:
     """A word for a sign between two columns."""
     for before, word, after in zip(line, line[1:], line[2:]):
+        if word.word == "x" and before.is_number and is_word(after) and not is_used(case, word.text):
+            return shown(case, (word,), mend=f"{before.text} {after.text}")._replace(means_other=True)
         if word.word in _SIGN_WORDS and before.is_name and (after.is_name or after.is_number):
             mend = " ".join(filter(None, (before.text, _SIGN_WORDS[word.word], after.text)))
             return shown(case, (word,), mend=mend)._replace(means_other=True)

@@ -80,7 +80,10 @@ def two_numbers(case: Case, line: Sequence[Token]) -> Found | None:
         name = line[at + 2] if at + 2 < len(line) and is_word(line[at + 2]) else None
         product = product_text((first.text, second.text))
         is_whole = first.text.isdigit() and second.text.isdigit()
-        meant = [first.text + second.text] * is_whole + ([product] if product and name else [])
+        is_split = first.text.endswith(".") and second.text.isdigit()
+        meant = [first.text + second.text] * (is_whole or is_split) + (
+            [product] if product and name and not is_split else []
+        )
         if name is None:
             return read_otherwise(
                 case, (first, second), f"{joined((first, second))} may be {meant[0]}" if meant else ""
@@ -209,7 +212,7 @@ def nan(case: Case) -> Found | None:
 def infinite_coefficient(case: Case, line: Sequence[Token]) -> Found | None:
     """An infinity that is not beside a relation."""
     for at, each in enumerate(line):
-        if each.word not in INFINITIES:
+        if each.word not in INFINITIES or section_of(case, line) == "bounds":
             continue
         before = next((other for other in reversed(line[:at]) if not other.is_sign), None)
         after = line[at + 1] if at + 1 < len(line) else None
@@ -253,7 +256,12 @@ def coefficient_after(case: Case, line: Sequence[Token]) -> Found | None:
     """A column, and after it a number, and then a sign, a relation or the end of the objective."""
     has_relation = any(each.is_relation for each in line)
     for at, (name, number) in enumerate(zip(line, line[1:])):
-        if not is_word(name) or not number.is_number or is_glued(name, number) or (at > 0 and line[at - 1].is_number):
+        if (
+            not is_word(name)
+            or not number.is_number
+            or is_glued(name, number)
+            or (at > 0 and (line[at - 1].is_number or line[at - 1].is_relation or is_word(line[at - 1])))
+        ):
             continue
         after = line[at + 2] if at + 2 < len(line) else None
         if (after is None and not has_relation and section_of(case, line)) or (

@@ -9,12 +9,43 @@ from collections.abc import Sequence
 
 from mpslp._messages._case import Case, Found
 from mpslp._messages._causes_both import Rule
-from mpslp._messages._lp_suspects import is_word, joined, lp_section, mark_of_text, on_lines, section_of, shown, text_of
+from mpslp._messages._causes_lp_words import TYPES_OF_MPS
+from mpslp._messages._lp_edits import instead_of
+from mpslp._messages._lp_suspects import (
+    is_column,
+    is_word,
+    joined,
+    lp_section,
+    mark_of_text,
+    on_lines,
+    section_of,
+    shown,
+    suspects,
+    text_of,
+)
+from mpslp._messages._lp_trials import Trial
 from mpslp._messages._tokens import Token
 
-_COMMENT = re.compile(r"\s*(\*+|!+|%+|--+|#+|//+|/\*|;+|'|\"|(?:REM|rem|Rem)(?=\s))\s*(.*?)\s*(?:\*/)?$")
-_TRAILING = re.compile(r"[<>=]\s*[-+]*\s*[\d.]+(?:[eE][-+]?\d+)?\s*(!+|%+|#+|//+|/\*|--+|;+|\*+)\s*(\D.*?)\s*(?:\*/)?$")
-_FREE = frozenset(("unbounded", "unbound", "unrestricted", "urs", "sign-free", "free-sign"))
+_COMMENT = re.compile(r"\s*(\*+|!+|%+|--+|#+|//+|/\*|/(?=\s)|;+|'|\"|(?:REM|rem|Rem)(?=\s))\s*(.*?)\s*(?:\*/)?$")
+_TRAILING = re.compile(
+    r"[<>=]\s*[-+]*\s*[\d.]+(?:[eE][-+]?\d+)?\s*(!+|%+|#+|//+|/\*|/(?=\s)|--+|;+|\*+)\s*(\D.*?)\s*(?:\*/)?$"
+)
+_FREE = frozenset(
+    (
+        "fre",
+        "freee",
+        "fee",
+        "feer",
+        "frei",
+        "freeing",
+        "unbounded",
+        "unbound",
+        "unrestricted",
+        "urs",
+        "sign-free",
+        "free-sign",
+    )
+)
 _TYPES = {
     "integer": "Generals",
     "integers": "Generals",
@@ -26,6 +57,7 @@ _TYPES = {
     "boolean": "Binaries",
     "bool": "Binaries",
 }
+_ALL = ("all", "every", "each", "any")
 _SEVERAL = re.compile(r"multi-?objectives?")
 _NEXT_SECTION = re.compile(rb"(?im)^[ \t]*(?:subject[ \t]+to|such[ \t]+that|st|s\.t\.)[ \t\r:]*$")
 _OTHER_SECTION = re.compile(
@@ -139,8 +171,11 @@ def several_in_bounds(case: Case, line: Sequence[Token]) -> Found | None:
         len(names) < 2
         or not any(each.word == "free" or each.is_relation for each in rest)
         or names[-1].lower() in _FREE
+        or names[-1].lower() in TYPES_OF_MPS
     ):
         return None
+    if names[0].lower() in _ALL:
+        return shown(case, line[first:end], "LP has no word for all columns; their lower bounds are 0 by default")
     before, after = joined(line[:first]), joined(line[end:])
     lines = [" ".join(filter(None, (before, name, after))) for name in names]
     more = ["..."] if len(lines) > _MOST_LINES else []
@@ -170,19 +205,39 @@ def label_in_bounds(case: Case, line: Sequence[Token]) -> Found | None:
         return None
     rest = line[2:]
     mend = f"{line[0].text} free" if joined(rest).lower() == "free" else joined(rest)
-    return shown(case, line[:2], mend=mend)
+    passes = Trial(case).passes(instead_of(case, line, mend))
+    return shown(case, line[:2], mend=mend if passes else "")
 
 
-@on_lines
-def type_in_bounds(case: Case, line: Sequence[Token]) -> Found | None:
-    """A column, and the word that is its type, at the end of a line."""
-    if len(line) != 2 or not is_word(line[0]) or line[1].word not in _TYPES:
+def type_in_bounds(case: Case) -> Found | None:
+    """A column, and the word that is its type, at the end of a line; the line of the last section, if it is before."""
+    opening = next((each for each in reversed(case.tokens[: case.token_at]) if each.is_section), None)
+    lines = [[each for each in case.tokens if each.line == opening.line]] if opening is not None else []
+    return next((found for line in [*lines, *suspects(case)] if (found := _type_in(case, line)) is not None), None)
+
+
+def _type_in(case: Case, line: Sequence[Token]) -> Found | None:
+    if len(line) < 2 or line[-1].word not in _TYPES or line[0].is_section:
         return None
-    kind = _TYPES[line[1].word]
-    return shown(case, line, f"{line[0].text} belongs under {kind}")
+    names = [each for each in line if is_word(each)]
+    has_colon = len(line) == 3 and line[1].text == ":"
+    if len(names) != 1 or (len(line) > 2 and not has_colon and not any(each.is_relation for each in line)):
+        return None
+    rest = joined(line[:-1]) if line[-2].is_number else ""
+    return shown(case, line, f"{names[0].text} belongs under {_TYPES[line[-1].word]}", rest)
 
 
 # ---- lists
+
+
+@on_lines
+def row_in_list(case: Case, line: Sequence[Token]) -> Found | None:
+    """A label, a colon and a relation, or terms and a relation, in a list of names."""
+    if section_of(case, line) != "list" or not any(each.is_relation for each in line):
+        return None
+    is_row = len(line) > 3 and line[1].text == ":" and line[0].is_name
+    names = [each for each in line if is_word(each)]
+    return shown(case, line) if is_row or (len(names) > 1 and any(each.is_sign for each in line)) else None
 
 
 @on_lines
@@ -194,8 +249,9 @@ def bound_in_list(case: Case, line: Sequence[Token]) -> Found | None:
         return None
     if not any(each.is_relation or each.is_number or each.is_sign or each.text == ":" for each in line):
         return None
-    name = next((each.text for each in line if is_word(each)), "")
-    has_relation = name and any(each.is_relation for each in line)
+    names = [each.text for each in line if is_word(each) and is_column(case, each.text)]
+    name = " ".join(names) or next((each.text for each in line if is_word(each)), "")
+    has_relation = len(names) == 1 and any(each.is_relation for each in line)
     return shown(case, line, f"the bound {joined(line)} belongs under Bounds" if has_relation else "", name)
 
 
@@ -206,8 +262,9 @@ RULES: tuple[Rule, ...] = (
     piecewise_linear,
     scenarios,
     word_for_free,
+    type_in_bounds,
     several_in_bounds,
     label_in_bounds,
-    type_in_bounds,
+    row_in_list,
     bound_in_list,
 )

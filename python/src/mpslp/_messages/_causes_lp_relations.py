@@ -22,6 +22,7 @@ from mpslp._messages._lp_suspects import (
     text_of,
     without_label,
 )
+from mpslp._messages._lp_sums import terms_of
 from mpslp._messages._tokens import Token
 from mpslp._text._lp_words import FREE, INFINITIES, ROWS, SECTIONS, SENSES
 
@@ -37,6 +38,16 @@ _WORDS = {
         "less than",
         "at most",
         "no more than",
+        "not more than",
+        "less or equal",
+        "less or equal to",
+        "smaller than",
+        "not greater than",
+        "no greater than",
+        "up to",
+        "max",
+        "kleiner gleich",
+        "kleiner als",
         "=l=",
         ".le.",
         ".lt.",
@@ -54,6 +65,15 @@ _WORDS = {
         "more than",
         "at least",
         "no less than",
+        "not less than",
+        "greater or equal",
+        "greater or equal to",
+        "larger than",
+        "not fewer than",
+        "no fewer than",
+        "min",
+        "groesser gleich",
+        "groesser als",
         "=g=",
         ".ge.",
         ".gt.",
@@ -64,7 +84,7 @@ _WORDS = {
     "=": ("eq", "equal to", "equals", "is", "=e=", ".eq."),
 }
 _RELATION_OF = {word: relation for relation, words in _WORDS.items() for word in words}
-_ENGLISH = ("is", "equals", "equal to")
+_ENGLISH = ("is", "equals", "equal to", "max", "min", "up to")
 """Words that are a relation only before a number."""
 _BY_LENGTH = sorted(_RELATION_OF, key=len, reverse=True)
 _IN_WORDS = re.compile(
@@ -94,7 +114,6 @@ _IMPLICATION = re.compile(
 )
 _CONJUNCTIONS = ("and", "or", "for", "forall", "where", "if", "when", "&", "&&", ",", ";")
 _KEYWORDS_OF_LABELS = (FREE, *(word for word, section in SECTIONS.items() if section != ROWS))
-_LETTERS = re.compile(r"[A-Za-z']+[,.;!?]?|\d+")
 
 
 # ---- relations
@@ -200,7 +219,7 @@ def no_relation(case: Case, line: Sequence[Token]) -> Found | None:
         or any(each.is_relation or each.is_section or each.text == ":" for each in tokens)
     ):
         return None
-    if section_of(case, line) not in ("rows", "bounds") or (len(tokens) > 2 and tokens[-3].is_name):
+    if section_of(case, line) not in ("rows", "bounds") or terms_of(tokens[:-1]) is None:
         return None
     before = joined(tokens[:-1])
     return shown(
@@ -253,31 +272,6 @@ def label_without_row(case: Case) -> Found | None:
         if before.is_name and label.is_name and lp_section(case) == "rows"
         else None
     )
-
-
-@on_lines
-def line_of_text(case: Case, line: Sequence[Token]) -> Found | None:
-    """Two words or more without a mark of LP, which are no columns."""
-    words = [each for each in line if each.is_name]
-    if (
-        len(words) < 2
-        or not all(_LETTERS.fullmatch(each.text) for each in line)
-        or any(each.word in SENSES for each in line[:1])
-    ):
-        return None
-    if (
-        section_of(case, line) == "list"
-        or words[-1].word == "free"
-        or any(is_elsewhere(case, each.text) for each in words)
-    ):
-        return None
-    return shown(case, line, mend="\\ " + " ".join(text_of(case, line).split()))
-
-
-def is_elsewhere(case: Case, name: str) -> bool:
-    """Whether a word is in the text more than once."""
-    word = re.compile(rb"(?<![\w.])" + re.escape(name.encode("latin-1")) + rb"(?![\w.])")
-    return len(word.findall(case.content[: 2**20])) > 1
 
 
 # ---- signs and words

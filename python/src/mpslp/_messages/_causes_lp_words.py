@@ -7,14 +7,16 @@ from collections.abc import Sequence
 
 from mpslp._messages._case import FOUND, Case, Found
 from mpslp._messages._causes_both import Rule
+from mpslp._messages._lp_edits import instead_of, line_without
 from mpslp._messages._lp_suspects import is_word, joined, lp_section, on_lines, section_of, shown
+from mpslp._messages._lp_trials import Trial
 from mpslp._messages._tokens import Token
 from mpslp._text._lines import line_at
-from mpslp._text._lp_words import FREE, SENSES
+from mpslp._text._lp_words import FREE, INFINITIES, SENSES
 
 _MARKS = re.compile(r"[!\"#$%&,/;?@'`{}|~^.]+")
 _INFINITY = frozenset(("unlimited", "infinite", "unbounded", "infty", "oo", "infinit"))
-_TYPES_OF_MPS = {
+TYPES_OF_MPS = {
     "up": "<=",
     "lo": ">=",
     "fx": "=",
@@ -25,8 +27,10 @@ _TYPES_OF_MPS = {
     "pl": "",
     "lb": ">=",
     "ub": "<=",
+    "max": "<=",
+    "min": ">=",
 }
-_MOST_LOOKED_AT = 2**20
+_MOST_LOOKED_AT = 2**18
 _MOST_WRITTEN = 30
 """A row of more tokens is not written again."""
 
@@ -58,10 +62,13 @@ def label_without_colon(case: Case, line: Sequence[Token]) -> Found | None:
     is_assigned = rest[0].text == "=" and sum(each.is_relation for each in rest) > 1
     if is_assigned:
         rest = rest[1:]
-    is_label = is_assigned or name != line[0].text or (is_word(rest[0]) and len(rest) > 1)
-    if not is_label or not name or not is_word(rest[0]) or _is_used(case, name, line[0].line):
+    column = rest[1] if rest[0].is_number or rest[0].is_sign else rest[0]
+    is_label = is_assigned or name != line[0].text or len(rest) > 1
+    if not is_label or not name or not is_word(column) or _is_used(case, name, line[0].line):
         return None
-    if not _is_used(case, rest[0].text, rest[0].line) or rest[-1].text == ":":
+    if not _is_used(case, column.text, column.line) or rest[-1].text == ":":
+        return None
+    if not is_word(rest[0]) and not Trial(case).passes(instead_of(case, line[:1], f"{name}:")):
         return None
     mend = f"{name}: {joined(rest)}" if len(rest) <= _MOST_WRITTEN else f"{name}:"
     return shown(case, line[:1], mend=mend)._replace(means_other=True)
@@ -95,7 +102,11 @@ def lone_mark(case: Case) -> Found | None:
             is_before_name = each is token and each.text == "." and after is not None and after.line == each.line
             if is_before_name and after is not None and after.start == each.end:
                 return shown(case, (each,), f".{after.text} is no name, since it starts with a period")
-            return shown(case, (each,))
+            trial = Trial(case)
+            if trial.passes(instead_of(case, (each,))):
+                return shown(case, (each,), mend=line_without(case, (each,)))
+            if trial.passes(instead_of(case, (each,), "<=")):
+                return shown(case, (each,), f"a relation is expected instead of {each.text}: <=, >= or =")
     return None
 
 
@@ -107,7 +118,14 @@ def word_between_terms(case: Case) -> Found | None:
     if lp_section(case) not in ("", "rows"):
         return None
     for first, word, second in zip(near, near[1:], near[2:]):
-        if not (is_word(first) and is_word(word) and (is_word(second) or second.is_number)) or not word.text.isalpha():
+        if (
+            not (
+                is_word(first)
+                and is_word(word)
+                and ((is_word(second) and _is_used(case, second.text, second.line)) or second.is_number)
+            )
+            or not word.text.isalpha()
+        ):
             continue
         if _is_used(case, first.text, first.line) and not _is_used(case, word.text, word.line):
             return shown(case, (word,))._replace(means_other=True)
@@ -120,14 +138,18 @@ def word_between_terms(case: Case) -> Found | None:
 @on_lines
 def bound_of_mps(case: Case, line: Sequence[Token]) -> Found | None:
     """A type of MPS before a column, or after it."""
-    if section_of(case, line) != "bounds" or not 2 <= len(line) <= 5 or any(each.is_relation for each in line):
+    if (
+        section_of(case, line) != "bounds"
+        or not 2 <= len(line) <= 5
+        or any(each.is_relation and each.text != "=" for each in line)
+    ):
         return None
-    words = [each for each in line if not each.is_number and not each.is_sign]
-    kind = next((each for each in words if each.word in _TYPES_OF_MPS), None)
+    words = [each for each in line if each.is_name]
+    kind = next((each for each in words if each.word.strip(".:=") in TYPES_OF_MPS), None)
     names = [each.text for each in words if each is not kind]
     if kind is None or not names:
         return None
-    relation = _TYPES_OF_MPS[kind.word]
+    relation = TYPES_OF_MPS[kind.word.strip(".:=")]
     number = "".join(each.text for each in line if each.is_number or each.is_sign)
     mend = f"{names[-1]} {relation} {number}".strip() if relation == FREE or (relation and number) else ""
     return shown(case, line, mend=mend)
@@ -139,7 +161,11 @@ def word_for_infinity(case: Case, line: Sequence[Token]) -> Found | None:
         is_beside = before is not None and (before.is_relation or before.is_sign)
         is_none = each.word in ("none", "no") and section_of(case, line) == "bounds"
         if (
-            (each.word in _INFINITY or is_none)
+            (
+                each.word in _INFINITY
+                or is_none
+                or (each.word.startswith("inf") and each.word not in INFINITIES and is_word(each))
+            )
             and (is_beside or each is line[0])
             and any(other.is_relation for other in line)
         ):

@@ -8,7 +8,7 @@ from typing import NamedTuple
 from mpslp._messages._tokens import Token, tokens_of
 from mpslp._text._lp_words import INFINITIES, ROWS, ROWS_IN_TWO_WORDS, SECTIONS, SENSES
 
-_MOST_READ = 2**24
+_MOST_READ = 2**19
 
 
 class Row(NamedTuple):

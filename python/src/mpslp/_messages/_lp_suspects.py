@@ -19,7 +19,7 @@ LineRule = Callable[[Case, Sequence[Token]], Found | None]
 """Returns what it has found in the tokens of a line."""
 Rule = Callable[[Case], Found | None]
 
-_MOST_LOOKED_AT = 2**20
+_MOST_LOOKED_AT = 2**18
 """Whether a word is a column is looked up in so many bytes around the error."""
 _RIGHT_OF_RELATION = re.compile(rb"[<>=][ \t]*[+-]?[ \t]*[\d.][\w.]*[ \t]*$")
 _WORD = rb"(?<![\w.])%b(?![\w.])"
@@ -37,8 +37,10 @@ def on_lines(rule: LineRule) -> Rule:
 
 def suspects(case: Case) -> Iterator[list[Token]]:
     """The tokens of the line of the error; before them those of the line before, if the error is at the start of its
-    line.
+    line. A long line is none.
     """
+    if case.is_long_line:
+        return
     first = next((at for at, each in enumerate(case.tokens) if each.line == case.line.number), len(case.tokens))
     token = case.token
     is_at_start = token is None or case.token_at == first or (token.text == ":" and case.token_at == first + 1)

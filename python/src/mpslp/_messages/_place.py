@@ -18,14 +18,20 @@ from mpslp import _mpslp
 from mpslp._errors._faults import ModelFileError
 from mpslp._errors._illegal_names import name_not_legal
 from mpslp._files._sources import Text
-from mpslp._messages._tokens import NAME, Token, tokens_of
+from mpslp._messages._tokens import NAME, Token, place_between, tokens_of
 from mpslp._text._lines import Line, line_at
 from mpslp._text._lp_words import FREE, INFINITIES
 from mpslp._text._mps_words import MARKER, UNVALUED
 
 _MOST_SHOWN = 80
 _MOST_READ_AGAIN = 2**24
-_MOST_BEFORE = 2**18
+_PART = 2**12
+"""Of a long line, two parts of so many bytes are cut into tokens: the one with the error, and the one before it."""
+_MOST_WHOLE = 2**17
+_MOST_OF_LP = 2**20
+"""An LP text of more bytes than the first is read again in part, if that has the "
+"same error, and else up to the second."""
+_MOST_BEFORE = 2**16
 """Of a larger LP text, so many bytes before the line are read again, if they have the same error."""
 _PACKED = {
     b"\x1f\x8b": "the file is compressed by gzip",
@@ -184,13 +190,13 @@ class _Finder:
     def _read_again(self) -> bytes:
         """The text before the line, or a part of it in which the line has the same error."""
         content, start = self._text.content, self._line.start
-        if start <= _MOST_READ_AGAIN:
-            return content[:start]
-        if self._text.format == _mpslp.LP:
+        if self._text.format == _mpslp.LP and start > _MOST_WHOLE:
             before = self._last_part(content, start)
             if before is not None and self._is_error_of(before, self._line.content):
                 return before
-        raise _TooLarge
+        if start > (_MOST_READ_AGAIN if self._text.format == _mpslp.MPS else _MOST_OF_LP):
+            raise _TooLarge
+        return content[:start]
 
     @staticmethod
     def _last_part(content: bytes, start: int) -> bytes | None:
@@ -279,11 +285,13 @@ class _Finder:
         return self._has_error((" " + " ".join(field.text for field in fields[: first + 2])).encode("latin-1"))
 
     def of_lp(self) -> Place:
-        tokens = tokens_of(self._line.content)
+        line = self._line.content
         # An error of a line stays when tokens are added that do not have one of lower rank.
-        at = bisect_left(
-            range(len(tokens)), True, key=lambda number: self._has_error(self._line.content[: tokens[number].end])
-        )
+        parts = [place_between(line, start) for start in range(_PART, len(line), _PART)]
+        part = bisect_left(parts, True, key=lambda end: self._has_error(line[:end]))
+        start = parts[part - 2] if part > 1 else 0
+        tokens = tokens_of(line, 1, start, parts[part] if part < len(parts) else len(line), 0)
+        at = bisect_left(tokens, True, key=lambda token: self._has_error(line[: token.end]))
         tokens = tokens[: at + 1]
         kind = self._error.kind
         if kind in ("ConstantInRow", "DuplicateRhs"):  # the token after the number has the error

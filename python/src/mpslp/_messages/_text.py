@@ -13,10 +13,16 @@ from mpslp._messages import (
     _causes_both,
     _causes_files,
     _causes_lp,
+    _causes_lp_edits,
+    _causes_lp_files,
+    _causes_lp_headings,
     _causes_lp_languages,
+    _causes_lp_marks,
     _causes_lp_numbers,
+    _causes_lp_others,
     _causes_lp_parts,
     _causes_lp_relations,
+    _causes_lp_text,
     _causes_lp_words,
     _causes_mps,
     _causes_mps_fields,
@@ -60,14 +66,19 @@ class Message(NamedTuple):
 
 _OF_MPS = (_causes_mps_fields, _causes_mps)
 _OF_LP = (
+    _causes_lp_others,
+    _causes_lp_headings,
+    _causes_lp_marks,
     _causes_lp_languages,
     _causes_lp_parts,
+    _causes_lp_text,
     _causes_lp_numbers,
     _causes_lp_relations,
     _causes_lp_words,
     _causes_lp,
+    _causes_lp_edits,
 )
-MODULES = (_causes_files, *_OF_MPS, *_OF_LP, _causes_both, _expected)
+MODULES = (_causes_lp_files, _causes_files, *_OF_MPS, *_OF_LP, _causes_both, _expected)
 """The modules that have rules."""
 
 
@@ -76,7 +87,9 @@ def rules_of(case: Case) -> tuple[Rule, ...]:
     own = tuple(rule for module in (_OF_MPS if case.is_mps else _OF_LP) for rule in module.RULES)
     names = {rule.__name__ for rule in own}
     both = (rule for rule in _causes_both.RULES if rule.__name__ not in names)
-    return (*_causes_files.RULES, *own, *both, *(() if case.is_mps else _expected.RULES))
+    if case.is_mps:
+        return (*_causes_files.RULES, *own, *both)
+    return (*_causes_lp_files.RULES, *_causes_files.RULES, *own, *both, *_expected.RULES)
 
 
 def name_of(rule: Rule) -> str:

@@ -9,6 +9,7 @@ from mpslp._text._lp_words import SECTIONS
 
 _NAME = r"[A-Za-z!\"#$%&()/,;?@_'`{}|~][\w!\"#$%&()/,.;?@'`{}|~]*"
 _TOKEN = re.compile(rb"\\[^\n]*|(?:\d+(?:\.\d*)?|\.\d+)(?:[eE][+-]?\d+)?|" + _NAME.encode() + rb"|<=|=<|>=|=>|::|->|\S")
+_BETWEEN = re.compile(rb"[\s<>=]|(?<![eE])[+-]")
 NAME = re.compile(r"[A-Za-z!\"#$%&()/,;?@_'`{}|~]")
 """The start of a name or a reserved word."""
 RELATIONS = frozenset(("<", ">", "=", "<=", "=<", ">=", "=>"))
@@ -48,10 +49,14 @@ class Token(NamedTuple):
         return self.word in SECTIONS
 
 
-def tokens_of(content: bytes, line: int = 1, start: int = 0, end: int | None = None) -> list[Token]:
-    """The tokens of a part of a text whose first line has a number. Comments have none."""
+def tokens_of(
+    content: bytes, line: int = 1, start: int = 0, end: int | None = None, first: int | None = None
+) -> list[Token]:
+    """The tokens of a part of a text. Its first line has a number, and starts where the part does, or at another place.
+    Comments have no tokens.
+    """
     found: list[Token] = []
-    first = start
+    first = start if first is None else first
     place = start
     for match in _TOKEN.finditer(content, start, len(content) if end is None else end):
         line += content.count(b"\n", place, match.start())
@@ -61,3 +66,9 @@ def tokens_of(content: bytes, line: int = 1, start: int = 0, end: int | None = N
         if match[0][:1] != b"\\":
             found.append(Token(match[0].decode("latin-1"), match.start() - first, match.end() - first, line))
     return found
+
+
+def place_between(line: bytes, start: int) -> int:
+    """The first place from another one on at which no token goes on: at a sign, a relation or a space."""
+    match = _BETWEEN.search(line, start)
+    return len(line) if match is None else match.start()

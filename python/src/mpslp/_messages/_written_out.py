@@ -91,11 +91,12 @@ def _end_of_section(case: Case) -> int:
 def _lp_sets(case: Case, end: int) -> Iterator[OrderedSet]:
     start = case.line.start + len(case.line.content)
     heading = case.line.content.decode("latin-1")
-    default = 2 if re.search(r"2", heading.partition(":")[0]) else 1
+    of_heading = re.search(r"[12]", heading.partition(":")[0])
     for match in _SET.finditer(case.content[start : min(end, start + _MOST_READ)].decode("latin-1")):
         weights = [(value_of(weight), name) for name, weight in _MEMBER.findall(match["members"])]
         members = sorted((weight, name) for weight, name in weights if weight is not None)
-        kind = int(match["type"][1]) if match["type"] else default
+        of_name = re.match(r"(?i)sos([12])", match["name"] or "")
+        kind = int(match["type"][1] if match["type"] else of_heading[0] if of_heading else of_name[1] if of_name else 1)
         yield OrderedSet(match["name"] or "set1", kind, [name for _, name in members])
 
 
