@@ -20,6 +20,8 @@ from mpslp._messages import (
     _causes_lp_words,
     _causes_mps,
     _causes_mps_fields,
+    _causes_mps_files,
+    _causes_mps_lines,
     _expected,
 )
 from mpslp._messages._adapted import with_adapt
@@ -58,7 +60,7 @@ class Message(NamedTuple):
         return "\n".join(filter(None, parts))
 
 
-_OF_MPS = (_causes_mps_fields, _causes_mps)
+_OF_MPS = (_causes_mps_files, _causes_mps_fields, _causes_mps, _causes_mps_lines)
 _OF_LP = (
     _causes_lp_languages,
     _causes_lp_parts,
