@@ -486,7 +486,6 @@ FAMILIES = {
         *tails(
             "SOS\n S1 SOS s1\n    SOS X 1\n    SOS Y 2",
             "SOS2\n S2 SOS s2\n    SOS X 1\n    SOS Y 2",
-            
             "SOS\n S1 s1\n    X 1\n    Y 2",
         ),
     ],
@@ -507,7 +506,15 @@ FAMILIES = {
         *tails("INDICATORS\n IF LIM1 X 1"),
     ],
     "usual: sections": [
-        *tails("BRANCH\n UP X 1", "LAZYCONS\n L  CUT", "PRIORITY\n X 1", "OPTIONS\n X", "START\n X 1", "DIRECTIVES\n X 1", "BASIS\n X")
+        *tails(
+            "BRANCH\n UP X 1",
+            "LAZYCONS\n L  CUT",
+            "PRIORITY\n X 1",
+            "OPTIONS\n X",
+            "START\n X 1",
+            "DIRECTIVES\n X 1",
+            "BASIS\n X",
+        )
     ],
     # ---- MPS
     "misspelt-keyword": [
@@ -547,7 +554,9 @@ FAMILIES = {
     "usual: types": tails("BOUNDS\n INT BND X", "BOUNDS\n BN BND X"),
     "unsupported-bound": tails("BOUNDS\n SI BND X 4", "BOUNDS\n PI BND X 4"),
     "field-left-out": [
-        *columns("    X  COST", "    X  COST  1  LIM1", "    X  1", "    X  COST  1  4", "    X  1  LIM1  1", "    COST  1"),
+        *columns(
+            "    X  COST", "    X  COST  1  LIM1", "    X  1", "    X  COST  1  4", "    X  1  LIM1  1", "    COST  1"
+        ),
         mps(rows=" N  COST\n LIM1\n G  MYG"),
         mps(rhs="    RHS  4"),
         mps(rhs="    RHS  LIM1"),
@@ -567,10 +576,14 @@ FAMILIES = {
         mps(rhs="    RHS  LIM 1  4"),
     ],
     "fields-out-of-order": [
-        *columns("    X  1  COST", "    COST  X  1", "    X  COST  1  1  LIM1", "    'MARKER'  M  'INTORG'\n    X  COST  1"),
+        *columns(
+            "    X  1  COST", "    COST  X  1", "    X  COST  1  1  LIM1", "    'MARKER'  M  'INTORG'\n    X  COST  1"
+        ),
         mps(rows=" N  COST\n LIM1  L\n G  MYG"),
         mps(rhs="    LIM1  4  MYG  1\n    1  COST"),
-        *tails("BOUNDS\n UP BND X 4\n UP Y BND 4", "BOUNDS\n UP BND 4 X", "BOUNDS\n BND X 4 UP", "RANGES\n    RNG 4 LIM1"),
+        *tails(
+            "BOUNDS\n UP BND X 4\n UP Y BND 4", "BOUNDS\n UP BND 4 X", "BOUNDS\n BND X 4 UP", "RANGES\n    RNG 4 LIM1"
+        ),
     ],
     "glued-fields": [
         *columns("    XCOST  1\n    X  LIM1  1", "    X  COST1", "    X  COST  1LIM1  1"),
@@ -598,7 +611,7 @@ FAMILIES = {
         ("mps", mps()[1].replace(f"\n{header}", f"\n {header}")) for header in ("ROWS", "COLUMNS", "RHS", "ENDATA")
     ]
     + tails(" BOUNDS\n UP BND X 4", "  RANGES\n    RNG  LIM1  4"),
-    "header-with-spaces": [
+    "header-with-marks": [
         ("mps", mps()[1].replace("COLUMNS", "COL UMNS")),
         *tails("BOU NDS\n UP BND X 4", "R ANGES\n    RNG LIM1 4"),
     ],
@@ -626,11 +639,18 @@ FAMILIES = {
     ],
     "no-header": tails("---", "Here are the bounds of X"),
     "prefixed-lines": [
-        ("mps", "".join(before.format(number) + line + after for number, line in enumerate(mps()[1].splitlines(True), 1)))
+        (
+            "mps",
+            "".join(before.format(number) + line + after for number, line in enumerate(mps()[1].splitlines(True), 1)),
+        )
         for before, after in (("> ", ""), ("+", ""), ("    ", ""), ("{}: ", ""), ("{:6}\t", ""), ("plan.mps:{}:", ""))
     ],
-    "patch-file": whole("mps", "diff --git a/m.mps b/m.mps\n--- a/m.mps\n+++ b/m.mps\n@@ -9 +9 @@\n-    X  COST  1\n+    X  COST  2\n"),
-    "text-before": whole("mps", *(f"{text}\n{mps()[1]}" for text in ("```", "Reading plan.lp\nDone.", "Hello Anna,\n"))),
+    "patch-file": whole(
+        "mps", "diff --git a/m.mps b/m.mps\n--- a/m.mps\n+++ b/m.mps\n@@ -9 +9 @@\n-    X  COST  1\n+    X  COST  2\n"
+    ),
+    "text-before": whole(
+        "mps", *(f"{text}\n{mps()[1]}" for text in ("```", "Reading plan.lp\nDone.", "Hello Anna,\n"))
+    ),
     "second-model": whole("mps", mps(end="")[1] + mps()[1]),
     "basis-file": whole("mps", "NAME  plan\n XU X  LIM1\n LL Y\nENDATA\n", "NAME\n UL X\nENDATA\n"),
     "other-format": whole(

@@ -13,7 +13,7 @@ from mpslp._errors._faults import ModelFileError
 from mpslp._files._sources import Text
 from mpslp._messages._excerpt import Mark
 from mpslp._messages._mps_edits import Edit, edits
-from mpslp._messages._mps_lines import VALUE, MpsLines, Written, start_of
+from mpslp._messages._mps_lines import VALUE, MpsLines, Written
 from mpslp._messages._nearest import Known
 from mpslp._messages._place import Field, Place, fields_of, place_of, section_before
 from mpslp._messages._tokens import Token, tokens_of
@@ -121,7 +121,7 @@ class Case:
 
     def start_of(self, section: str) -> int:
         """The place of the line end before the header of a section; that of the line if it comes later."""
-        return start_of(self.content, section, self.line.start)
+        return self.mps.start_of(section)
 
     @cached_property
     def texts(self) -> list[str]:
@@ -134,9 +134,11 @@ class Case:
     @cached_property
     def edits(self) -> list[Edit]:
         """Edits after which the line has no error, the most probable first."""
+        if self.is_last_line or (self.is_header and self.texts[0][0].isalpha()):
+            return []
         found: dict[tuple[str, ...], Edit] = {}
-        for edit in () if self.is_last_line else edits(self.mps, self.texts):
-            found.setdefault(edit.texts + edit.rest, edit)
+        for edit in edits(self.mps, self.texts):
+            found.setdefault(sum(edit.more, edit.texts), edit)
         most = max(1, _MOST_READ // max(1, self.line.start))
         return [edit for edit in islice(found.values(), most) if self._is_mended_by(edit)]
 
@@ -146,13 +148,8 @@ class Case:
         """
         if any(isinstance(text, Written) and text != VALUE.written for text in edit.texts):
             return True
-        return self.accepts(
-            "\n".join(
-                " " + " ".join("1" if isinstance(text, Written) else text for text in texts)
-                for texts in (edit.texts, edit.rest)
-                if texts
-            )
-        )
+        lines = (" ".join("1" if isinstance(text, Written) else text for text in texts) for texts in edit.lines)
+        return self.accepts("\n".join(f" {line}" for line in lines))
 
     def accepts(self, lines: str) -> bool:
         """Whether the text before the line, and then these lines, have no error of a line."""

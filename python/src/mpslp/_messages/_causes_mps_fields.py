@@ -47,13 +47,16 @@ def other_comment(case: Case) -> Found | None:
     if case.edits and case.edits[0].sort == "stray_mark":
         return None
     match = _COMMENT.match(case.line.content) or _INDENTED.match(case.line.content)
-    if match is not None and re.search(rb"[A-Za-z]", match[2]):
+    if match is not None and re.search(rb"[A-Za-z]", match[2]) and match[2].decode("latin-1") not in HEADERS:
         return Found(mend=f"* {match[2].decode('latin-1')}", marks=(case.mark_of_span(*match.span(1)),), moves=True)
     at = next(
         (
             at
             for at, field in enumerate(case.fields)
-            if at > 1 and _MARKS.fullmatch(field.text) and not is_nan(field.text.lstrip("#")) and not _is_signed(field.text)
+            if at > 1
+            and _MARKS.fullmatch(field.text)
+            and not is_nan(field.text.lstrip("#"))
+            and not _is_signed(field.text)
         ),
         None,
     )

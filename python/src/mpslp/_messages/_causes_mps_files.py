@@ -18,13 +18,18 @@ _MOST_READ = 2**16
 _MOST_BEFORE = 200
 """A model is looked for after so many lines of other text."""
 _LEAST_LINES = 3
+_NEAR = 0.7
+"""How near a word is to the header that it means, on the scale of difflib."""
 _START = re.compile(rb"(?:NAME\b[^\n]*|OBJSENSE\b[^\n]*|ROWS[ \t\r]*)(?:\n|$)")
 _NUMBERED = re.compile(rb"(?:[^\s:]+:)?[ \t]*(\d+)[:.)|\t]?")
 _QUOTED = re.compile(rb"[\"'](.*)[\"'][,;]?")
 _PATCH = re.compile(rb"(?m)^(?:diff --git |@@ -\d+|Index: |--- [^\n]+\n\+\+\+ )")
 _BASIS = ("XU", "XL", "UL", "LL", "BS")
 _FORMATS = (
-    ("a pseudo-Boolean model (OPB)", rb"\*[ \t]*#variable=|(?:\*[^\n]*\n)*(?:min|max)?:?[ \t]*(?:[+-]\d+[ \t]+~?x\d+[ \t]*)+"),
+    (
+        "a pseudo-Boolean model (OPB)",
+        rb"\*[ \t]*#variable=|(?:\*[^\n]*\n)*(?:min|max)?:?[ \t]*(?:[+-]\d+[ \t]+~?x\d+[ \t]*)+",
+    ),
     ("a model of MOSEK (OPF)", rb"\s*\[(?:comment|variables|objective|constraints|bounds)\b"),
     (
         "a model in the LP language of lp_solve, or a pseudo-Boolean one (OPB)",
@@ -61,6 +66,13 @@ def reads(text: bytes, line: int) -> bool:
     return True
 
 
+def near_header(word: str) -> str | None:
+    """The header that a word is nearly."""
+    from difflib import get_close_matches  # for files that are rejected only
+
+    return next(iter(get_close_matches(word.upper(), HEADERS, 1, _NEAR)), None)
+
+
 # ---- each line
 
 
@@ -88,7 +100,9 @@ def _prefix(lines: list[bytes]) -> _Edited | None:
     if not prefix:
         return None
     without = [line[len(prefix) :] for line in lines]
-    what = f"{len(prefix)} spaces" if not prefix.strip(b" ") else "a tab" if prefix == b"\t" else prefix.decode("latin-1")
+    what = (
+        f"{len(prefix)} spaces" if not prefix.strip(b" ") else "a tab" if prefix == b"\t" else prefix.decode("latin-1")
+    )
     ends = _suffix(without) if prefix.strip() else None
     if ends is not None:
         return ends[0], f"each line starts with {what.strip()}, and ends with {ends[1].split()[-1]}", ""
@@ -145,12 +159,17 @@ def text_before(case: Case) -> Found | None:
     """Lines that are no MPS, before a model."""
     if case.section or case.texts[0] in HEADERS:
         return None
+    is_misspelt = near_header(case.texts[0]) is not None
     place, number = case.line.start, case.line.number
     while (place := case.content.find(b"\n", place) + 1) and number < case.line.number + _MOST_BEFORE:
         number += 1
         if _START.match(case.content, place) and reads(case.content[place : place + _MOST_READ + 1], _LEAST_LINES):
+            if is_misspelt and number == case.line.number + 1:
+                return None
             words = case.content[place : place + 40].split()[0].decode()
-            return Found(f"the model starts in line {number}, with {words}", f"tail -n +{number} FILE", means_other=True)
+            return Found(
+                f"the model starts in line {number}, with {words}", f"tail -n +{number} FILE", means_other=True
+            )
     return None
 
 
@@ -183,14 +202,8 @@ def other_format(case: Case) -> Found | None:
 
 
 def _are_values(head: bytes) -> bool:
-    lines = [line for line in head.split(b"\n")[:_LEAST_LINES * 3] if line.strip() and line[:1] not in b"#*"]
+    lines = [line for line in head.split(b"\n")[: _LEAST_LINES * 3] if line.strip() and line[:1] not in b"#*"]
     return len(lines) >= _LEAST_LINES and all(_VALUE_LINE.fullmatch(line.strip()) for line in lines[1:])
 
 
-RULES: tuple[Rule, ...] = (
-    patch_file,
-    prefixed_lines,
-    basis_file,
-    other_format,
-    second_model,
-)
+RULES: tuple[Rule, ...] = (patch_file, prefixed_lines, basis_file, other_format, second_model)

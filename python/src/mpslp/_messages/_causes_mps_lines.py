@@ -5,16 +5,16 @@ by the small edit after which the line has no error.
 from __future__ import annotations
 
 import re
+from collections.abc import Sequence
 
 from mpslp._messages._case import FOUND, Case, Found
 from mpslp._messages._causes_both import Rule
-from mpslp._messages._causes_mps_files import text_before
+from mpslp._messages._causes_mps_files import near_header, text_before
 from mpslp._messages._mps_edits import Edit
 from mpslp._messages._mps_lines import DATA_SECTIONS, FIELDS, VALUE, is_number
-from mpslp._messages._nearest import nearest
 from mpslp._messages._place import fields_of
 from mpslp._messages._written_out import special_set
-from mpslp._text._mps_words import BOUND_TYPES, HEADERS, MARKER, ROW_TYPES
+from mpslp._text._mps_words import BOUND_TYPES, HEADERS, MARKER, ROW_TYPES, SENSES
 
 _SPACE = "  "
 _OTHER_BOUNDS = {
@@ -24,10 +24,10 @@ _OTHER_BOUNDS = {
 """The types that Xpress reads, and what they declare."""
 _OTHER_HEADERS = {
     **dict.fromkeys(("END", "EOF", "FIN", "STOP"), "ENDATA"),
-    **dict.fromkeys(("SENSE", "MAXMIN", "DIRECTION"), "OBJSENSE"),
+    **dict.fromkeys(("SENSE", "MAXMIN", "DIRECTION", "OBJECTIVE", "OBJ"), "OBJSENSE"),
     **dict.fromkeys(("CONSTRAINTS", "RESTRICTIONS"), "ROWS"),
     **dict.fromkeys(("COLS", "VARIABLES", "VARS"), "COLUMNS"),
-    **dict.fromkeys(("RIGHT", "R.H.S.", "RIGHTHAND", "RIGHTHANDSIDE"), "RHS"),
+    **dict.fromkeys(("RSH", "RIGHT", "R.H.S", "RIGHTHAND", "RIGHTHANDSIDE", "RIGHT-HAND-SIDE"), "RHS"),
     **dict.fromkeys(("LIMITS",), "BOUNDS"),
     **dict.fromkeys(("TITLE", "PROBLEM", "MODEL"), "NAME"),
 }
@@ -46,9 +46,11 @@ def indented_header(case: Case) -> Found | None:
     return Found(mend=header)
 
 
-def header_with_spaces(case: Case) -> Found | None:
-    words = "".join(case.texts)
-    return Found(mend=words) if case.is_header and len(case.texts) > 1 and words in HEADERS else None
+def header_with_marks(case: Case) -> Found | None:
+    """The letters of a header, and spaces or marks."""
+    letters = re.sub("[^A-Z]", "", "".join(case.texts)) if case.is_header else ""
+    is_marked = letters in HEADERS and not any(map(str.islower, "".join(case.texts))) and letters != case.field
+    return Found(mend=letters) if is_marked else None
 
 
 def data_after_header(case: Case) -> Found | None:
@@ -58,7 +60,19 @@ def data_after_header(case: Case) -> Found | None:
     if not is_new or not case.mps.fits(header, texts):
         return None
     mark = case.mark_of(case.fields[1])._replace(end=case.fields[-1].end)
-    return Found(mend=f"{header}", written=f"{header}\n    {_SPACE.join(texts)}", marks=(mark,), moves=True)
+    return Found(written=f"{header}\n    {_SPACE.join(texts)}", marks=(mark,), moves=True)
+
+
+def header_in_line(case: Case) -> Found | None:
+    """A header after the fields of a line, and perhaps a line of its section."""
+    at = next((at for at, text in enumerate(case.texts) if at > 1 and text in HEADERS), None)
+    if at is None or case.is_header or not case.mps.fits(case.section, case.texts[:at]):
+        return None
+    header, rest = case.texts[at], case.texts[at + 1 :]
+    if case.start_of(header) < case.line.start or (rest and not case.mps.fits(header, rest)):
+        return None
+    lines = [f"    {_SPACE.join(case.texts[:at])}", header, *([f"    {_SPACE.join(rest)}"] if rest else [])]
+    return Found(f"{header} is a header", written="\n".join(lines), marks=(case.mark_of(case.fields[at]),), moves=True)
 
 
 # ---- sections
@@ -70,6 +84,14 @@ def lost_header(case: Case) -> Found | None:
     return _of_section(case, section) if section is not None and _goes_on(case, section) else None
 
 
+def word_without_header(case: Case) -> Found | None:
+    """One word before ROWS: a sense, or the name of the objective."""
+    if case.is_header or len(case.texts) != 1 or case.start_of("ROWS") < case.line.start:
+        return None
+    header = "OBJSENSE" if case.texts[0] in SENSES else "OBJNAME" if case.mps.is_used(case.texts[0]) else ""
+    return Found(mend=header) if header and case.start_of(header) == case.line.start else None
+
+
 def other_section(case: Case) -> Found | None:
     """A line of another section, which no small edit makes one of its section."""
     section = _other_section(case)
@@ -78,22 +100,24 @@ def other_section(case: Case) -> Found | None:
 
 def _of_section(case: Case, section: str) -> Found:
     detail = f"it is a line of {section}, and comes {f'in {case.section}' if case.section else 'before any section'}"
-    if case.start_of(section) == case.line.start:
+    mark = case.first_match(rb"(?:^|\n)(" + section.encode() + rb")[ \t\r\n]", end=len(case.content))
+    if mark is None:
         return Found(detail, section)
-    mark = case.first_match(rb"(?:^|\n)(" + section.encode() + rb")[ \t\r\n]")
-    return Found(f"{detail}; {section} is in line {mark.number}" if mark else detail, marks=(mark,) if mark else ())
+    return Found(f"{detail}; {section} is in line {mark.number}", marks=(mark,))
 
 
 def _other_section(case: Case) -> str | None:
-    """Another section of which the fields are a line; one that comes later, if there are several."""
+    """Another section of which the fields are a line: one without a header that may come here, or else one that is
+    elsewhere.
+    """
     if case.is_header:
         return None
     found = [each for each in DATA_SECTIONS if each != case.section and case.mps.fits(each, case.texts)]
+    there = [each for each in found if case.start_of(each) < case.line.start or _is_later(case, each)]
+    lost = [each for each in found if each not in there and not _comes_late(case, each)]
     if case.section == "RHS" and len(case.texts) % 2 == 0:
-        found = [each for each in found if each != "RANGES"]  # it may as well be a line of RHS
-    found = [each for each in found if not _is_later(case, each)] or found
-    unseen = [each for each in found if case.start_of(each) == case.line.start]
-    return next(iter(unseen or found), None)
+        lost = [each for each in lost if each != "RANGES"]  # it may as well be a line of RHS
+    return next(iter(lost or there), None)
 
 
 def _is_later(case: Case, section: str) -> bool:
@@ -103,10 +127,18 @@ def _is_later(case: Case, section: str) -> bool:
 
 def _goes_on(case: Case, section: str) -> bool:
     """Whether the header of a section is nowhere, and the next line is one of it or no line of data."""
-    if _is_later(case, section) or case.start_of(section) < case.line.start or _comes_late(case, section):
+    if _is_later(case, section) or case.start_of(section) < case.line.start:
         return False
     after = case.mps.neighbour(1)
-    return after is None or case.mps.fits(section, [field.text for field in fields_of(after.content)])
+    texts = [] if after is None else [field.text for field in fields_of(after.content)]
+    return after is None or (case.mps.fits(section, texts) and _has_same_set(section, case.texts, texts))
+
+
+def _has_same_set(section: str, texts: Sequence[str], others: Sequence[str]) -> bool:
+    """Whether two lines of RHS or RANGES have the same set, or both have none."""
+    if section not in ("RHS", "RANGES"):
+        return True
+    return len(texts) % 2 == len(others) % 2 and (len(texts) % 2 == 0 or texts[0] == others[0])
 
 
 def _comes_late(case: Case, section: str) -> bool:
@@ -123,7 +155,11 @@ def line_broken(case: Case) -> Found | None:
     texts = [*case.texts, *rest]
     if case.mps.fits(case.section, rest) or not case.mps.fits(case.section, texts):
         return None
-    return Found(f"line {after.number} goes on with it", _SPACE.join(texts)) if case.accepts(" " + " ".join(texts)) else None
+    return (
+        Found(f"line {after.number} goes on with it", _SPACE.join(texts))
+        if case.accepts(" " + " ".join(texts))
+        else None
+    )
 
 
 # ---- the edits of a line
@@ -138,10 +174,18 @@ def misspelt_word(case: Case) -> Found | None:
 
 
 def misspelt_set(case: Case) -> Found | None:
-    found, first = _by_edit(case, "misspelt_set"), case.mps.first_set
+    found, first, after = _by_edit(case, "misspelt_set"), case.mps.first_set, case.mps.neighbour(1)
     if found is None or first is None:
         return None
-    return found._replace(marks=(*found.marks, case.mark_of(first.field, first.line)))
+    marks = (*found.marks, case.mark_of(first.field, first.line))
+    if after is None or case.words not in after.content.decode("latin-1").split():
+        return found._replace(marks=marks)
+    words = f"line {first.line.number} has {first.name}, and this line and the next have {case.words}"
+    return Found(words, case.words, marks=marks, moves=True)
+
+
+def relation_as_type(case: Case) -> Found | None:
+    return _by_edit(case, "relation_as_type")
 
 
 def fields_out_of_order(case: Case) -> Found | None:
@@ -169,13 +213,20 @@ def field_left_out(case: Case) -> Found | None:
 
 
 def field_too_many(case: Case) -> Found | None:
-    return _by_edit(case, "field_too_many")
+    """A field without which the line fits; or one of several."""
+    found, edits = _by_edit(case, "field_too_many"), [each for each in case.edits if each.sort == "field_too_many"]
+    if found is None or len(edits) < 2 or case.texts[edits[0].first] == case.texts[edits[0].first - 1]:
+        return found
+    names = " or ".join(case.texts[each.first] for each in edits)
+    return found._replace(detail=f"{case.mps.expected(case.texts)}; {names} is one too many", mend="")
 
 
 def set_left_out(case: Case) -> Found | None:
     """One line of the section has a set name, and another has none."""
     first, has_set = case.mps.first_set, case.words != "no set name"
-    if first is None or (has_set and first.name is not None):
+    if first is None or (
+        has_set and (first.name is not None or case.mps.kind_of(case.words) or case.words in ROW_TYPES)
+    ):
         return None
     name, field, line = first
     return Found(
@@ -185,14 +236,15 @@ def set_left_out(case: Case) -> Found | None:
 
 def _by_edit(case: Case, sort: str) -> Found | None:
     """What is said if the most probable edit is of a sort."""
-    if not case.edits or case.edits[0].sort != sort or (case.is_header and sort != "stray_mark"):
+    if not case.edits or case.edits[0].sort != sort:
         return None
     edit = case.edits[0]
+    if case.is_header and (edit.first or sort not in ("stray_mark", "field_too_many")):
+        return None
     mark = case.mark_of(case.fields[edit.first])._replace(end=case.fields[edit.end - 1].end)
-    lines = [_SPACE.join(texts) for texts in (edit.texts, edit.rest) if texts]
-    return Found(
-        _detail(case, edit), lines[0], marks=(mark,), moves=True, written="\n".join(lines) if edit.rest else ""
-    )
+    lines = [_SPACE.join(texts) for texts in edit.lines]
+    written = "\n".join(lines) if edit.more else ""
+    return Found(_detail(case, edit), "" if written else lines[0], marks=(mark,), moves=True, written=written)
 
 
 def _detail(case: Case, edit: Edit) -> str:
@@ -269,7 +321,8 @@ def data_before_header(case: Case) -> Found | None:
 
 def mps_order(case: Case) -> Found | None:
     if not case.is_header:
-        return Found(f"{case.section} has no lines of data here")
+        is_word = case.section in ("OBJSENSE", "OBJNAME")
+        return Found(f"{case.section} has {'its word already' if is_word else 'no lines of data'}")
     return Found(f"{case.field} comes after {case.section}" if case.section else f"{case.field} is the first section")
 
 
@@ -290,23 +343,30 @@ def data_in_first_column(case: Case) -> Found | None:
 
 
 def misspelt_keyword(case: Case) -> Found | None:
-    if len(case.fields) > 2:
+    words = [text.upper().strip(":;,.") for text in case.texts]
+    if not case.is_header:
         return None
-    found = _OTHER_HEADERS.get(case.field.upper()) or nearest(case.field.upper(), HEADERS)
+    found = _OTHER_HEADERS.get("".join(words))
+    if found is None and len(words) <= 2:
+        found = next((each for each in HEADERS if each in words), None) or _OTHER_HEADERS.get(words[0])
+        found = found or near_header(words[0])
     return None if found is None else Found(mend=found)
 
 
 RULES: tuple[Rule, ...] = (
     indented_header,
-    header_with_spaces,
+    header_with_marks,
     data_after_header,
     special_sets_section,
+    header_in_line,
     truncated,
     lost_header,
+    word_without_header,
     line_broken,
     stray_mark,
     misspelt_word,
     misspelt_set,
+    relation_as_type,
     fields_out_of_order,
     glued_fields,
     name_split,

@@ -49,7 +49,7 @@ def named(case: Case) -> Found:
 
 def _mps_line_of(case: Case, name: str) -> Mark | None:
     """The last line that has the name: it is in BOUNDS, RANGES or RHS if there is one."""
-    pattern = rb"\n[ \t][^\n]*?[ \t](" + re.escape(name.encode("latin-1")) + rb")(?=[ \t\r\n])"
+    pattern = rb"\n(?=[ \t])[^\n]*?[ \t](" + re.escape(name.encode("latin-1")) + rb")(?=[ \t\r\n])"
     start = case.start_of("ROWS" if case.kind in _ROW_KINDS else "COLUMNS")
     return _last_mark(case, pattern, start)
 
@@ -136,10 +136,10 @@ def first_entry(case: Case) -> Found:
 
 
 def first_rhs(case: Case) -> Found:
-    """The first line with the row; without a section RANGES the second one may be of it."""
+    """The first line with the row; without names of sets and a section RANGES the second one may be of it."""
     found = first_entry(case)
-    has_ranges = re.search(rb"(?m)^RANGES\b", case.content) is not None
-    note = "" if has_ranges else "; if this is a range, the header RANGES is missing before it"
+    is_sure = len(case.fields) % 2 == 1 or re.search(rb"\nRANGES[ \t\r\n]", case.content) is not None
+    note = "" if is_sure else "; if this is a range, the header RANGES is missing before it"
     return found._replace(detail=f"{found.detail}{note}") if found.detail else found
 
 

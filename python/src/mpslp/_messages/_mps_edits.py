@@ -7,15 +7,26 @@ from collections.abc import Iterator, Sequence
 from functools import partial
 from typing import NamedTuple
 
-from mpslp._messages._mps_lines import COLUMN, DATA_SECTIONS, SET, MpsLines, Slot, Written, is_number
+from mpslp._messages._mps_lines import (
+    COLUMN,
+    DATA_SECTIONS,
+    ROW,
+    SECTIONS_WITH_SETS,
+    SET,
+    MpsLines,
+    Slot,
+    Written,
+    is_number,
+)
 from mpslp._messages._nearest import nearest
-from mpslp._text._mps_words import BOUND_TYPES, ROW_TYPES
+from mpslp._text._mps_words import BOUND_TYPES, ROW_TYPES, SENSES
 
 _MOST_FIELDS = 12
 _MOST_LETTERS = 60
 """Lines and fields that are longer are no lines of a model that a small edit mends."""
 _MARKS = ",;|:'\"`()[]{}<>=&*#!%\\~$?"
 _BETWEEN = re.compile(r"[=,;|:/&#*~]+")
+_TURNED = str.maketrans("<>", "><")
 _JOINED_BY = ("_", "", "-", ".")
 
 Texts = tuple[str, ...]
@@ -34,17 +45,32 @@ class Edit(NamedTuple):
     """After the last one."""
     words: str
     """What is wrong with the line."""
-    rest: Texts = ()
-    """The fields of a second line."""
+    more: tuple[Texts, ...] = ()
+    """The fields of further lines."""
+
+    @property
+    def lines(self) -> tuple[Texts, ...]:
+        return self.texts, *self.more
 
 
 def edits(lines: MpsLines, texts: Sequence[str]) -> Iterator[Edit]:
     """Edits after which the fields of a line fit its section, the most probable first."""
-    if lines.section not in DATA_SECTIONS or not 0 < len(texts) <= _MOST_FIELDS:
+    if lines.section not in (*DATA_SECTIONS, "OBJSENSE") or not 0 < len(texts) <= _MOST_FIELDS:
         return
-    for make in (_without_marks, _misspelt, _in_order, _split, _twice, _two, _joined, _text_after, _with_field, _without_field):
+    for make in (
+        _without_marks,
+        _misspelt,
+        _in_order,
+        _split,
+        _twice,
+        _two,
+        _joined,
+        _text_after,
+        _with_field,
+        _without_field,
+    ):
         for edit in make(lines, tuple(texts)):
-            if lines.fits(lines.section, edit.texts) and (not edit.rest or lines.fits(lines.section, edit.rest)):
+            if all(lines.fits(lines.section, each) for each in edit.lines):
                 yield edit
 
 
@@ -74,7 +100,9 @@ def _between_marks(lines: MpsLines, text: str) -> list[str]:
 
 
 def _stripped(lines: MpsLines, text: str) -> str:
-    return text if lines.kind_of(text) else text.strip(_MARKS)
+    if lines.kind_of(text):
+        return text
+    return text.strip(_MARKS) if any(map(str.isalnum, text)) else ""
 
 
 # ---- other words
@@ -119,19 +147,43 @@ def _has(text: str, letters: str) -> bool:
 
 def _misspelt(lines: MpsLines, texts: Texts) -> Iterator[Edit]:
     """A type or a set that is written in another way."""
-    if lines.section in ("ROWS", "BOUNDS") and (meant := type_meant(lines.section, texts[0])) is not None:
-        yield Edit("misspelt_word", (meant, *texts[1:]), 0, 1, f"{texts[0]} is no type; the nearest one is {meant}")
-    at = 1 if lines.section == "BOUNDS" else 0
-    if lines.section in ("RHS", "RANGES", "BOUNDS") and lines.first_set is not None and len(texts) > at:
-        name, _, line = lines.first_set
-        if name is not None and (name.lower() == texts[at].lower() or nearest(texts[at], [name]) is not None):
-            yield Edit(
-                "misspelt_set",
-                (*texts[:at], name, *texts[at + 1 :]),
-                at,
-                at + 1,
-                f"{texts[at]} here, and {name} in line {line.number}",
-            )
+    if lines.section in ("ROWS", "BOUNDS"):
+        yield from _other_type(lines, texts)
+    if lines.section in SECTIONS_WITH_SETS:
+        yield from _other_set(lines, texts)
+
+
+def _other_type(lines: MpsLines, texts: Texts) -> Iterator[Edit]:
+    if (meant := type_meant(lines.section, texts[0])) is not None:
+        words = f"{texts[0]} is no type; the nearest one is {meant}"
+        yield Edit("misspelt_word", (meant, *texts[1:]), 0, 1, words)
+    relations = [at for at, text in enumerate(texts) if at and re.fullmatch("[<>=]+", text)]
+    if len(relations) == 1:
+        yield from _relation(lines, texts, relations[0])
+    elif len(relations) == 2 and len(texts) == 5:
+        (lower, _, column, _, upper) = texts
+        more = (("UP", column, upper),)
+        yield Edit("relation_as_type", ("LO", column, lower), 1, 4, "MPS has one line for each bound", more)
+
+
+def _relation(lines: MpsLines, texts: Texts, at: int) -> Iterator[Edit]:
+    """A relation of LP after the name of a row, or between a column and a number."""
+    rest = (*texts[:at], *texts[at + 1 :])
+    is_number_first = len(rest) == 2 and is_number(rest[0])
+    relation = texts[at].translate(_TURNED) if is_number_first else texts[at]
+    meant = type_meant(lines.section, relation)
+    if meant is not None:
+        words = f"{texts[at]} is {meant} in MPS, which comes first"
+        yield Edit("relation_as_type", (meant, *(rest[::-1] if is_number_first else rest)), at, at + 1, words)
+
+
+def _other_set(lines: MpsLines, texts: Texts) -> Iterator[Edit]:
+    at, first = 1 if lines.section == "BOUNDS" else 0, lines.first_set
+    if first is None or first.name is None or len(texts) <= at:
+        return
+    if first.name.lower() == texts[at].lower() or nearest(texts[at], [first.name]) is not None:
+        words = f"{texts[at]} here, and {first.name} in line {first.line.number}"
+        yield Edit("misspelt_set", (*texts[:at], first.name, *texts[at + 1 :]), at, at + 1, words)
 
 
 # ---- order
@@ -156,21 +208,30 @@ def _split(lines: MpsLines, texts: Texts) -> Iterator[Edit]:
     """Two fields without a space between them, or with another mark."""
     for at, text in enumerate(texts):
         if len(text) <= _MOST_LETTERS and not is_number(text):
-            for parts in filter(partial(_is_plausible, lines, text), _parts_of(text)):
+            for parts in filter(partial(_is_plausible, lines, text), _parts_of(lines, text)):
                 whole = (*texts[:at], *parts, *texts[at + 1 :])
-                yield Edit("glued_fields", whole, at, at + 1, f"{text} is {parts[0]} and {parts[1]}")
+                yield Edit("glued_fields", whole, at, at + 1, f"{text} is {' and '.join(parts)}")
 
 
-def _is_plausible(lines: MpsLines, text: str, parts: tuple[str, str]) -> bool:
+def _is_plausible(lines: MpsLines, text: str, parts: Texts) -> bool:
     """Whether a row that is new is used in the text, and its name with the type before it is not."""
     return lines.section != "ROWS" or (lines.is_used(parts[1]) and not lines.is_used(text))
 
 
-def _parts_of(text: str) -> Iterator[tuple[str, str]]:
+def _parts_of(lines: MpsLines, text: str) -> Iterator[Texts]:
+    """Two fields of which a word may consist, or three: those of which more are declared first."""
     if (match := _BETWEEN.search(text, 1)) is not None and match.end() < len(text):
         yield text[: match.start()], text[match.end() :]
-    # A long number at the end is more probable than a short one after a name with digits.
-    yield from ((text[:at], text[at:]) for at in range(1, len(text)))
+    two = [(text[:at], text[at:]) for at in range(1, len(text))]
+    if lines.section == "COLUMNS":
+        two += [(one.rstrip("_-."), other) for one, other in two if one[-1] in "_-." and other in lines.rows]
+    known = [parts for parts in two if _is_known(lines, parts[0])]
+    yield from (*known, *(parts for parts in two if parts not in known))
+    yield from ((one, rest[:at], rest[at:]) for one, rest in known for at in range(1, len(rest)))
+
+
+def _is_known(lines: MpsLines, text: str) -> bool:
+    return text in lines.near_columns or bool(lines.kind_of(text))
 
 
 def _joined(lines: MpsLines, texts: Texts) -> Iterator[Edit]:
@@ -178,14 +239,22 @@ def _joined(lines: MpsLines, texts: Texts) -> Iterator[Edit]:
     for at in range(len(texts) - 1):
         for between in _JOINED_BY:
             name = texts[at] + between + texts[at + 1]
-            if _is_one(lines, name) or (not between and is_number(name) and not name.isdigit()):
+            if _is_one(lines, name) or (not between and _is_one_number(texts[at], texts[at + 1])):
                 whole = (*texts[:at], name, *texts[at + 2 :])
                 yield Edit("name_split", whole, at, at + 2, f"{texts[at]} {texts[at + 1]} is {name}")
     yield from _new_name(lines, texts)
 
 
+def _is_one_number(first: str, second: str) -> bool:
+    """Whether two fields that are no numbers by themselves are one, or a whole number and its decimals."""
+    is_number_each = is_number(first) and is_number(second) and second[0] != "."
+    return is_number(first + second) and not is_number_each
+
+
 def _is_one(lines: MpsLines, name: str) -> bool:
     """Whether a name is declared, or is used after a line of ROWS that may declare it."""
+    if lines.section == "OBJSENSE":
+        return name in SENSES
     names = (lines.rows, lines.columns, lines.near_columns)
     return any(name in each for each in names) or (lines.section == "ROWS" and lines.is_used(name))
 
@@ -194,7 +263,9 @@ def _new_name(lines: MpsLines, texts: Texts) -> Iterator[Edit]:
     """A new name with a space, which is the first one of COLUMNS or the last one of ROWS."""
     first, end = (0, 2) if lines.section == "COLUMNS" else (1, len(texts))
     parts = texts[first:end]
-    if lines.section in ("ROWS", "COLUMNS") and len(parts) > 1 and not any(map(lines.kind_of, parts)):
+    if lines.section in ("ROWS", "COLUMNS") and len(parts) > 1 and not any(map(lines.kind_of, parts[:1] + parts[2:])):
+        if lines.kind_of(parts[1]) not in ("", "a row type"):
+            return
         name = ("" if parts[1][0] in "([" else "_").join(parts)
         yield Edit("name_split", (*texts[:first], name, *texts[end:]), first, end, f"{' '.join(parts)} is one name")
 
@@ -210,8 +281,23 @@ def _twice(lines: MpsLines, texts: Texts) -> Iterator[Edit]:
 
 
 def _two(lines: MpsLines, texts: Texts) -> Iterator[Edit]:
+    """Several lines in one."""
     for at in range(2, len(texts) - 1):
-        yield Edit("lines_in_one", texts[:at], at, len(texts), f"{texts[at]} starts another line", texts[at:])
+        if lines.fits(lines.section, texts[:at]):
+            for more in _lines_of(lines, texts[at:]):
+                words = f"{texts[at]} starts another line"
+                if lines.section == "COLUMNS" and texts[at] not in (texts[0], *lines.near_columns):
+                    words += f", or {texts[at]} is one too many"
+                yield Edit("lines_in_one", texts[:at], at, len(texts), words, more)
+
+
+def _lines_of(lines: MpsLines, texts: Texts) -> Iterator[tuple[Texts, ...]]:
+    """The ways in which fields are lines of the section."""
+    if lines.fits(lines.section, texts):
+        yield (texts,)
+    for at in range(2, len(texts) - 1):
+        if lines.fits(lines.section, texts[:at]):
+            yield from ((texts[:at], *more) for more in _lines_of(lines, texts[at:]))
 
 
 def _text_after(lines: MpsLines, texts: Texts) -> Iterator[Edit]:
@@ -230,16 +316,13 @@ def _with_field(lines: MpsLines, texts: Texts) -> Iterator[Edit]:
 
 
 def _inserted(lines: MpsLines, texts: Texts, at: int, slot: Slot) -> Iterator[Edit]:
-    left = (*texts[:at], written(lines, slot), *texts[at:])
     where = f"after {texts[at - 1]}" if at else f"before {texts[0]}"
-    yield Edit("field_left_out", left, max(at - 1, 0), max(at, 1), f"{where} {slot.expected} is missing")
-
-
-def written(lines: MpsLines, slot: Slot) -> str:
-    """What is written for a field that is left out, as far as it is known."""
-    if slot is COLUMN and lines.near_columns:
-        return lines.near_columns[0]
-    return Written(slot.written)
+    for text in (*(lines.near_columns if slot is COLUMN else ()), Written(slot.written)):
+        left = (*texts[:at], text, *texts[at:])
+        words = f"{where} {slot.expected} is missing"
+        if slot is ROW and is_number(texts[at - 1]):
+            words += f", or {texts[at - 1]} and {texts[at]} are one number, or one of them is too many"
+        yield Edit("field_left_out", left, max(at - 1, 0), max(at, 1), words)
 
 
 def _without_field(lines: MpsLines, texts: Texts) -> Iterator[Edit]:

@@ -3,13 +3,13 @@
 from __future__ import annotations
 
 import re
-from collections.abc import Iterator, Sequence
+from collections.abc import Iterable, Iterator, Sequence
 from functools import cached_property
 from operator import itemgetter
 from typing import NamedTuple
 
 from mpslp._messages._place import NUMBER, Field, fields_of
-from mpslp._text._lines import Line, line_with
+from mpslp._text._lines import Line
 from mpslp._text._mps_words import BOUND_TYPES, HEADERS, MARKER, MARKERS, ROW_TYPES, SENSES, UNVALUED
 
 
@@ -40,6 +40,7 @@ class Written(str):
 
 _WORDS = {ROW_TYPE: ROW_TYPES, BOUND_TYPE: tuple(BOUND_TYPES), SENSE: SENSES}
 _RANGE_SET = re.compile(r"R(?:N?GS?|ANGES?)?_?\d*", re.IGNORECASE)
+_MOST_WORDS = 1_000
 _PAIR: Shape = (ROW, VALUE)
 _COLUMN_SHAPES: Sequence[Shape] = ((COLUMN, *_PAIR), (COLUMN, *_PAIR, *_PAIR))
 _WITH_SET: Sequence[Shape] = ((SET, *_PAIR), (SET, *_PAIR, *_PAIR))
@@ -74,31 +75,35 @@ class MpsLines:
         self._line = line
         self.section = section
         self._first_sets: dict[str, FirstSet | None] = {}
+        self._starts: dict[str, int] = {}
 
     def start_of(self, section: str) -> int:
         """The place of the line end before the header of a section; that of the line if it comes later."""
-        return start_of(self._content, section, self._line.start)
+        if section not in self._starts:
+            self._starts[section] = _start_of(self._content, section, self._line.start)
+        return self._starts[section]
 
     @cached_property
     def rows(self) -> frozenset[str]:
         """The rows that are declared before the line."""
-        start = self.start_of("ROWS")
-        text = self._content[start : self.start_of("COLUMNS")].decode("latin-1")
-        return frozenset(re.findall(r"\n[ \t]+\S+[ \t]+(\S+)", text))
+        return frozenset(self._fields_between("ROWS", ["COLUMNS"], r"\n[ \t]+\S+[ \t]+(\S+)"))
 
     @cached_property
     def columns(self) -> frozenset[str]:
-        """The columns that are declared before the line."""
-        start = self.start_of("COLUMNS")
-        end = min(self.start_of(section) for section in ("RHS", "RANGES", "BOUNDS"))
-        text = self._content[start:end].decode("latin-1")
-        return frozenset(re.findall(r"\n[ \t]+(\S+)[ \t]+(?![ \t]|'MARKER')", text))
+        """The columns that are declared before the line, and the names of markers."""
+        return frozenset(self._fields_between("COLUMNS", SECTIONS_WITH_SETS, r"\n[ \t]+(\S+)"))
+
+    def _fields_between(self, section: str, others: Iterable[str], pattern: str) -> list[str]:
+        """A field of each line of a section before the line, which one of the others ends."""
+        end = min(self.start_of(each) for each in others)
+        text: list[str] = re.findall(pattern, self._content[self.start_of(section) : end].decode("latin-1"))
+        return text
 
     def neighbour(self, step: int) -> Line | None:
         """The next line of data in a direction, if it is in the same section."""
         place = self._next_place(self._line.start, step)
         while place is not None:
-            line = line_with(self._content, place)
+            line = self._line_from(place)
             if line.content.strip() and line.content[:1] != b"*":
                 return line if line.content[:1] in (b" ", b"\t") else None
             place = self._next_place(place, step)
@@ -109,6 +114,14 @@ class MpsLines:
         if step < 0:
             return None if place == 0 else self._content.rfind(b"\n", 0, place - 1) + 1
         return self._content.find(b"\n", place) + 1 or None
+
+    def _line_from(self, start: int) -> Line:
+        """The line that starts at a place, which is found by the lines between it and this one."""
+        first, last = sorted((start, self._line.start))
+        between = self._content.count(b"\n", first, last)
+        end = self._content.find(b"\n", start)
+        content = self._content[start:] if end < 0 else self._content[start:end].removesuffix(b"\r")
+        return Line(self._line.number + (between if start > self._line.start else -between), start, content)
 
     @cached_property
     def near_columns(self) -> tuple[str, ...]:
@@ -133,7 +146,7 @@ class MpsLines:
         match = re.compile(rb"\n[ \t]+\S[^\n]*").search(self._content, start, self._line.start)
         if section not in SECTIONS_WITH_SETS or match is None:
             return None
-        line = line_with(self._content, match.start() + 1)
+        line = self._line_from(match.start() + 1)
         fields = fields_of(line.content)
         if section == "BOUNDS":
             has_set = len(fields) > (2 if fields[0].text in UNVALUED else 3)
@@ -141,9 +154,16 @@ class MpsLines:
         return FirstSet(fields[0].text if len(fields) % 2 else None, fields[0], line)
 
     def is_used(self, name: str) -> bool:
-        """Whether a name is a field of a line after this one."""
-        field = rb"[ \t]" + re.escape(name.encode("latin-1")) + rb"[ \t\r\n]"
-        return re.compile(field).search(self._content, self._line.start + len(self._line.content)) is not None
+        """Whether a name is a field of a line after this one, as far as it is not within many other words."""
+        word, place = name.encode("latin-1"), self._line.start + len(self._line.content)
+        for _ in range(_MOST_WORDS):
+            place = self._content.find(word, place + 1)
+            if place < 0:
+                return False
+            after = self._content[place + len(word) : place + len(word) + 1]
+            if self._content[place - 1 : place] in (b" ", b"\t") and after in (b" ", b"\t", b"\r", b"\n"):
+                return True
+        return False
 
     # ---- what fits
 
@@ -190,10 +210,13 @@ class MpsLines:
         return self._is_name(section, slot, text)
 
     def _is_name(self, section: str, slot: Slot, text: str) -> bool:
+        # A line of another section may have a name that is declared after it.
         if slot is ROW:
-            return text in self.rows
+            return text in self.rows or (section != self.section == "ROWS" and self.is_used(text))
         if slot is BOUND_COLUMN:
-            return text in self.columns
+            return text in self.columns or (section != self.section == "COLUMNS" and self.is_used(text))
+        if not any(map(str.isalnum, text)):
+            return False
         if slot is NEW_ROW:
             return text not in self.rows and not is_number(text) and text not in ROW_TYPES
         if section != self.section and self.start_of(section) < self._line.start:
@@ -206,7 +229,7 @@ class MpsLines:
             return text == first.name
         if section == "RANGES" and section != self.section:
             return _RANGE_SET.fullmatch(text) is not None
-        return text in ("RHS", "BOUNDS", "RANGES") or not self.kind_of(text)
+        return text in SECTIONS_WITH_SETS or (any(map(str.isalnum, text)) and not self.kind_of(text))
 
     def fits(self, section: str, texts: Sequence[str]) -> bool:
         """Whether fields are a line of a section."""
@@ -233,6 +256,8 @@ class MpsLines:
             return " and ".join(f"a {name}" for name in names)
         if text in BOUND_TYPES:
             return "a bound type"
+        if text in ROW_TYPES and self.section == "ROWS":
+            return "a row type"
         if text in HEADERS:
             return "a section header"
         if text == MARKER or text in MARKERS:
@@ -268,7 +293,7 @@ class MpsLines:
         return f"{words}, where {'the line ends' if slot is None else f'{slot.expected} is expected'}"
 
 
-def start_of(content: bytes, section: str, end: int) -> int:
+def _start_of(content: bytes, section: str, end: int) -> int:
     """The place of the line end before the header of a section; the end if it comes later."""
     if re.match(section.encode() + rb"[ \t\r\n]", content):
         return 0
