@@ -1,5 +1,5 @@
-"""Rules for whole files that are nearly MPS: with a prefix on each line, with text before the model, with two models; and
-for files of other formats that start as MPS does.
+"""Rules for whole files that are nearly MPS: with a prefix on each line, with text before the model, with two models;
+and for files of other formats that start as MPS does.
 """
 
 from __future__ import annotations
@@ -44,7 +44,8 @@ _FORMATS = (
     ("a stochastic model (SMPS)", rb"(?:\*[^\n]*\n)*(?:TIME|STOCH)[ \t]+\S"),
     (
         "the solution of a solver",
-        rb"(?i)\s*(?:problem(?: name)?:|status:|model status|model name|result\b|optimal\b|objective value|value of objective|"
+        rb"(?i)\s*(?:problem(?: name)?:|status:|model status|model name|result\b|optimal\b|objective value|"
+        rb"value of objective|"
         rb"actual values|solution\b|solution file|primal (?:solution|objective)|# *primal|=obj=|no\.[ \t]+row name|"
         rb"column name|variable name|\"?(?:variable|column|name)\"?[ \t,;]+\"?value)",
     ),

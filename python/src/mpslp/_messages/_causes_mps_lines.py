@@ -1,5 +1,5 @@
-"""Rules for MPS: each recognises a cause of docs/errors.tsv, which has its name, by what the fields of the line are, and
-by the small edit after which the line has no error.
+"""Rules for MPS: each recognises a cause of docs/errors.tsv, which has its name, by what the fields of the line are,
+and by the small edit after which the line has no error.
 """
 
 from __future__ import annotations
