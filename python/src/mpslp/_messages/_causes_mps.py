@@ -25,7 +25,7 @@ def is_number(text: str) -> bool:
 def unquoted_marker(case: Case) -> Found | None:
     """The last field is INTORG or INTEND in any spelling, and the line is no marker for mpslp."""
     texts = [text.strip("'\"`").upper() for text in case.texts]
-    end = next((each for each in MARKERS if texts[-1] == each.strip("'")), None)
+    end = next((each for each in MARKERS if each.strip("'") in (texts[-1], "".join(texts[-2:]))), None)
     if end is None or (MARKER in case.texts and case.texts[-1] == end):
         return None
     name = "M" if texts[0].startswith("MARK") and case.texts[0][0] in "'\"`" else case.texts[0]

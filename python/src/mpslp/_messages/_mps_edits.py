@@ -264,7 +264,7 @@ def _new_name(lines: MpsLines, texts: Texts) -> Iterator[Edit]:
     first, end = (0, 2) if lines.section == "COLUMNS" else (1, len(texts))
     parts = texts[first:end]
     if lines.section in ("ROWS", "COLUMNS") and len(parts) > 1 and not any(map(lines.kind_of, parts[:1] + parts[2:])):
-        if lines.kind_of(parts[1]) not in ("", "a row type"):
+        if lines.kind_of(parts[1]) not in ("", "a row type") or (first and any(map(lines.is_used, parts))):
             return
         name = ("" if parts[1][0] in "([" else "_").join(parts)
         yield Edit("name_split", (*texts[:first], name, *texts[end:]), first, end, f"{' '.join(parts)} is one name")
@@ -303,7 +303,8 @@ def _lines_of(lines: MpsLines, texts: Texts) -> Iterator[tuple[Texts, ...]]:
 def _text_after(lines: MpsLines, texts: Texts) -> Iterator[Edit]:
     for at in range(len(texts) - 1, 1, -1):
         rest = texts[at:]
-        if not any(lines.kind_of(part) for text in rest for part in (text, *_BETWEEN.split(text))):
+        is_row = lines.section == "ROWS" and any(map(lines.is_used, rest))
+        if not is_row and not any(lines.kind_of(part) for text in rest for part in (text, *_BETWEEN.split(text))):
             yield Edit("text_after_fields", texts[:at], at, len(texts), f"{' '.join(rest)} is no field of the line")
 
 
@@ -326,7 +327,10 @@ def _inserted(lines: MpsLines, texts: Texts, at: int, slot: Slot) -> Iterator[Ed
 
 
 def _without_field(lines: MpsLines, texts: Texts) -> Iterator[Edit]:
+    used = [text for text in texts if lines.section == "ROWS" and lines.is_used(text)]
     for at in range(len(texts)):
+        if [texts[at]] == used:
+            continue
         words = f"field {at + 1}, {texts[at]}, is one too many"
         if lines.section == "ROWS" and is_number(texts[at]):
             words += "; a number of a row is in RHS"

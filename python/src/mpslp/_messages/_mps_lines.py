@@ -214,7 +214,8 @@ class MpsLines:
         if slot is ROW:
             return text in self.rows or (section != self.section == "ROWS" and self.is_used(text))
         if slot is BOUND_COLUMN:
-            return text in self.columns or (section != self.section == "COLUMNS" and self.is_used(text))
+            is_before = section != self.section and self.section in ("ROWS", "COLUMNS")
+            return text in self.columns or (is_before and self.is_used(text))
         if not any(map(str.isalnum, text)):
             return False
         if slot is NEW_ROW:
