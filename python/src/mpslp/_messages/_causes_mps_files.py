@@ -71,7 +71,7 @@ def near_header(word: str) -> str | None:
     """The header that a word is nearly."""
     from difflib import get_close_matches  # for files that are rejected only
 
-    return next(iter(get_close_matches(word.upper(), HEADERS, 1, _NEAR)), None) if word[0].isalpha() else None
+    return next(iter(get_close_matches(word.upper(), HEADERS, 1, _NEAR)), None) if word[:1].isalpha() else None
 
 
 # ---- each line
