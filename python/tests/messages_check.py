@@ -39,8 +39,8 @@ REJECTED = 2
 MODULES = _text.MODULES
 COLUMNS = ("format", "text", "command", "message", "marked", "cause", "fix", "mended", "mended format")
 BETWEEN = " | "
-PLACEHOLDER = re.compile(r"\b(?:M|UPPER)\b|^\.\.\.$")
-"""What a message writes for a number that the file does not have, or for more lines."""
+PLACEHOLDER = re.compile(r"\b(?:M|UPPER|NUMBER|ROW|TYPE|COLUMN|FILE)\b|^\.\.\.$")
+"""What a message writes for a number or a name that the file does not have, for more lines, or in a command."""
 CODE = re.compile(r" +\d+ \| (.*)")
 CARETS = re.compile(r" +\| ([ ^]+)")
 

@@ -485,7 +485,6 @@ FAMILIES = {
         *tails(
             "SOS\n S1 SOS s1\n    SOS X 1\n    SOS Y 2",
             "SOS2\n S2 SOS s2\n    SOS X 1\n    SOS Y 2",
-            "SETS\n S1 s1\n    s1 X 1",
             "SOS\n S1 s1\n    X 1\n    Y 2",
         ),
     ],
@@ -506,7 +505,15 @@ FAMILIES = {
         *tails("INDICATORS\n IF LIM1 X 1"),
     ],
     "usual: sections": [
-        *tails("BRANCH\n UP X 1", "PRIORITY\n X 1", "OPTIONS\n X", "START\n X 1", "DIRECTIVES\n X 1", "BASIS\n X")
+        *tails(
+            "BRANCH\n UP X 1",
+            "LAZYCONS\n L  CUT",
+            "PRIORITY\n X 1",
+            "OPTIONS\n X",
+            "START\n X 1",
+            "DIRECTIVES\n X 1",
+            "BASIS\n X",
+        )
     ],
     # ---- MPS
     "misspelt-keyword": [
@@ -528,7 +535,7 @@ FAMILIES = {
         *tails("BOUNDS\nUP BND X 4", "RANGES\nRNG LIM1 4"),
         mps(rhs="RHS  LIM1  4"),
     ],
-    "usual: types": [
+    "misspelt-word": [
         mps(rows=" n  COST\n l  LIM1\n g  MYG"),
         mps(rows=" N  COST\n <=  LIM1\n G  MYG"),
         mps(rows=" N  COST\n LE  LIM1\n G  MYG"),
@@ -539,22 +546,122 @@ FAMILIES = {
             "BOUNDS\n UB BND X 4",
             "BOUNDS\n BIN BND X",
             "BOUNDS\n FREE BND X",
-            "BOUNDS\n INT BND X",
             "BOUNDS\n <= BND X 4",
             "BOUNDS\n EQ BND X 4",
-            "BOUNDS\n BN BND X",
         ),
     ],
-    "missing-field": [
-        *columns("    X  COST", "    X", "    X  COST  1  LIM1"),
+    "usual: types": tails("BOUNDS\n INT BND X", "BOUNDS\n BN BND X"),
+    "unsupported-bound": tails("BOUNDS\n SI BND X 4", "BOUNDS\n PI BND X 4"),
+    "field-left-out": [
+        *columns(
+            "    X  COST", "    X  COST  1  LIM1", "    X  1", "    X  COST  1  4", "    X  1  LIM1  1", "    COST  1"
+        ),
         mps(rows=" N  COST\n LIM1\n G  MYG"),
-        mps(rhs="    RHS"),
-        *tails("BOUNDS\n UP", "BOUNDS\n UP X\n FR BND Y"),
+        mps(rhs="    RHS  4"),
+        mps(rhs="    RHS  LIM1"),
+        *tails("BOUNDS\n UP X\n FR BND Y", "BOUNDS\n UP BND X 4\n UP BND 4", "BOUNDS\n BND X 4", "RANGES\n    RNG  4"),
     ],
-    "shifted-fields": [
-        *columns("    X  COST  1  as agreed"),
-        mps(rows=" N  COST\n L  LIM1\n G  MYG", rhs="    RHS  LIM 1  4"),
+    "usual: fields": [*columns("    X"), mps(rhs="    RHS"), *tails("BOUNDS\n UP")],
+    "field-too-many": [
+        *columns("    X  COST  1  1", "    X  COST  1  1  LIM1  1", "    X  X  COST  1"),
+        mps(rows=" N  COST\n L  LIM1  4\n G  MYG"),
+        mps(rhs="    RHS  LIM1  4  4"),
+        *tails("BOUNDS\n UP BND X 4 4"),
     ],
+    "text-after-fields": [*columns("    X  COST  1  as agreed"), *tails("BOUNDS\n UP BND X 4 per day")],
+    "name-split": [
+        *columns("    my X  COST  1  LIM1  1\n    Y  COST  1", "    X  COST  1  LIM 1  1", "    X  COST  1 .5"),
+        mps(rows=" N  COST\n L  LIM 1\n G  MYG"),
+        mps(rhs="    RHS  LIM 1  4"),
+    ],
+    "fields-out-of-order": [
+        *columns(
+            "    X  1  COST", "    COST  X  1", "    X  COST  1  1  LIM1", "    'MARKER'  M  'INTORG'\n    X  COST  1"
+        ),
+        mps(rows=" N  COST\n LIM1  L\n G  MYG"),
+        mps(rhs="    LIM1  4  MYG  1\n    1  COST"),
+        *tails(
+            "BOUNDS\n UP BND X 4\n UP Y BND 4", "BOUNDS\n UP BND 4 X", "BOUNDS\n BND X 4 UP", "RANGES\n    RNG 4 LIM1"
+        ),
+    ],
+    "glued-fields": [
+        *columns("    XCOST  1\n    X  LIM1  1", "    X  COST1", "    X  COST  1LIM1  1"),
+        mps(rows=" N  COST\n LLIM1\n G  MYG"),
+        mps(rhs="    RHS  LIM14"),
+        *tails("BOUNDS\n UPBND X 4", "BOUNDS\n UP BND Y 1\n UP BNDX 4", "BOUNDS\n UP BND X4"),
+    ],
+    "stray-mark": [
+        *columns("    X  COST  1,", "    | X | COST | 1 |", "    X  COST=1", '    "X"  "COST"  "1"', "    X  1*COST"),
+        mps(rows=" N  COST\n| L | LIM1 |\n G  MYG"),
+        mps(rhs="    RHS  LIM1=4  MYG=1"),
+        *tails("BOUNDS\n UP BND X (4)", "BOUNDS\n UP BND X; 4"),
+    ],
+    "lines-in-one": [
+        *columns("    X  COST  1  LIM1  1  Y  COST  1"),
+        mps(rows=" N  COST  L  LIM1\n G  MYG"),
+        *tails("BOUNDS\n UP BND X 4 UP BND Y 3"),
+    ],
+    "line-broken": [*columns("    X  COST\n    1", "    X  COST  1  LIM1\n    1"), *tails("BOUNDS\n UP BND X\n 4")],
+    "misspelt-set": [
+        mps(rhs="    RHS  LIM1  4\n    RSH  MYG  1"),
+        *tails("BOUNDS\n UP BND X 4\n UP BMD Y 3", "BOUNDS\n UP BND X 4\n UP bnd Y 3"),
+    ],
+    "indented-header": [
+        ("mps", mps()[1].replace(f"\n{header}", f"\n {header}")) for header in ("ROWS", "COLUMNS", "RHS", "ENDATA")
+    ]
+    + tails(" BOUNDS\n UP BND X 4", "  RANGES\n    RNG  LIM1  4"),
+    "header-with-marks": [
+        ("mps", mps()[1].replace("COLUMNS", "COL UMNS")),
+        *tails("BOU NDS\n UP BND X 4", "R ANGES\n    RNG LIM1 4"),
+    ],
+    "data-after-header": [
+        ("mps", mps()[1].replace("ROWS\n", "ROWS")),
+        ("mps", mps()[1].replace("RHS\n", "RHS:")),
+        *tails("BOUNDS UP BND X 4", "RANGES RNG LIM1 4"),
+    ],
+    "lost-header": [
+        ("mps", mps()[1].replace("ROWS\n", "")),
+        ("mps", mps()[1].replace("COLUMNS\n", "")),
+        *tails(" UP BND X 4", " FR BND X", "    RNG LIM1 2"),
+    ],
+    "other-section": [
+        *columns("    X  COST  1\n L  CAP\n    Y  COST  1"),
+        *tails("BOUNDS\n UP BND X 4\n    RHS  COST  4"),
+        mps(rhs=" UP BND X 4\n    RHS  COST  4", tail="BOUNDS\n UP BND Y 4"),
+    ],
+    "other-field": columns("    my X  COST  LIM1  1\n    Y  COST  1"),
+    "column-for-row": [mps(rhs="    RHS  X  4")],
+    "row-for-column": tails("BOUNDS\n UP BND LIM1 4"),
+    "special-sets-section": [
+        *tails("SETS\n S1 s1\n    s1 X 1"),
+        *columns("    S1  set  'MARKER'  'SOSORG'\n    X  COST  1\n    Y  COST  1\n    S1  set  'MARKER'  'SOSEND'"),
+    ],
+    "no-header": tails("---", "Here are the bounds of X"),
+    "prefixed-lines": [
+        (
+            "mps",
+            "".join(before.format(number) + line + after for number, line in enumerate(mps()[1].splitlines(True), 1)),
+        )
+        for before, after in (("> ", ""), ("+", ""), ("    ", ""), ("{}: ", ""), ("{:6}\t", ""), ("plan.mps:{}:", ""))
+    ],
+    "patch-file": whole(
+        "mps", "diff --git a/m.mps b/m.mps\n--- a/m.mps\n+++ b/m.mps\n@@ -9 +9 @@\n-    X  COST  1\n+    X  COST  2\n"
+    ),
+    "text-before": whole(
+        "mps", *(f"{text}\n{mps()[1]}" for text in ("```", "Reading plan.lp\nDone.", "Hello Anna,\n"))
+    ),
+    "second-model": whole("mps", mps(end="")[1] + mps()[1]),
+    "basis-file": whole("mps", "NAME  plan\n XU X  LIM1\n LL Y\nENDATA\n", "NAME\n UL X\nENDATA\n"),
+    "other-format": whole(
+        "mps",
+        "* #variable= 2 #constraint= 1\nmin: +1 x1 +2 x2 ;\n+1 x1 +1 x2 >= 1 ;\n",
+        "[comment]\n[/comment]\n[variables]\n x y\n[/variables]\n",
+        "STATISTICS\n  Problem name     : plan\n",
+        "MODEL:\n MAX = 3*X;\n X <= 4;\nEND\n",
+        "max: 3x + 2y;\nc1: x + y <= 4;\n",
+        "Model status\nOptimal\n\n# Primal solution values\n",
+        "x 1\ny 2\nz 0.5\n",
+    ),
     "several-pairs": [*columns("    X  COST  1  LIM1  1  MYG  1"), mps(rhs="    RHS  LIM1  4  MYG  1  COST  2")],
     "unquoted-marker": columns(
         "    M  MARKER  INTORG\n    X  COST  1",
@@ -578,7 +685,7 @@ FAMILIES = {
         ("mps", "NAME\nCOLUMNS\n    X  COST  1\nROWS\n N  COST\nENDATA\n"),
         ("mps", "NAME\nROWS\n N  COST\nRHS\nCOLUMNS\n    X  COST  1\nENDATA\n"),
     ],
-    "data-before-header": [("mps", " N  COST\nROWS\n L  LIM\nCOLUMNS\n    X  COST  1\nENDATA\n")],
+    "data-before-header": [("mps", " plan\n of May\nROWS\n N  COST\nENDATA\n")],
     # ---- no model files
     "html": [
         *whole(
@@ -671,6 +778,7 @@ FAMILIES = {
         lp(end="")[:1] + (lp(end="")[1] + "Bounds\n x <=",),
         mps(end="")[:1] + (mps(end="")[1] + "BOUNDS\n UP BN",),
         ("mps", mps(end="")[1].rstrip("\n") + "e"),
+        ("mps", mps(end="")[1] + "BOUN"),
     ],
     "html-entity": [*rows("c: x + y &gt;= 1", "c: x + y &lt;= 4\nd: x <= 3")],
     # ---- what needs no rule
@@ -678,7 +786,6 @@ FAMILIES = {
         *rows("c: x + 3 <= 5", "c: x + x >= 1", "c: x <= 1e999", "c: 1 <= x >= 0", "c: x <= 3\nc: y <= 4"),
         *bounds("x <= 4\nx <= 5", "4 <= x <= 3"),
         *columns(
-            "    my X  COST  1  LIM1  1\n    Y  COST  1",
             "    X  COST  1  LIMM  1",
             "    X  COST  1\n    X  COST  2",
             "    X  COST  1\n    Y  COST  1\n    X  LIM1  1",

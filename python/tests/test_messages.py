@@ -16,7 +16,9 @@ import mpslp
 from mpslp._files._sources import Text, format_number
 from mpslp._messages import _place, message, verdict
 from mpslp._messages._adapted import MENDS, MOST_TRIED
+from mpslp._messages._case import Case
 from mpslp._messages._excerpt import Mark, excerpt, readable
+from mpslp._messages._mps_lines import Written
 from mpslp._messages._nearest import nearest
 from mpslp._messages._tokens import tokens_of
 from mpslp._text._lines import line_at, line_with
@@ -206,6 +208,84 @@ def _holds(kind, point, indicator, relation, limit):
         return len(others) <= 1 or (len(others) == 2 and others[1] == others[0] + 1)
     total = sum(point)
     return indicator != int(kind[2]) or {"<=": total <= limit, ">=": total >= limit, "=": total == limit}[relation]
+
+
+class LinesOfMps(unittest.TestCase):
+    """What the fields of a rejected line are, and the edits with which it fits."""
+
+    def test_each_edit_gets_past_its_line(self):
+        text = MPS.format("RHS\n    RHS  LIM  4\nBOUNDS\n UP  BND  X  4\n")
+        lines = text.splitlines()
+        changed = random.Random(3)
+        tried = 0
+        for number, line in enumerate(lines):
+            fields = line.split()
+            if not line.startswith(" ") or len(fields) < 2:
+                continue
+            for _ in range(12):
+                others = fields[:]
+                at = changed.randrange(len(fields))
+                others[at : at + 2] = changed.choice(
+                    ([*others[at : at + 2]][::-1], ["".join(others[at : at + 2])], [], [others[at]] * 3)
+                )
+                edited = [*lines[:number], "    " + "  ".join(others), *lines[number + 1 :]]
+                tried += self._check("\n".join(edited) + "\n")
+        self.assertGreater(tried, 20)
+
+    def _check(self, text):
+        """Whether the text is rejected; the first edit of its line has to leave no error of that line."""
+        content = text.encode()
+        try:
+            mpslp.is_canonical(content, "mps")
+        except mpslp.ModelFileError as error:
+            case = Case(Text(content, format_number("mps"), None), error)
+            if error.line is None or not case.edits:
+                return 0
+            edit = case.edits[0]
+            if not any(isinstance(field, Written) for field in edit.texts):
+                lines = text.splitlines()
+                lines[error.line - 1 : error.line] = [" " + " ".join(fields) for fields in edit.lines]
+                with self.subTest(line=case.line.content, edit=edit):
+                    self.assertNotIn(f"line {error.line}:", self._error("\n".join(lines) + "\n"))
+            return 1
+        return 0
+
+    @staticmethod
+    def _error(text):
+        try:
+            mpslp.is_canonical(text.encode(), "mps")
+        except mpslp.ModelFileError as error:
+            return str(error)
+        return ""
+
+    def test_what_a_field_is(self):
+        found = about(MPS.format("RHS\n    RHS  LIM  X  4\n"), "mps")
+        self.assertIn("field 3 is X, a column, where a number is expected", found.cause)
+        found = about(MPS.format("BOUNDS\n UP  BND  LIM  4\n"), "mps")
+        self.assertEqual(found.cause, "a row in the field of a column; LIM is a row")
+
+    def test_a_line_of_a_large_file_takes_about_the_time_of_reading_it(self):
+        columns = "".join(f"    C{number}  COST  1  R{number % 500}  1\n" for number in range(60_000))
+        rows = "".join(f" L  R{number}\n" for number in range(500))
+        text = f"NAME\nROWS\n N  COST\n{rows}COLUMNS\n{columns}RHS\n    RHS  {'R1' * 20}  4\nENDATA\n"
+        started = time.process_time()
+        self._error(text)
+        reading, started = time.process_time() - started, time.process_time()
+        about(text, "mps")
+        self.assertLess(time.process_time() - started, 10 * reading + 1)
+
+    def test_members_of_a_set_between_markers(self):
+        columns = "    S1  SET  'MARKER'  'SOSORG'\n    X  COST  1\n    Y  COST  1\n    S1  SET  'MARKER'  'SOSEND'\n"
+        text = f"NAME\nROWS\n N  COST\nCOLUMNS\n{columns}BOUNDS\n UP  BND  X  4\n UP  BND  Y  3\nENDATA\n"
+        self.assertEqual(
+            about(text, "mps").written.split("\n"),
+            ["SET_X: X - 4 X_on <= 0", "SET_Y: Y - 3 Y_on <= 0", "SET: X_on + Y_on <= 1", "Binaries", " X_on Y_on"],
+        )
+
+    def test_lines_with_the_same_text_before_them(self):
+        for before, detail in (("> ", "each line starts with >"), ("\t", "each line starts with a tab")):
+            text = "".join(f"{before}{line}\n" for line in MPS.format("").splitlines())
+            self.assertTrue(about(text, "mps").cause.endswith(detail))
 
 
 class OfAnError(unittest.TestCase):

@@ -5,17 +5,22 @@ from __future__ import annotations
 import re
 from collections.abc import Iterable
 from functools import cached_property
+from itertools import islice
 from typing import NamedTuple
 
 from mpslp import _mpslp
 from mpslp._errors._faults import ModelFileError
 from mpslp._files._sources import Text
 from mpslp._messages._excerpt import Mark
+from mpslp._messages._mps_edits import Edit, edits
+from mpslp._messages._mps_lines import VALUE, MpsLines, Written
 from mpslp._messages._nearest import Known
 from mpslp._messages._place import Field, Place, fields_of, place_of, section_before
 from mpslp._messages._tokens import Token, place_between, tokens_of
 from mpslp._text._lines import Line, line_at, line_with
 
+_MOST_READ = 2**22
+"""For the edits of a line of MPS about so many bytes are read again, and the text up to the line once at least."""
 _MOST_BACK = 2**16
 """A statement of LP is looked for among so many bytes before the line."""
 _MOST_OF_LINE = 2**15
@@ -118,11 +123,43 @@ class Case:
 
     def start_of(self, section: str) -> int:
         """The place of the line end before the header of a section; that of the line if it comes later."""
-        if re.match(section.encode() + rb"[ \t\r\n]", self.content):
-            return 0
-        # A pattern that starts with a line end is looked for faster than one that may also start the text.
-        match = re.compile(rb"\n" + section.encode() + rb"[ \t\r\n]").search(self.content, 0, self.line.start)
-        return self.line.start if match is None else match.start()
+        return self.mps.start_of(section)
+
+    @cached_property
+    def texts(self) -> list[str]:
+        return [field.text for field in self.fields]
+
+    @cached_property
+    def mps(self) -> MpsLines:
+        return MpsLines(self.content, self.line, self.section)
+
+    @cached_property
+    def edits(self) -> list[Edit]:
+        """Edits after which the line has no error, the most probable first."""
+        if self.is_last_line or (self.is_header and self.texts[0][0].isalpha()):
+            return []
+        found: dict[tuple[str, ...], Edit] = {}
+        for edit in edits(self.mps, self.texts):
+            found.setdefault(sum(edit.more, edit.texts), edit)
+        most = max(1, _MOST_READ // max(1, self.line.start))
+        return [edit for edit in islice(found.values(), most) if self._is_mended_by(edit)]
+
+    def _is_mended_by(self, edit: Edit) -> bool:
+        """Whether the reader accepts the line after an edit; of one with a word for a name that is not known, the
+        fields only are known to fit.
+        """
+        if any(isinstance(text, Written) and text != VALUE.written for text in edit.texts):
+            return True
+        lines = (" ".join("1" if isinstance(text, Written) else text for text in texts) for texts in edit.lines)
+        return self.accepts("\n".join(f" {line}" for line in lines))
+
+    def accepts(self, lines: str) -> bool:
+        """Whether the text before the line, and then these lines, have no error of a line."""
+        try:
+            _mpslp.is_canonical(self.content[: self.line.start] + lines.encode("latin-1") + b"\n", self.text.format)
+        except ModelFileError as error:
+            return error.line is None
+        return True
 
     @cached_property
     def rows(self) -> Known:

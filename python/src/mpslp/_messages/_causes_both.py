@@ -63,6 +63,7 @@ _TYPED = {
 }
 """What is meant by characters that are copied from a page or a document; empty for those that are left out."""
 _UNEQUAL = "\u2260"
+_NO_BREAK_SPACE = "\u00a0"
 _TYPED_TABLE = str.maketrans(_TYPED)
 _MOST_READ_AGAIN = 2**24
 _NAN = re.compile(r"[+-]?(?:nan.*|#n/a|#value!|-?1\.?#(?:qnan|snan|ind|nan)\w*|n/?a|null|none|tbd|todo)", re.IGNORECASE)
@@ -110,7 +111,8 @@ def latin_1(case: Case) -> Found | None:
         case.line.content.decode("utf-8")
     except UnicodeDecodeError:
         at = 0 if case.place is None else case.place.start
-        return Found(f"the byte is {case.line.content[at : at + 1].decode('windows-1252', 'replace')} there")
+        letter = case.line.content[at : at + 1].decode("windows-1252", "replace")
+        return Found(f"the byte is {'a no-break space' if letter == _NO_BREAK_SPACE else letter} there")
     return None
 
 
@@ -123,7 +125,7 @@ def typed_character(case: Case) -> Found | None:
     if found == _UNEQUAL:
         return Found(f"LP has no {found}")
     meant = _TYPED[found]
-    name = "a no-break space" if found == "\u00a0" else found
+    name = "a no-break space" if found == _NO_BREAK_SPACE else found
     line = case.line.content.decode("utf-8", "replace")
     return Found(
         f"{name} is {'a space' if meant == ' ' else meant or 'left out'} in ASCII",

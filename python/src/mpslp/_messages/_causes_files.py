@@ -28,6 +28,8 @@ _STARTS = {
     b"{\\rtf": "a document of Word (RTF)",
 }
 _MPS = re.compile(rb"(?:\*[^\n]*\n|\s)*(?:NAME|ROWS|OBJSENSE|OBJNAME)\b")
+_MPS_ROWS = re.compile(rb"(?m)^[ \t|>\"]*ROWS\b")
+_STATEMENT_OF_OTHERS = re.compile(rb"[^\n:;]*:[^;]*;")
 _FIRST_WORD = re.compile(rb"(?:\s|\\[^\n]*\n)*([A-Za-z]+)")
 _TAR = slice(257, 262)
 _HTML = re.compile(rb"\s*<(?:!doctype\s+html|html|head|body)\b", re.IGNORECASE)
@@ -105,6 +107,8 @@ def modelling_language(case: Case) -> Found | None:
 
 def table(case: Case) -> Found | None:
     """The first two lines have the same number of cells, three or more, between the same marks."""
+    if case.is_mps and _MPS_ROWS.search(case.content[:_MOST_READ]):
+        return None
     lines = case.content[:_MOST_READ].lstrip().splitlines()[:2]
     match = _CELLS.match(lines[0]) if len(lines) == 2 else None
     if match is None or case.line.number > 2:
@@ -149,6 +153,8 @@ def lp_solve_comment(case: Case) -> Found | None:
 def lp_as_mps(case: Case) -> Found | None:
     """The first word of the text is that of an LP file."""
     match = _FIRST_WORD.match(case.content[: case.line.start + 200]) if case.is_mps else None
+    if match is not None and _STATEMENT_OF_OTHERS.match(case.content[: case.line.start + _MOST_READ], match.start(1)):
+        return None
     return FOUND if match is not None and match[1].decode().lower() in (*SENSES, *SPELLINGS[ROWS]) else None
 
 

@@ -44,14 +44,19 @@ def other_comment(case: Case) -> Found | None:
     """A line that starts with the mark of a comment of another language, or with an asterisk after spaces; or such a
     mark after fields.
     """
+    if case.edits and case.edits[0].sort == "stray_mark":
+        return None
     match = _COMMENT.match(case.line.content) or _INDENTED.match(case.line.content)
-    if match is not None and re.search(rb"[A-Za-z]", match[2]):
+    if match is not None and re.search(rb"[A-Za-z]", match[2]) and match[2].decode("latin-1") not in HEADERS:
         return Found(mend=f"* {match[2].decode('latin-1')}", marks=(case.mark_of_span(*match.span(1)),), moves=True)
     at = next(
         (
             at
             for at, field in enumerate(case.fields)
-            if at > 1 and _MARKS.fullmatch(field.text) and not is_nan(field.text.lstrip("#"))
+            if at > 1
+            and _MARKS.fullmatch(field.text)
+            and not is_nan(field.text.lstrip("#"))
+            and not _is_signed(field.text)
         ),
         None,
     )
@@ -63,6 +68,10 @@ def other_comment(case: Case) -> Found | None:
         return None
     note = " ".join(field.text for field in case.fields[at:]).strip("#/!%-;\\* ")
     return Found(mend=f"* {note}", marks=(case.mark_of(case.fields[at]),), moves=True)
+
+
+def _is_signed(text: str) -> bool:
+    return _SIGNS.fullmatch(text) is not None
 
 
 # ---- fields
@@ -96,27 +105,8 @@ def relation_in_fields(case: Case) -> Found | None:
 def text_after_header(case: Case) -> Found | None:
     """A header, and after it what is no field of it."""
     words = [field.text for field in case.fields]
-    is_header = case.is_header and len(words) > 1 and words[0] in HEADERS
+    is_header = case.is_header and len(words) > 1 and words[0] in HEADERS and not case.mps.fits(words[0], words[1:])
     return Found(mend=words[0], marks=(case.mark_of(case.fields[1]),), moves=True) if is_header else None
-
-
-def header_left_out(case: Case) -> Found | None:
-    """A line of COLUMNS in ROWS, or one of BOUNDS before it."""
-    words = [field.text for field in case.fields]
-    if case.section == "ROWS" and len(words) in (3, 5) and words[1] in case.rows and NUMBER.fullmatch(words[2]):
-        return Found("it is a line of COLUMNS", "COLUMNS")
-    is_bound = len(words) > 2 and words[0] in BOUND_TYPES and words[0] not in case.rows
-    if case.section in ("RHS", "RANGES") and is_bound:
-        return Found("it is a line of BOUNDS", "BOUNDS")
-    return None
-
-
-def row_left_out(case: Case) -> Found | None:
-    """The name of a set of RHS or RANGES, and a number."""
-    is_pair = len(case.fields) == 2 and NUMBER.fullmatch(case.fields[1].text) is not None
-    if not is_pair or case.section not in ("RHS", "RANGES") or not _SET.fullmatch(case.fields[0].text):
-        return None
-    return Found(f"after {case.fields[0].text} comes a row", marks=(case.mark_of(case.fields[1]),))
 
 
 # ---- numbers
@@ -226,8 +216,6 @@ RULES: tuple[Rule, ...] = (
     marker_without_name,
     relation_in_fields,
     text_after_header,
-    header_left_out,
-    row_left_out,
     title_without_name,
     other_comment,
     space_in_number,

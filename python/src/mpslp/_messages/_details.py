@@ -9,9 +9,10 @@ from collections.abc import Callable, Mapping, Sequence
 
 from mpslp._messages._case import FOUND, Case, Found
 from mpslp._messages._causes_lp import constant_in_row
-from mpslp._messages._causes_mps import is_number, other_type, several_sets
+from mpslp._messages._causes_mps import other_type, several_sets
 from mpslp._messages._excerpt import Mark
 from mpslp._messages._lp_rows import first_duplicate, named_rows
+from mpslp._messages._mps_lines import FIELDS
 from mpslp._messages._nearest import Known
 from mpslp._messages._place import fields_of, illegal_name
 from mpslp._messages._tokens import Token
@@ -48,7 +49,7 @@ def named(case: Case) -> Found:
 
 def _mps_line_of(case: Case, name: str) -> Mark | None:
     """The last line that has the name: it is in BOUNDS, RANGES or RHS if there is one."""
-    pattern = rb"\n[ \t][^\n]*?[ \t](" + re.escape(name.encode("latin-1")) + rb")(?=[ \t\r\n])"
+    pattern = rb"\n(?=[ \t])[^\n]*?[ \t](" + re.escape(name.encode("latin-1")) + rb")(?=[ \t\r\n])"
     start = case.start_of("ROWS" if case.kind in _ROW_KINDS else "COLUMNS")
     return _last_mark(case, pattern, start)
 
@@ -100,25 +101,17 @@ def _nearest(case: Case, name: str, names: Known, what: str) -> Found:
     return Found(f"the nearest {what} is {near}, in line {mark.number}", near, marks=(mark,))
 
 
-def joined_name(case: Case) -> Found:
-    """The name without its space, if that makes the number of fields right; or the field that is too many."""
-    texts = [field.text for field in case.fields]
-    if case.section == "ROWS" and len(texts) > 2:
-        return _joined(case, 1, len(texts))
-    if case.section == "COLUMNS" and len(texts) in (4, 6) and is_number(texts[-1]):
-        pairs = range(1, len(texts) - 1, 2)
-        shifted = [0] if texts[2] in case.rows else [at for at in pairs if not is_number(texts[at + 1])]
-        if shifted:
-            return _joined(case, shifted[0], shifted[0] + 2)
-    if case.section == "COLUMNS" and len(texts) == 4:
-        return Found(marks=(case.mark_of(case.fields[3]),), moves=True)
-    return FOUND
+def expected_field(case: Case) -> Found:
+    """The first field that does not fit, and what is expected there."""
+    return FOUND if case.is_header else Found(case.mps.expected(case.texts))
 
 
-def _joined(case: Case, first: int, end: int) -> Found:
-    fields = case.fields[first:end]
-    mark = case.mark_of(fields[0])._replace(end=fields[-1].end)
-    return Found(mend="_".join(field.text for field in fields), marks=(mark,), moves=True)
+def expected_fields(case: Case) -> Found:
+    """The same, and the fields of the section."""
+    if case.is_header or case.section not in FIELDS:
+        return FOUND
+    expected = case.mps.expected(case.texts)
+    return Found(f"{expected + '; ' if expected else ''}a line of {case.section} has {FIELDS[case.section]}")
 
 
 def first_row(case: Case) -> Found:
@@ -140,6 +133,14 @@ def first_entry(case: Case) -> Found:
         patterns.append(rb"\n[ \t]+(" + row + rb")[ \t]")
     marks = [mark for mark in (case.first_match(pattern, start) for pattern in patterns) if mark is not None]
     return _first(case, min(marks)) if marks else FOUND
+
+
+def first_rhs(case: Case) -> Found:
+    """The first line with the row; without names of sets and a section RANGES the second one may be of it."""
+    found = first_entry(case)
+    is_sure = len(case.fields) % 2 == 1 or re.search(rb"\nRANGES[ \t\r\n]", case.content) is not None
+    note = "" if is_sure else "; if this is a range, the header RANGES is missing before it"
+    return found._replace(detail=f"{found.detail}{note}") if found.detail else found
 
 
 def first_bound(case: Case) -> Found:
@@ -255,9 +256,10 @@ _MPS: Mapping[str, Detail] = {
     "DuplicateBound": first_bound,
     "DuplicateEntry": first_entry,
     "DuplicateRange": first_entry,
-    "DuplicateRhs": first_entry,
+    "DuplicateRhs": first_rhs,
     "DuplicateRow": first_row,
-    "FieldCount": joined_name,
+    "BadNumber": expected_field,
+    "FieldCount": expected_fields,
     "SecondSet": several_sets,
     "SectionRepeated": first_section,
     "UnknownColumn": nearest_column,

@@ -26,6 +26,8 @@ from mpslp._messages import (
     _causes_lp_words,
     _causes_mps,
     _causes_mps_fields,
+    _causes_mps_files,
+    _causes_mps_lines,
     _expected,
 )
 from mpslp._messages._adapted import with_adapt
@@ -64,7 +66,7 @@ class Message(NamedTuple):
         return "\n".join(filter(None, parts))
 
 
-_OF_MPS = (_causes_mps_fields, _causes_mps)
+_OF_MPS = (_causes_mps_files, _causes_mps_fields, _causes_mps, _causes_mps_lines)
 _OF_LP = (
     _causes_lp_others,
     _causes_lp_headings,

@@ -34,6 +34,8 @@ _SET = re.compile(
     r"(?:(?P<name>[^\s:]+)[ \t]*:[ \t]*)?(?:(?P<type>[Ss][12])[ \t]*::)?"
     r"(?P<members>(?:\s*[^\s:,<>=]+[ \t]*:[ \t]*[\d.]+(?:[eE][+-]?\d+)?[ \t]*,?)+)"
 )
+_SET_TYPES = ("S1", "S2")
+_SET_MARKER = re.compile(rb"(?m)^[^\n]*'SOS(?:ORG|END)'[^\n]*\n")
 _MEMBER = re.compile(r"([^\s:,]+)[ \t]*:[ \t]*([\d.]+(?:[eE][+-]?\d+)?)")
 _ARROW = re.compile(rb"(?m)^[^\n]*->[^\n]*$")
 _INDICATOR = re.compile(
@@ -66,12 +68,20 @@ class OrderedSet(NamedTuple):
 
 def special_set(case: Case) -> Found:
     """The first set of the section, as rows."""
+    if case.is_mps and not case.is_header:
+        return _set_of_markers(case)
     end = _end_of_section(case)
     found = next(_mps_sets(case, end) if case.is_mps else _lp_sets(case, end), None)
-    if found is None or len(found.columns) < 2:
+    rest = case.content[: case.line.start] + b"\n" + case.content[end:]
+    return FOUND if found is None else _set_as_rows(case, found, rest)
+
+
+def _set_as_rows(case: Case, found: OrderedSet, rest: bytes) -> Found:
+    """A set as rows, for the bounds of the text without it."""
+    if len(found.columns) < 2:
         return FOUND
     most = "one" if found.type == 1 else "two, which are neighbours,"
-    bounds = _bounds_of(case, case.content[: case.line.start] + b"\n" + case.content[end:], found.columns)
+    bounds = _bounds_of(case, rest, found.columns)
     detail = f"set {found.name}: at most {most} of {_listed(found.columns)} may be other than 0"
     rows = list(_rows_of(found, bounds, case))
     note = (
@@ -101,18 +111,45 @@ def _lp_sets(case: Case, end: int) -> Iterator[OrderedSet]:
 
 
 def _mps_sets(case: Case, end: int) -> Iterator[OrderedSet]:
+    """The first set of a section, if its members are columns: a line of a member has a column and its weight, another
+    one the type and the name of a set.
+    """
     start = case.line.start + len(case.line.content)
-    name, kind, members = "", 1, list[tuple[Fraction, str]]()
+    name, kind, members = "set1", 2 if case.field.endswith("2") else 1, list[tuple[Fraction, str]]()
     for line in case.content[start : min(end, start + _MOST_READ)].decode("latin-1").splitlines():
-        fields = line.split()
-        if fields and fields[0] in ("S1", "S2"):
+        fields = line.replace(":", " ").split()
+        member = _member(case, fields)
+        if member is not None:
+            members.append(member)
+        elif fields and not line.startswith("*"):
             if members:
                 break
-            name, kind = fields[2 if len(fields) > 2 else -1], int(fields[0][1])
-        elif len(fields) >= 2 and (weight := value_of(fields[-1])) is not None:
-            members.append((weight, fields[-2]))
+            kind = int(fields[0][1]) if fields[0] in _SET_TYPES else kind
+            name = next((each for each in reversed(fields) if each not in _SET_TYPES and value_of(each) is None), name)
     if members:
-        yield OrderedSet(name or "set1", kind, [column for _, column in sorted(members)])
+        yield OrderedSet(name, kind, [column for _, column in sorted(members)])
+
+
+def _member(case: Case, fields: Sequence[str]) -> tuple[Fraction, str] | None:
+    """The weight and the column of a member, or None if a line has none."""
+    weight = value_of(fields[-1]) if len(fields) > 1 else None
+    return None if weight is None or fields[-2] not in case.mps.columns else (weight, fields[-2])
+
+
+def _set_of_markers(case: Case) -> Found:
+    """The set that a marker opens, in the MPS of CPLEX: its members are the columns up to the next marker."""
+    start = case.line.start + len(case.line.content)
+    end = min(x for x in (case.content.find(b"'MARKER'", start), len(case.content)) if x >= 0)
+    lines = (line.split() for line in case.content[start : min(end, start + _MOST_READ)].decode("latin-1").splitlines())
+    columns = list(dict.fromkeys(fields[0] for fields in lines if len(fields) > 2))
+    if "'SOSORG'" not in case.texts or not columns:
+        return FOUND
+    kind = next((text for text in case.texts if text in _SET_TYPES), None)
+    if kind is None:
+        return Found(f"its members are the columns up to 'SOSEND': {_listed(columns)}")
+    name = next((text for text in case.texts if text not in _SET_TYPES), "set1")
+    rest = _SET_MARKER.sub(b"", case.content)
+    return _set_as_rows(case, OrderedSet("set1" if name == "'MARKER'" else name, int(kind[1]), columns), rest)
 
 
 def _rows_of(found: OrderedSet, bounds: Mapping[str, Bounds], case: Case) -> Iterator[str]:
