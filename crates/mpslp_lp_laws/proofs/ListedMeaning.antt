@@ -27,7 +27,7 @@ use Rattle.mpslp_lp_laws.proofs.ListedParts.{own_coefficient, coefficients-part,
 use Rattle.mpslp_lp_laws.proofs.ListedParts.{own-columns, lower_stated, column_lower, column_upper, lowers-part}
 use Rattle.mpslp_lp_laws.proofs.ListedParts.{uppers-part, integers-part, semis-part, no-marks, no-binaries, form_stated}
 use Rattle.mpslp_lp_laws.proofs.ListedParts.{no-right_sides, all_parts, nothing, own_name, bound_names, columns-part, hit}
-use Rattle.mpslp_builder.proofs.ListingLemmas.sound-listing
+use Rattle.mpslp_builder.proofs.ListingLemmas.{sound-listing}
 use Rattle.mpslp_lp_laws.proofs.LineLemmas.{Holds, each-filter_map}
 use Rattle.mpslp_builder.proofs.BoundsLemmas as kinds
 
