@@ -21,13 +21,12 @@ use Rattle.mpslp_builder.proofs.SlotLemmas.{Stays, stays-all}
 use Rattle.mpslp_builder.proofs.EntryLemmas.{model-back, columns-back, no-negative_upper, binary-within}
 use Rattle.mpslp_lp_laws.proofs.PhraseWalk.{column_and, terms_declared, constant_declared, general_made, semi_made}
 use Rattle.mpslp_lp_laws.proofs.{PhraseWalk.{column_made}, TextWalk.{listed_declarations, row_made}}
-use Rattle.mpslp_builder.proofs.ListingLemmas.{IsSoundListing, is_sound_entry, place_at}
-use Rattle.mpslp_lp_laws.proofs.ListedParts.{limits_stated, form_of, drafted, row_forms, rows-part}
+use Rattle.mpslp_builder.proofs.ListingLemmas.{is_sound_entry, place_at}
+use Rattle.mpslp_lp_laws.proofs.ListedParts.{IsSoundListing, sound-listing, limits_stated, form_of, drafted, row_forms, rows-part}
 use Rattle.mpslp_lp_laws.proofs.ListedParts.{own_coefficient, coefficients-part, no-coefficient, each-line_text, IsOwnColumn}
 use Rattle.mpslp_lp_laws.proofs.ListedParts.{own-columns, lower_stated, column_lower, column_upper, lowers-part}
 use Rattle.mpslp_lp_laws.proofs.ListedParts.{uppers-part, integers-part, semis-part, no-marks, no-binaries, form_stated}
 use Rattle.mpslp_lp_laws.proofs.ListedParts.{no-right_sides, all_parts, nothing, own_name, bound_names, columns-part, hit}
-use Rattle.mpslp_builder.proofs.ListingLemmas.sound-listing
 use Rattle.mpslp_lp_laws.proofs.LineLemmas.{Holds, each-filter_map}
 use Rattle.mpslp_builder.proofs.BoundsLemmas as kinds
 

@@ -6,15 +6,15 @@ use Prelude.{by_limits, Declaration, declare_sense, declare_objective, declare_c
 use Prelude.{Limit, MinusInf, Finite, PlusInf, flat_map-flat_map, flat_map-none, named, Limits, row_limits, term_declared}
 use Prelude.{objective_declared, Term, objective_terms, row_terms, is_integer_column, is_semi_column, map, CoefficientKey}
 use Prelude.{row_part, rhs_part, column_part, coefficient_part, lower_part, upper_part, marked_part}
-use Prelude.{integer_part, binary_part, semi_part, stated, all_stated, flat_map_single, Bool, ◌&&◌}
-use Prelude.{is_one_of, key_cmp, is_sound_column}
-use Prelude.{at_name, names_in, Each-both, own-found, sym, is_some, filter_map}
+use Prelude.{integer_part, binary_part, semi_part, stated, all_stated, flat_map_single, Bool, ◌&&◌, is_sorted, entries, entries_sorted}
+use Prelude.{IsDecimal, is_one_of, bytes_cmp, LinearModel, key_cmp, is_sound_row, is_sound_column, is_sound_coefficient}
+use Prelude.{IsSound, listing_of, at_name, names_in, true_from, Each-both, Each-from_list_all, own-found, sym, is_some, filter_map}
 use Prelude.{◌||◌, list_any, cons_option, IsTotalOrder, first_so, second_so, Ordering, find, zero_number, same_bytes}
 use Prelude.{or_left, or_right, equal_from, find-front, some_cons, some_append_left, some_append_right, same_key, itself_named, any-name}
 use Prelude.{same_name, key_total, term_in, has_coefficients, objective_term, some_term, found-each}
 use Rattle.std.specs.declared.cmp.Ordering.TheVariants.{Equal}
 use Rattle.mpslp_types.proofs.EachLemmas.{Each}
-use Rattle.mpslp_builder.proofs.{ListingLemmas.{IsSoundListing, is_sound_entry, place_at}, SlotLemmas.{flat-same}}
+use Rattle.mpslp_builder.proofs.{ListingLemmas.{is_sound_entry, place_at}, SlotLemmas.{flat-same}}
 use Rattle.mpslp_lp_laws.proofs.PhraseWalk.{terms_declared, constant_declared, objective_made, general_made, semi_made, column_made}
 use Rattle.mpslp_lp_laws.proofs.PhraseWalk.{left_of}
 use Rattle.mpslp_lp_laws.proofs.TextWalk.{row_left, row_relation, row_right, row_made, listed_declarations}
@@ -288,6 +288,28 @@ no-binaries = no-part binary_part (record {
   of_general = λ _. refl;
   of_semi = λ _. refl;
 })
+
+-- ---- the listing of a well-formed model
+
+pub record IsSoundListing (m : Listing) : Type 0 where
+  pub constant : IsDecimal m.constant
+  pub rows : Each (λ row. is_sound_row row ≡ true) m.rows
+  pub columns : Each (λ column. is_sound_column column ≡ true) m.columns
+  pub coefficients : Each (λ entry. is_sound_entry m entry ≡ true) m.coefficients
+  pub rows_sorted : is_sorted bytes_cmp m.rows ≡ true
+  pub columns_sorted : is_sorted bytes_cmp m.columns ≡ true
+  pub coefficients_sorted : is_sorted key_cmp m.coefficients ≡ true
+
+pub sound-listing : (m : LinearModel) → IsSound m → IsSoundListing (listing_of m)
+sound-listing m h = record {
+  constant = h.constant;
+  rows = Each-from_list_all is_sound_row (entries m.rows) h.rows;
+  columns = Each-from_list_all is_sound_column (entries m.columns) h.columns;
+  coefficients = Each-from_list_all (is_sound_coefficient m) (entries m.coefficients) h.coefficients;
+  rows_sorted = true_from _ (entries_sorted m.rows);
+  columns_sorted = true_from _ (entries_sorted m.columns);
+  coefficients_sorted = true_from _ (entries_sorted m.coefficients);
+}
 
 -- ---- columns that are well-formed, and found by their names
 

@@ -84,7 +84,7 @@ pub use Rattle.mpslp_lp_text.specs.CanonicalLp.{long_line, right_line, minus_lar
 pub use Rattle.mpslp_lp_laws.specs.Laws.{DeclareTheirModels, DistinguishModels, DeclareWhatFits, AreReadAsPrinted, tokens_seen}
 pub use Rattle.mpslp_lp_text.specs.Printed.{Lexeme, word, number, sense, minus_infinity, PrintedLine, semi_continuous, label, sign}
 pub use Rattle.mpslp_lp_text.specs.Printed.{sign_bytes, sense_bytes, lexeme_text, line_text, text_of}
-pub use Rattle.mpslp_lp_grammar.specs.Points.point_at
+pub use Rattle.mpslp_lp_grammar.specs.Points.{point_at}
 pub use Rattle.mpslp_lp_laws.specs.PrintedDeclarations.{terminals_at, AreDerived, AreDerivedAt, is_legal_term, after_objective}
 pub use Rattle.mpslp_lp_laws.specs.PrintedDeclarations.{EndsObjectiveFrom, DeriveObjectives, AreLegalTerms, row_and_terms, DeriveRows}
 pub use Rattle.mpslp_lp_laws.specs.PrintedDeclarations.{column_and_bounds, DeriveBounds, DeriveAllKinds, end_heading}

@@ -20,8 +20,7 @@ use Rattle.mpslp_builder.proofs.RefusalLemmas.{fresh-from_once}
 use Rattle.mpslp_lp_laws.proofs.PhraseWalk.{column_and, terms_declared, constant_declared, objective_made, bound_made, column_made}
 use Rattle.mpslp_lp_laws.proofs.PhraseWalk.{general_made, semi_made, left_of}
 use Rattle.mpslp_lp_laws.proofs.TextWalk.{row_made, listed_declarations, row_left, row_relation, row_right, IsRow, IsPlainText}
-use Rattle.mpslp_lp_laws.proofs.{LineLemmas.fit-from_sound, ListedParts.{drafted}}
-use Rattle.mpslp_builder.proofs.ListingLemmas.{IsSoundListing, sound-listing}
+use Rattle.mpslp_lp_laws.proofs.{LineLemmas.fit-from_sound, ListedParts.{IsSoundListing, sound-listing, drafted}}
 use Rattle.mpslp_builder.proofs.RankedSlots.{AreOther, other-from_sorted}
 use Rattle.mpslp_lp_laws.proofs.ListedSlots.{plain-row, listed-once}
 

@@ -26,7 +26,7 @@ pub use Rattle.mpslp_builder.specs.Declaration.{has_row, have_infinite_side, dec
 pub use Rattle.mpslp_builder.specs.Refusal.{refusals_in_turn, bounds_refusals, has_constant, refusal_tests}
 pub use Rattle.mpslp_lines.specs.FaultTests.{kind_of_build_fault, fault_on_line, is_kind, number_fault, FaultTests, first_held}
 pub use Rattle.mpslp_lines.specs.FaultTests.{has_legal_length, is_legal_byte}
-pub use Rattle.mpslp_builder.proofs.MadeDrafts.parts-taken
+pub use Rattle.mpslp_builder.proofs.MadeDrafts.{parts-taken}
 pub use Rattle.std.proofs.lemmas.List.{map-append as mapped-append}
 pub use Rattle.mpslp_lp_grammar.specs.Points.{at, point_at, AreNew}
 pub use Rattle.mpslp_lp.specs.{FirstFault.{fault_of, first_lp_fault}, LpText.outcome}
