@@ -40,11 +40,11 @@ label-text name = ap (λ (l : List ℕ). codes " " ++ l) (sym (append_assoc name
 
 -- a sign and an absolute value, and what follows them
 pub signed-text : (value : Number) (lexemes : List Lexeme)
-    → ((codes "  " ++ (sign_bytes (is_negative value) ++ codes " ")) ++ number_text (size_of value)) ++ following lexemes
+    → (codes "  " ++ (sign_bytes (is_negative value) ++ codes " ")) ++ (number_text (size_of value) ++ following lexemes)
     ≡ text_by line_text (long_line (signed_lexemes value ++ lexemes) ∷ [])
 signed-text value lexemes = by (is_negative value)
   where
-    by : (minus : Bool) → ((codes "  " ++ (sign_bytes minus ++ codes " ")) ++ number_text (size_of value)) ++ following lexemes
+    by : (minus : Bool) → (codes "  " ++ (sign_bytes minus ++ codes " ")) ++ (number_text (size_of value) ++ following lexemes)
         ≡ text_by line_text (long_line (sign minus ∷ number (size_of value) ∷ lexemes) ∷ [])
     by true = line-text 2 (sign true) (number (size_of value) ∷ lexemes)
     by false = line-text 2 (sign false) (number (size_of value) ∷ lexemes)

@@ -14,7 +14,7 @@ pub use Rattle.mpslp_model_core.specs.Views.{columns_of, column_names, row_names
 pub use Rattle.mpslp_io.proofs.EachLemmas.{prints_each}
 pub use Rattle.mpslp_io.proofs.LinesAtLemmas.{flat_map-all, flat_map-kept, flat_map-numbers, both_seen, lines_seen, map-flat_map}
 pub use Rattle.mpslp_io.proofs.LinesAtLemmas.{flat_map-filter, nothing_seen, flat_map-next, named-lines}
-pub use Rattle.mpslp_io.proofs.OutputLemmas.{prints_same, section_under, prints_nothing, puts_then, prints_line, puts_same, section_of}
+pub use Rattle.mpslp_io.proofs.OutputLemmas.{prints_same, section_under, prints_nothing, puts_between, prints_line, puts_same, section_of}
 pub use Rattle.mpslp_io.proofs.OutputLemmas.{section_then, section_same, section_text, prints_then}
 pub use Rattle.mpslp_types.specs.declared.kinds.Limit.{Limit}
 pub use Rattle.mpslp_lp_write.specs.LpLinesAt.{term_lines, row_term_lines, numbered_term_lines, has_lines, is_of_section, name_lines}

@@ -9,29 +9,9 @@ ghost use Rattle.mpslp_lp_text.specs.CanonicalLp.{short_line, long_line, label_l
 ghost use Rattle.mpslp_lp_write.specs.LpLinesAt.{between_line};
 ghost use Rattle.mpslp_io.specs.Printing.{Puts, Prints};
 
-use mpslp_decimal::{Decimal, DecimalText};
-use mpslp_io::Output;
+use mpslp_decimal::Decimal;
+use mpslp_io::{Output, put_number, put_size};
 use mpslp_model::Sink;
-
-/// Prints a number. Many are digits, which need no buffer.
-#[inline(always)]
-fn put_number<W: Sink>(output: &mut Output<W>, value: Decimal)
-    ensures { Puts W.Sink output.old output.new (number_text value) }
-{
-    match value.digit() {
-        Some(digit) => output.put(digit),
-        None => put_long_number(output, value),
-    }
-}
-
-/// Prints a number of any size.
-#[inline(never)]
-fn put_long_number<W: Sink>(output: &mut Output<W>, value: Decimal)
-    ensures { Puts W.Sink output.old output.new (number_text value) }
-{
-    let mut text = DecimalText::new();
-    output.put(text.put(value));
-}
 
 /// A sign, with two spaces before it and one after it.
 fn sign_text(minus: bool) -> &'static [u8]
@@ -44,13 +24,12 @@ fn sign_text(minus: bool) -> &'static [u8]
     }
 }
 
-/// Prints the sign of a number and its absolute value, after two spaces.
+/// Prints the sign of a number and its absolute value after two spaces, and then this piece.
 #[inline(always)]
-fn put_signed<W: Sink>(output: &mut Output<W>, value: Decimal)
-    ensures { Puts W.Sink output.old output.new ((codes "  " ++ (sign_bytes (is_negative value) ++ codes " ")) ++ number_text (size_of value)) }
+fn put_signed<W: Sink>(output: &mut Output<W>, value: Decimal, back: &[u8])
+    ensures { Puts W.Sink output.old output.new ((codes "  " ++ (sign_bytes (is_negative value) ++ codes " ")) ++ (number_text (size_of value) ++ back.now)) }
 {
-    output.put(sign_text(value.is_negative()));
-    put_number(output, value.abs());
+    put_size(output, sign_text(value.is_negative()), value, back);
 }
 
 /// Prints the line of a name and a colon.
@@ -58,9 +37,7 @@ pub(crate) fn put_label_line<W: Sink>(output: &mut Output<W>, name: &[u8])
     ensures { Prints line_text W.Sink output.old output.new (label_line name.now ∷ []) }
 {
     output.put_header();
-    output.put(b" ");
-    output.put(name);
-    output.put(b":\n");
+    output.put_between(b" ", name, b":\n");
 }
 
 /// Prints the line of a column and its coefficient.
@@ -69,10 +46,8 @@ pub(crate) fn put_term_line<W: Sink>(output: &mut Output<W>, column: &[u8], valu
     ensures { Prints line_text W.Sink output.old output.new (term_line (column.now, value) ∷ []) }
 {
     output.put_header();
-    put_signed(output, value);
-    output.put(b" ");
-    output.put(column);
-    output.put(b"\n");
+    put_signed(output, value, b" ");
+    output.put_between(b"", column, b"\n");
 }
 
 /// Prints the line of a constant.
@@ -80,8 +55,7 @@ pub(crate) fn put_constant_line<W: Sink>(output: &mut Output<W>, value: Decimal)
     ensures { Prints line_text W.Sink output.old output.new (long_line (signed_lexemes value) ∷ []) }
 {
     output.put_header();
-    put_signed(output, value);
-    output.put(b"\n");
+    put_signed(output, value, b"\n");
 }
 
 /// Prints the line of a lower limit before the terms of a row.
@@ -89,9 +63,7 @@ pub(crate) fn put_left_line<W: Sink>(output: &mut Output<W>, lower: Decimal)
     ensures { Prints line_text W.Sink output.old output.new (long_line (number lower ∷ sense relations.AtMost ∷ []) ∷ []) }
 {
     output.put_header();
-    output.put(b"  ");
-    put_number(output, lower);
-    output.put(b" <=\n");
+    put_number(output, b"  ", lower, b" <=\n");
 }
 
 /// Prints the line of the upper limit of a row, after its terms.
@@ -99,9 +71,7 @@ pub(crate) fn put_at_most_line<W: Sink>(output: &mut Output<W>, upper: Decimal)
     ensures { Prints line_text W.Sink output.old output.new (right_line relations.AtMost upper ∷ []) }
 {
     output.put_header();
-    output.put(b"  <= ");
-    put_number(output, upper);
-    output.put(b"\n");
+    put_number(output, b"  <= ", upper, b"\n");
 }
 
 /// Prints the line of the lower limit of a row, after its terms.
@@ -109,9 +79,7 @@ pub(crate) fn put_at_least_line<W: Sink>(output: &mut Output<W>, lower: Decimal)
     ensures { Prints line_text W.Sink output.old output.new (right_line relations.AtLeast lower ∷ []) }
 {
     output.put_header();
-    output.put(b"  >= ");
-    put_number(output, lower);
-    output.put(b"\n");
+    put_number(output, b"  >= ", lower, b"\n");
 }
 
 /// Prints the line of the right-hand side of an equality row, after its terms.
@@ -119,9 +87,7 @@ pub(crate) fn put_equal_line<W: Sink>(output: &mut Output<W>, value: Decimal)
     ensures { Prints line_text W.Sink output.old output.new (right_line relations.EqualTo value ∷ []) }
 {
     output.put_header();
-    output.put(b"  = ");
-    put_number(output, value);
-    output.put(b"\n");
+    put_number(output, b"  = ", value, b"\n");
 }
 
 /// Prints the line of a row without limits, after its terms.
@@ -137,9 +103,7 @@ pub(crate) fn put_name_line<W: Sink>(output: &mut Output<W>, column: &[u8])
     ensures { Prints line_text W.Sink output.old output.new (short_line (word column.now ∷ []) ∷ []) }
 {
     output.put_header();
-    output.put(b" ");
-    output.put(column);
-    output.put(b"\n");
+    output.put_between(b" ", column, b"\n");
 }
 
 /// Prints the line of a column without bounds.
@@ -147,9 +111,7 @@ pub(crate) fn put_free_column_line<W: Sink>(output: &mut Output<W>, column: &[u8
     ensures { Prints line_text W.Sink output.old output.new (short_line (word column.now ∷ word (codes "free") ∷ []) ∷ []) }
 {
     output.put_header();
-    output.put(b" ");
-    output.put(column);
-    output.put(b" free\n");
+    output.put_between(b" ", column, b" free\n");
 }
 
 /// Prints the line of a column with only an upper bound.
@@ -157,11 +119,8 @@ pub(crate) fn put_upper_bound_line<W: Sink>(output: &mut Output<W>, column: &[u8
     ensures { Prints line_text W.Sink output.old output.new (between_line minus_infinity column.now upper ∷ []) }
 {
     output.put_header();
-    output.put(b" -infinity <= ");
-    output.put(column);
-    output.put(b" <= ");
-    put_number(output, upper);
-    output.put(b"\n");
+    output.put_between(b" -infinity <= ", column, b" <= ");
+    put_number(output, b"", upper, b"\n");
 }
 
 /// Prints the line of a column with only a lower bound.
@@ -169,11 +128,8 @@ pub(crate) fn put_lower_bound_line<W: Sink>(output: &mut Output<W>, column: &[u8
     ensures { Prints line_text W.Sink output.old output.new (short_line (word column.now ∷ sense relations.AtLeast ∷ number lower ∷ []) ∷ []) }
 {
     output.put_header();
-    output.put(b" ");
-    output.put(column);
-    output.put(b" >= ");
-    put_number(output, lower);
-    output.put(b"\n");
+    output.put_between(b" ", column, b" >= ");
+    put_number(output, b"", lower, b"\n");
 }
 
 /// Prints the line of a column whose bounds are equal.
@@ -181,11 +137,8 @@ pub(crate) fn put_fixed_line<W: Sink>(output: &mut Output<W>, column: &[u8], val
     ensures { Prints line_text W.Sink output.old output.new (short_line (word column.now ∷ sense relations.EqualTo ∷ number value ∷ []) ∷ []) }
 {
     output.put_header();
-    output.put(b" ");
-    output.put(column);
-    output.put(b" = ");
-    put_number(output, value);
-    output.put(b"\n");
+    output.put_between(b" ", column, b" = ");
+    put_number(output, b"", value, b"\n");
 }
 
 /// Prints the line of a column between two bounds.
@@ -198,11 +151,7 @@ pub(crate) fn put_between_line<W: Sink>(
     ensures { Prints line_text W.Sink output.old output.new (between_line (number lower) column.now upper ∷ []) }
 {
     output.put_header();
-    output.put(b" ");
-    put_number(output, lower);
-    output.put(b" <= ");
-    output.put(column);
-    output.put(b" <= ");
-    put_number(output, upper);
-    output.put(b"\n");
+    put_number(output, b" ", lower, b" <= ");
+    output.put_between(b"", column, b" <= ");
+    put_number(output, b"", upper, b"\n");
 }

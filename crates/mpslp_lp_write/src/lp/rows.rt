@@ -47,18 +47,16 @@ const AHEAD: usize = 8;
 /// than the misses of the cache that it saves.
 const FEW: usize = 3;
 
-/// The terms of row `i` from number `from` on. Places at which there is no term have any values.
-fn terms_from(model: &Model, i: usize, from: usize) -> [(usize, Decimal); AHEAD]
+/// Looks up the terms of row `i` from number `from` on. Places at which there is no term keep their values.
+fn look_up_terms(model: &Model, i: usize, from: usize, terms: &mut [(usize, Decimal); AHEAD])
     requires row { i < num_rows model.now }
     requires within { from ≤ length (row_columns model.now (row_name model.now i)) }
-    ensures { AreTerms model.now i from AHEAD result }
+    ensures { AreTerms model.now i from AHEAD terms.new }
 {
     let count = AHEAD.min(model.row_len(i) - from);
-    let mut terms = [(0usize, Decimal::zero()); AHEAD];
     for n in 0..count {
         terms[n] = model.row_entry(i, from + n);
     }
-    terms
 }
 
 /// The name of the column of term `from + n` of row `i`, which is this one. Empty if there is no such term.
@@ -118,12 +116,13 @@ fn put_many_terms<W: Sink>(model: &Model, i: usize, output: &mut Output<W>)
     ensures { Prints line_text W.Sink output.old output.new (lines_of_terms model.now (row_name model.now i)) }
 {
     let mut from = 0;
-    let mut terms = terms_from(model, i, from);
+    let mut terms = [(0usize, Decimal::zero()); AHEAD];
+    look_up_terms(model, i, from, &mut terms);
     let mut names = names_of(model, i, from, &terms);
     for k in 0..model.row_len(i) {
         if k - from == AHEAD {
             from = k;
-            terms = terms_from(model, i, from);
+            look_up_terms(model, i, from, &mut terms);
             names = names_of(model, i, from, &terms);
         }
         put_term(model, i, k, terms[k - from], names[k - from], output);

@@ -1,9 +1,8 @@
 use Rattle.mpslp_lp_write.proofs.Prelude
-use Prelude.{[], ◌∷◌, AtMost, number, sense, puts_then, prints_line}
+use Prelude.{[], ◌∷◌, AtMost, number, sense, prints_line}
 use Rattle.mpslp_lp_write.proofs.LpLineTexts.{line-text}
 use Rattle.mpslp_lp_write.proofs.lp.lines.put_left_line.Goals as goal
 
 pub returns : goal.returns
 returns g c =
-    prints_line (line-text 2 (number c.args.lower) (sense AtMost ∷ [])) c.put_header.ensures
-    (puts_then c.put.ensures (puts_then c.put_number.ensures c.put-2.ensures))
+    prints_line (line-text 2 (number c.args.lower) (sense AtMost ∷ [])) c.put_header.ensures c.put_number.ensures

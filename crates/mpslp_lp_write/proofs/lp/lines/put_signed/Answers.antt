@@ -1,8 +1,8 @@
 use Rattle.mpslp_lp_write.proofs.Prelude
-use Prelude.{ap, ◌∙◌, ◌++◌, codes, number_text, sign_bytes, puts_then, puts_same}
+use Prelude.{ap, ◌∙◌, ◌++◌, codes, number_text, size_of, sign_bytes, puts_same, List, ℕ}
 use Rattle.mpslp_lp_write.proofs.lp.lines.put_signed.Goals as goal
 
 pub returns : goal.returns
 returns g c =
-    puts_then (puts_same (c.sign_text.ensures ∙ ap (λ minus. codes "  " ++ (sign_bytes minus ++ codes " "))
-    c.is_negative.ensures) c.put.ensures) (puts_same (ap number_text c.abs.ensures) c.put_number.ensures)
+    puts_same (ap (λ (front : List ℕ). front ++ (number_text (size_of c.args.value) ++ c.args.back.now)) (c.sign_text.ensures
+    ∙ ap (λ minus. codes "  " ++ (sign_bytes minus ++ codes " ")) c.is_negative.ensures)) c.put_size.ensures

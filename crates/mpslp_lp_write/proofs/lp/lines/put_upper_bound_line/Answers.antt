@@ -1,5 +1,5 @@
 use Rattle.mpslp_lp_write.proofs.Prelude
-use Prelude.{[], ◌∷◌, AtMost, word, number, sense, minus_infinity, puts_then, prints_line}
+use Prelude.{[], ◌∷◌, codes, AtMost, word, number, sense, minus_infinity, puts_between, prints_line}
 use Rattle.mpslp_lp_write.proofs.LpLineTexts.{line-text}
 use Rattle.mpslp_lp_write.proofs.lp.lines.put_upper_bound_line.Goals as goal
 
@@ -7,5 +7,4 @@ pub returns : goal.returns
 returns g c =
     prints_line (line-text 1 (minus_infinity)
     (sense AtMost ∷ word c.args.column.now ∷ sense AtMost ∷ number c.args.upper ∷ [])) c.put_header.ensures
-    (puts_then c.put.ensures (puts_then c.put-2.ensures
-    (puts_then c.put-3.ensures (puts_then c.put_number.ensures c.put-4.ensures))))
+    (puts_between (codes " -infinity <= ") c.args.column.now (codes " <= ") c.put_between.ensures c.put_number.ensures)

@@ -28,13 +28,13 @@ put_term-requires-clause-term g c =
     let names = c.if-k-from-eq-AHEAD.names in
     let now : IsNear m i k from terms names = elim c.if-k-from-eq-AHEAD.branch [
       | then-k-from-eq-AHEAD w ↦
-          near-as m i k k from w.terms_from-terms-then-k-from-eq-AHEAD.result terms
+          near-as m i k k from w.look_up_terms-then-k-from-eq-AHEAD.new.terms terms
           w.names_of-names-then-k-from-eq-AHEAD.result names w.from-is w.terms-is w.names-is
           (record {
             begun = omega arith;
             near = omega arith;
             known =
-                w.terms_from-terms-then-k-from-eq-AHEAD.ensures;
+                w.look_up_terms-then-k-from-eq-AHEAD.ensures;
             named = w.names_of-names-then-k-from-eq-AHEAD.ensures;
           })
       | else-k-from-eq-AHEAD w ↦
@@ -63,13 +63,13 @@ loop-k-preserved g c =
     let names = c.if-k-from-eq-AHEAD.names in
     let now : IsNear m i k from terms names = elim c.if-k-from-eq-AHEAD.branch [
       | then-k-from-eq-AHEAD w ↦
-          near-as m i k k from w.terms_from-terms-then-k-from-eq-AHEAD.result terms
+          near-as m i k k from w.look_up_terms-then-k-from-eq-AHEAD.new.terms terms
           w.names_of-names-then-k-from-eq-AHEAD.result names w.from-is w.terms-is w.names-is
           (record {
             begun = omega arith;
             near = omega arith;
             known =
-                w.terms_from-terms-then-k-from-eq-AHEAD.ensures;
+                w.look_up_terms-then-k-from-eq-AHEAD.ensures;
             named = w.names_of-names-then-k-from-eq-AHEAD.ensures;
           })
       | else-k-from-eq-AHEAD w ↦
@@ -102,13 +102,13 @@ put_term-requires-clause-name g c =
     let names = c.if-k-from-eq-AHEAD.names in
     let now : IsNear m i k from terms names = elim c.if-k-from-eq-AHEAD.branch [
       | then-k-from-eq-AHEAD w ↦
-          near-as m i k k from w.terms_from-terms-then-k-from-eq-AHEAD.result terms
+          near-as m i k k from w.look_up_terms-then-k-from-eq-AHEAD.new.terms terms
           w.names_of-names-then-k-from-eq-AHEAD.result names w.from-is w.terms-is w.names-is
           (record {
             begun = omega arith;
             near = omega arith;
             known =
-                w.terms_from-terms-then-k-from-eq-AHEAD.ensures;
+                w.look_up_terms-then-k-from-eq-AHEAD.ensures;
             named = w.names_of-names-then-k-from-eq-AHEAD.ensures;
           })
       | else-k-from-eq-AHEAD w ↦

@@ -1,7 +1,7 @@
 use Rattle.mpslp_lp_write.proofs.Prelude
 use Prelude.{◌≡◌, sym, subst, ◌∙◌, ◌+◌, ◌<◌, ℕ, length, inl, inr, arith, set, slice_index_or, cases_lt, length-set, get_or-set_same}
 use Prelude.{get_or-set_other, Number, IsTerm}
-use Rattle.mpslp_lp_write.proofs.lp.rows.terms_from.Goals as goal
+use Rattle.mpslp_lp_write.proofs.lp.rows.look_up_terms.Goals as goal
 
 pub loop-n-preserved : goal.loop-n-preserved
 loop-n-preserved c =

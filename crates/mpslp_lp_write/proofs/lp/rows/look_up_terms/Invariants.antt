@@ -1,6 +1,6 @@
 use Rattle.mpslp_lp_write.proofs.Prelude
 use Prelude.{◌≡◌, ◌+◌, ◌<◌, ℕ, length, slice_index_or, Number, row_name, row_columns, IsTerm}
-use Rattle.mpslp_lp_write.proofs.lp.rows.terms_from.Given as goal
+use Rattle.mpslp_lp_write.proofs.lp.rows.look_up_terms.Given as goal
 
 -- the terms so far are known
 abbrev pub invariant-loop-n : goal.invariant-loop-n
