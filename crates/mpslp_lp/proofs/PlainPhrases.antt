@@ -44,10 +44,10 @@ tokens-refused = grind arith
 -- ---- taking a sign, an optional number and a name as a whole is the same as taking them one after another
 
 -- a terminal that is accepted
-pub step : (context after : Context) (state next : State) (found more : List Token) (terminal : Terminal) →
+pub one-step : (context after : Context) (state next : State) (found more : List Token) (terminal : Terminal) →
     Begins found terminal more → step context state terminal ≡ Goes after next →
     take_tokens context state found ≡ take_tokens after next more
-step = grind arith
+one-step = grind arith
 
 -- a number without an error is a terminal
 as-begins : (found more : List Token) (literal : List ℕ)
@@ -81,7 +81,7 @@ module _ (context : Context) (start : State) (taken : Decimal → AfterToken) (f
     | inl number ↦ record {
       state = way.numbered _;
       comes = after-sign
-          ∙ step _ _ _ _ _ _ _
+          ∙ one-step _ _ _ _ _ _ _
           (as-begins _ _ _ number none) (way.to_number _);
       takes = way.to_name _;
     }
@@ -96,7 +96,7 @@ module _ (context : Context) (start : State) (taken : Decimal → AfterToken) (f
   pub plain-goes : (after : Context) (next : State) → number_fault literal ≡ None
       → taken (apply_sign sign (value_of literal)) ≡ Goes after next →
       take_tokens after next more ≡ take_tokens context start found
-  plain-goes = grind (arith, context-name, step)
+  plain-goes = grind (arith, context-name, one-step)
 
   -- a term with an error
   pub plain-refused : (after : Context) (error : LineError) → number_fault literal ≡ None →
@@ -209,7 +209,7 @@ some-after = grind arith
 pub some-after-one : (context after : Context) (start middle next : State) (found rest : List Token) (terminal : Terminal)
     (result : Result (List Token) LineError) → Begins found terminal rest → step context start terminal ≡ Goes context middle
     → TakesSome context middle rest result after next → TakesSome context start found result after next
-some-after-one = search (rules, some-after, step, begins-fewer)
+some-after-one = search (rules, some-after, one-step, begins-fewer)
 
 -- ---- sides
 
@@ -241,7 +241,7 @@ side-last context start taken found more limit way side =
         rest = side.after_sign;
         terminal = ends.terminal;
         begins = ends.begins;
-        comes = step _ _ _ _ _ _ _ sign (way.to_signed _);
+        comes = one-step _ _ _ _ _ _ _ sign (way.to_signed _);
         fewer = begins-fewer _ _ _ sign;
         unopened = (limit-of context _ _ _ ends.gives).unopened;
         takes = way.after_sign _ _ ∙ (limit-of context _ _ _ ends.gives).takes (λ given. taken given ends.terminal);
@@ -287,7 +287,7 @@ right-last context start sided found more relation limit goes right = let side =
       rest = side.rest;
       terminal = side.terminal;
       begins = side.begins;
-      comes = step _ _ _ _ _ _ _ right.compares goes ∙ side.comes;
+      comes = one-step _ _ _ _ _ _ _ right.compares goes ∙ side.comes;
       fewer = omega (arith, shorter, side.fewer);
       unopened = side.unopened;
       takes = side.takes;
@@ -324,7 +324,7 @@ left-last context before found after_limit after_relation more limit relation co
       rest = after_relation;
       terminal = Name column;
       begins = name;
-      comes = sym at_left.0 ∙ step _ _ _ _ _ _ _ compares refl;
+      comes = sym at_left.0 ∙ one-step _ _ _ _ _ _ _ compares refl;
       fewer = omega (arith, shorter, at_left.1);
       unopened = refl;
       takes = refl;
@@ -340,7 +340,7 @@ free-last _ _ _ after_name _ _ name free = record {
   rest = after_name;
   terminal = Free;
   begins = free;
-  comes = step _ _ _ _ _ _ _ name refl;
+  comes = one-step _ _ _ _ _ _ _ name refl;
   fewer = begins-fewer _ _ _ name;
   unopened = refl;
   takes = refl;
@@ -409,11 +409,11 @@ from-sign : (context : Context) (name : List ℕ) (sign : SignOf) (start : State
     (Between (InRow (row_of_term name column (apply_sign sign size)))) more
 from-sign context name sign start _ more _ column begins to_number to_name = elim begins.number [
   | inl number ↦
-      step _ _ _ _ _ _ _ number (to_number _)
-      ∙ step _ _ _ _ _ _ _ begins.name refl
+      one-step _ _ _ _ _ _ _ number (to_number _)
+      ∙ one-step _ _ _ _ _ _ _ begins.name refl
   | inr unnumbered ↦
       ap (take_tokens context start) (sym unnumbered.1)
-      ∙ step _ _ _ _ _ _ _ begins.name to_name
+      ∙ one-step _ _ _ _ _ _ _ begins.name to_name
       ∙ ap (λ value. take_tokens context (Between (InRow (row_of_term name column (apply_sign sign value)))) more)
       (sym unnumbered.0)
 ]
@@ -431,7 +431,7 @@ first-taken context name found more value column begins =
     elim begins.signed as (λ _. TakesSome context (RowLabel name) found (Ok more) context
     (Between (InRow (row_of_term name column value)))) [
       | inl sign ↦ let shorter = begins-fewer _ _ _ sign in (
-        sym (step _ _ _ _ _ _ _ sign refl ∙ from-sign _ _ _ _ _ _ _ _ begins.term (λ given. refl) refl
+        sym (one-step _ _ _ _ _ _ _ sign refl ∙ from-sign _ _ _ _ _ _ _ _ begins.term (λ given. refl) refl
             ∙ ap reached (sym begins.gives)),
         omega (arith, fewer, shorter),
       )

@@ -432,31 +432,31 @@ signed_side context (SideOfRow partial relation) l _ _ _ _ _ _ = row_side contex
 signed_side _ (SideOfBound is_new _ _) l _ _ shown here shape value =
     λ n. bound _ _ _ _ _ _ _ shown (side-completes _ _ _ l _ value here (λ gives k. grind arith))
 
-step : (context : Context) (state : State) (earlier : List Terminal) → Shown earlier context.builder → current_section earlier
+by-state : (context : Context) (state : State) (earlier : List Terminal) → Shown earlier context.builder → current_section earlier
     ≡ section_at state → Shape state earlier → (token : Terminal) → Steps earlier context.builder token (step context state token)
-step _ (Between _) _ shown here shape _ = first _ _ _ (grind arith) _
-step context (AtObjective sense) earlier _ _ _ _ = objective-by (Steps earlier context.builder) _ _
+by-state _ (Between _) _ shown here shape _ = first _ _ _ (grind arith) _
+by-state context (AtObjective sense) earlier _ _ _ _ = objective-by (Steps earlier context.builder) _ _
     (λ name n. n) (λ t. started context _ _ (BeforeItems default_objective) tt t refl
     (nothing-refused _ t _ sense default_objective)) _
-step context (ObjectiveName sense label) earlier _ _ _ _ = objective_name-by (Steps earlier context.builder) context sense label
+by-state context (ObjectiveName sense label) earlier _ _ _ _ = objective_name-by (Steps earlier context.builder) context sense label
     (declared context earlier Colon (BeforeItems label) _ refl (nothing-refused _ _ context.builder sense label))
     (λ t. started context earlier _ (InObjective default_objective) tt t refl (first-refused_none _ t _ _ _)) _
-step context AtSemi earlier shown here shape token =
+by-state context AtSemi earlier shown here shape token =
     semi-by (Steps earlier context.builder) context (λ n. n)
     (first InSemis (with_made context []) earlier (here, shown, shape)) token
-step _ (Signs _ _) _ _ _ _ token = (grind (arith, signs-by, bad, term))
-step context (ItemNumber owner sign value) earlier shown here shape token = grind (arith, item_number-by, term, lone)
-step context (RowLabel label) earlier _ _ _ token = row context label earlier token
-step context (BoundName column) earlier shown here shape token =
+by-state _ (Signs _ _) _ _ _ _ token = (grind (arith, signs-by, bad, term))
+by-state context (ItemNumber owner sign value) earlier shown here shape token = grind (arith, item_number-by, term, lone)
+by-state context (RowLabel label) earlier _ _ _ token = row context label earlier token
+by-state context (BoundName column) earlier shown here shape token =
     bound_name-by (Steps earlier context.builder) context column (bad context earlier context.builder)
     (λ n. bound context true _ _ _ _ (InBounds None) shown (free-completes _ _ here shape)) (λ relation n. n) token
-step context (BoundLeftRelation l relation) earlier shown here shape token =
+by-state context (BoundLeftRelation l relation) earlier shown here shape token =
     bound_column-by (Steps earlier context.builder) context l relation (bad context earlier context.builder)
     (λ name n. bound context true name (limits_by (flip relation) l) earlier (Name name)
     (InBounds (Some (name, relation))) shown (grind arith)) token
-step context (AtSide sided) earlier shown here shape token = grind (arith, side-by, bad, side)
-step context (SideSign sided sign) earlier shown here shape token = grind (arith, limit-by, bad, signed_side)
-step context _ earlier shown here shape token = grind arith
+by-state context (AtSide sided) earlier shown here shape token = grind (arith, side-by, bad, side)
+by-state context (SideSign sided sign) earlier shown here shape token = grind (arith, limit-by, bad, signed_side)
+by-state context _ earlier shown here shape token = grind arith
 
 -- ---- the laws
 
@@ -469,7 +469,7 @@ none-known = grind arith
 
 taken : (earlier : List Terminal) (context : Context) (state : State) (token : Terminal)
     → Known earlier context state → KeepsShown earlier token (step context state token)
-taken _ _ _ _ known = step _ _ _ known.shown known.shaped.opened.current known.shaped.shape _ (shown-later _ _ _ known.shown)
+taken _ _ _ _ known = by-state _ _ _ known.shown known.shaped.opened.current known.shaped.shape _ (shown-later _ _ _ known.shown)
 
 pub known-later : (earlier : List Terminal) (context : Context) (state : State) (token : Terminal) (after : Context)
     (next : State) → Known earlier context state → step context state token ≡ Goes after next → Known (token ∷ earlier) after next
