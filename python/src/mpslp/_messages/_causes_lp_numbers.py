@@ -77,7 +77,10 @@ def two_numbers(case: Case, line: Sequence[Token]) -> Found | None:
     for at, (first, second) in enumerate(zip(line, line[1:])):
         if not first.is_number or not second.is_number or is_glued(first, second):
             continue
-        name = line[at + 2] if at + 2 < len(line) and is_word(line[at + 2]) else None
+        after = line[at + 2] if at + 2 < len(line) else None
+        if after is not None and after.is_section and is_glued(second, after):  # 3 1st is a name with a digit first
+            continue
+        name = after if after is not None and is_word(after) else None
         product = product_text((first.text, second.text))
         is_whole = first.text.isdigit() and second.text.isdigit()
         is_split = first.text.endswith(".") and second.text.isdigit()
