@@ -322,6 +322,8 @@ def _is_keyword_as_name(case: Case, at: int) -> bool:
     )
     if not token.is_section and token.word not in SENSES and token.word != "free":
         return False
+    if after is None and len(of_line) > 2 and of_line[-2].is_number and of_line[-3].is_relation:
+        return False
     if after is not None and after.text == ":":
         is_row = any(each.is_relation for each in of_line)
         is_label = token.word in _KEYWORDS_OF_LABELS or (token.word in SENSES and case.kind == "SectionRepeated")
