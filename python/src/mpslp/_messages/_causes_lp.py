@@ -192,7 +192,10 @@ def second_limit(case: Case) -> Found | None:
         return None
     mark = case.mark_of_tokens([label])
     return Found(
-        f"the row is in line {first.number}", _with_both_limits(case, first.number), marks=(first, mark), means_other=True
+        f"the row is in line {first.number}",
+        _with_both_limits(case, first.number),
+        marks=(first, mark),
+        means_other=True,
     )
 
 

@@ -70,7 +70,12 @@ def label_in_brackets(case: Case) -> Found | None:
     if not line or (line[0].text != "[" and (line[0].text[0] != "(" or ":" in (each.text for each in line))):
         return None
     words = [text for each in line[: close + 1] if (text := each.text.strip("[]()"))]
-    if not close or not words or not words[0][0].isalpha() or not all(each.replace("_", "").isalnum() for each in words):
+    if (
+        not close
+        or not words
+        or not words[0][0].isalpha()
+        or not all(each.replace("_", "").isalnum() for each in words)
+    ):
         return None
     if line[0].text != "[" and any(is_used(case, each) for each in words):
         return None

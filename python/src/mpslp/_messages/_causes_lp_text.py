@@ -75,6 +75,8 @@ def _is_free(case: Case, tokens: Sequence[Token], is_line: bool) -> bool:
     if not new or any(each.is_section for each in rest[:1]):
         return False
     has_mark = len("".join(each.text for each in lead)) > 1 or (bool(lead) and not lead[0].is_sign)
+    if lead and lead[0].text == ";" and any(each.is_relation for each in rest):  # another row comes after it
+        return False
     if has_mark:
         return not any(each.is_relation for each in rest[:-1]) or lead[0].text[0] in "#!%/;<"
     if any(each.is_relation or (each.is_sign and not _is_hyphen(rest, at)) for at, each in enumerate(rest)):

@@ -213,11 +213,7 @@ def indicator(case: Case) -> Found:
     number = value_of(row[3].replace(" ", ""))
     if number is None:
         return FOUND
-    lines = list(
-        _relaxed(
-            match["label"] or "", match["column"], match["value"] == "1", terms, row[2], number, bounds
-        )
-    )
+    lines = list(_relaxed(match["label"] or "", match["column"], match["value"] == "1", terms, row[2], number, bounds))
     note = (
         [f"{_LARGEST}: at least what the left side may differ from {decimal_text(number)} by"]
         if any(f" {_LARGEST} " in line for line in lines)
