@@ -8,7 +8,7 @@ from collections.abc import Sequence
 from mpslp._messages._case import Case, Found
 from mpslp._messages._causes_both import Rule
 from mpslp._messages._causes_lp_parts import general_constraints
-from mpslp._messages._lp_edits import instead_of, is_used, start_of
+from mpslp._messages._lp_edits import is_used, start_of
 from mpslp._messages._lp_suspects import (
     is_glued,
     is_word,
