@@ -234,7 +234,7 @@ def _are_together(case: Case, first: str, second: str) -> bool:
 def digit_first_name(case: Case, line: Sequence[Token]) -> Found | None:
     """A number, and after a space a number with letters beside it."""
     for before, number, name in zip(line, line[1:], line[2:]):
-        if before.is_number and number.text.isdigit() and is_glued(number, name) and is_word(name):
+        if before.is_number and number.text.isdigit() and is_glued(number, name) and name.is_name:
             text = number.text + name.text
             if before.end < number.start and Trial(case).passes(instead_of(case, (number, name), f"_{text}")):
                 return shown(case, (number, name), mend=f"_{text}")._replace(means_other=True)
