@@ -18,6 +18,7 @@ from mpslp._messages._nearest import Known
 from mpslp._messages._place import Field, Place, fields_of, place_of, section_before
 from mpslp._messages._tokens import Token, place_between, tokens_of
 from mpslp._text._lines import Line, line_at, line_with
+from mpslp._text._lp_words import BOUNDS, LISTS, ROWS, SECTIONS, SENSES
 
 _MOST_READ = 2**22
 """For the edits of a line of MPS about so many bytes are read again, and the text up to the line once at least."""
@@ -25,6 +26,12 @@ _MOST_BACK = 2**16
 """A statement of LP is looked for among so many bytes before the line."""
 _MOST_OF_LINE = 2**15
 _MOST_AFTER = 2**10
+_OPENED = {
+    **dict.fromkeys(SENSES, ""),
+    **{word: "list" for word, section in SECTIONS.items() if section in LISTS},
+    **{word: section for word, section in SECTIONS.items() if section in (ROWS, BOUNDS)},
+}
+"""What each word of LP opens."""
 
 
 class Found(NamedTuple):
@@ -188,6 +195,14 @@ class Case:
         start = 0 if first == 0 else self.content.find(b"\n", first, self.line.start) + 1 or self.line.start
         number = self.line.number - self.content.count(b"\n", start, self.line.start)
         return tokens_of(self.content, number, start, self.line.start + len(self.line.content))
+
+    @cached_property
+    def openings(self) -> list[tuple[int, str]]:
+        """The numbers of the tokens that open a section, each with it: bounds, rows, a list, or nothing for the
+        objective.
+        """
+        words = ((at, each.word) for at, each in enumerate(self.tokens))
+        return [(at, _OPENED[word]) for at, word in words if word in _OPENED]
 
     @property
     def is_long_line(self) -> bool:

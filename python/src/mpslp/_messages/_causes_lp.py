@@ -19,7 +19,7 @@ from mpslp._messages._causes_lp_words import lone_mark
 from mpslp._messages._lp_edits import instead_of, is_used, span
 from mpslp._messages._lp_rows import first_duplicate
 from mpslp._messages._lp_sums import decimal_text, quotient_text, solved_row, sum_text, value_of
-from mpslp._messages._lp_suspects import is_word, lp_section, on_lines, section_of, shown
+from mpslp._messages._lp_suspects import is_word, lp_section, mark_of_text, on_lines, section_of, shown, text_of
 from mpslp._messages._lp_trials import Edit, Trial
 from mpslp._messages._tokens import Token, tokens_of
 from mpslp._text._lines import line_at
@@ -29,11 +29,13 @@ _MOST_BACK = 6
 """A comma, a semicolon or a comment that starts in another way is looked for among so many tokens before the error."""
 _AFTER_KEYWORD = ("variables", "variable", "columns")
 _FLIPPED = {"<": ">", ">": "<", "<=": ">=", "=<": ">=", ">=": "<=", "=>": "<=", "=": "="}
+_PLUS_OR_MINUS = re.compile(r"[<>=]\s*(\+\s*/\s*-\s*[\d.]+)\s*$")
 _TWO_LIMITS = re.compile(r"([^<>=]+) ([<>=]+) ((?:[-+] )?[\d.eE+-]+) ([<>=]+) ((?:[-+] )?[\d.eE+-]+)")
 _MARK = re.compile(r"[%$#&!?]+")
 _DIVISOR = re.compile(r"/(\d+(?:\.\d*)?)", re.ASCII)
 _BRACKETS = re.compile(r"([A-Za-z_][\w.]*)\s*((?:\[[^\[\]^*]*\])+)", re.ASCII)
 _MOST_AFTER = 10_000
+_MOST_BEFORE = 2**18
 
 
 # ---- keywords
@@ -179,6 +181,36 @@ def row_without_terms(case: Case) -> Found | None:
     return Found(means_other=True) if is_row else None
 
 
+def second_limit(case: Case) -> Found | None:
+    """A relation right after a label that a row before has: the language of lp_solve gives a row a second limit so."""
+    label = case.before(2)
+    if row_without_terms(case) is None or label is None:
+        return None
+    pattern = rb"(?m)^[ \t]*(?:-[^\n]*>=?[ \t]*)?(" + re.escape(label.text.encode("latin-1")) + rb")[ \t]*:"
+    first = case.first_match(pattern, max(0, case.line.start - _MOST_BEFORE))
+    if first is None:
+        return None
+    mark = case.mark_of_tokens([label])
+    return Found(
+        f"the row is in line {first.number}",
+        _with_both_limits(case, first.number),
+        marks=(first, mark),
+        means_other=True,
+    )
+
+
+def _with_both_limits(case: Case, number: int) -> str:
+    """The row of one line with its limit and that of the line with the error; empty if it is not accepted."""
+    first = line_at(case.content, number)
+    row, limit = (" ".join(each.text for each in tokens_of(text)) for text in (first.content, case.line.content))
+    text = _ordered_row(f"{row} {limit.partition(': ')[2]}")
+    label = row.partition(" :")[0]
+    mend = f"{label}: {text}"
+    without = Edit(case.line.start, case.line.start + len(case.line.content), b"")
+    written = Edit(first.start, first.start + len(first.content), mend.encode("latin-1"))
+    return mend if text and Trial(case).passes(written, without) else ""
+
+
 def no_label(case: Case) -> Found | None:
     """A colon at the start of a line, without a name before it."""
     is_first = case.token is not None and case.token.text == ":" and _starts_line(case, case.token_at)
@@ -199,6 +231,16 @@ def _back_from(case: Case) -> list[Token]:
 
 
 # ---- rows
+
+
+@on_lines
+def plus_or_minus(case: Case, line: Sequence[Token]) -> Found | None:
+    """``+/-`` or ``+-`` and a number after a relation."""
+    text = text_of(case, line)
+    match = _PLUS_OR_MINUS.search(text)
+    if match is None:
+        return None
+    return Found(marks=(mark_of_text(case, line, *match.span(1)),), moves=True, means_other=True)
 
 
 def sum_on_the_right(case: Case) -> Found | None:
@@ -255,7 +297,10 @@ def second_relation(case: Case) -> Found | None:
 
 def _ordered(case: Case) -> str:
     """The line ``x >= 1 <= 4`` as ``1 <= x <= 4``; empty if it is not of this form."""
-    text = " ".join(each.text for each in case.tokens if each.line == case.line.number)
+    return _ordered_row(" ".join(each.text for each in case.tokens if each.line == case.line.number))
+
+
+def _ordered_row(text: str) -> str:
     match = _TWO_LIMITS.fullmatch(text.rpartition(": ")[2])
     if match is None or "=" in (match[2], match[4]) or match[2][0] == match[4][0]:
         return ""
@@ -582,11 +627,13 @@ RULES: tuple[Rule, ...] = (
     punctuation_after_row,
     lone_mark,
     text_after_statement,
+    second_limit,
     row_without_terms,
     no_subject_to,
     digit_first,
     space_in_label,
     row_in_bounds,
+    plus_or_minus,
     sum_on_the_right,
     missing_number,
     second_relation,

@@ -22,7 +22,7 @@ from mpslp._messages._lp_trials import Edit, Trial, is_accepted, lines_read
 from mpslp._messages._nearest import nearest
 from mpslp._messages._tokens import Token
 from mpslp._text._lines import line_at, line_with
-from mpslp._text._lp_words import FURTHER_TOKENS, ROWS_IN_TWO_WORDS, SENSES
+from mpslp._text._lp_words import FURTHER_TOKENS, LISTS, ROWS_IN_TWO_WORDS, SECTIONS, SENSES
 
 _MOST_BACK = 12
 """So many lines before the error may be the heading that it comes from."""
@@ -281,6 +281,17 @@ def _is_set_off(case: Case, heading: _Heading) -> bool:
     return first.text[0].isupper() and after is not None and first.start < after.start
 
 
+def list_statements(case: Case) -> Found | None:
+    """A word that opens a list, and columns with ``;`` after them in its line, as lp_solve has it."""
+    token = case.token
+    line = [each for each in case.tokens if token is not None and each.line == token.line]
+    if token is None or len(line) < 2 or line[0] is not token or not line[-1].text.endswith(";"):
+        return None
+    if SECTIONS.get(token.word) not in LISTS or lp_section(case) != "list":
+        return None
+    return shown(case, line)._replace(means_other=True)
+
+
 # ---- the start
 
 
@@ -366,10 +377,11 @@ def misspelt_end(case: Case) -> Found | None:
     text = case.content.rstrip()
     first = text.rfind(b"\n") + 1
     start = max(first, *(text.rfind(space, first) + 1 for space in (b" ", b"\t")))
-    if text[first:start].strip() and re.match(rb"(?i)[ \t]*end\b", text[first:]):
+    if text[first:start].strip() and re.match(rb"(?i)[ \t]*(?:end\b|e[ \t]+n[ \t]+d$)", text[first:]):
         start = first
     last = text[start:].decode("latin-1").strip()
     is_end = re.match(r"(?i)end\b", last) is not None or last.lower().strip(" .;:,!*-\"'`)") in _NEAR_END
+    is_end = is_end or last.lower().split() == ["e", "n", "d"]
     if not is_end or _PLAIN_END.search(text) or not is_accepted(case, text[:start] + b"end\n"):
         return None
     number = case.content.count(b"\n", 0, first) + 1
@@ -413,6 +425,7 @@ def _is_end(case: Case, at: int) -> bool:
 
 
 RULES: tuple[Rule, ...] = (
+    list_statements,
     lazy_constraints,
     other_section,
     text_after_end,

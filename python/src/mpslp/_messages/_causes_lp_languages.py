@@ -8,7 +8,7 @@ from collections.abc import Sequence
 from mpslp._messages._case import Case, Found
 from mpslp._messages._causes_both import Rule
 from mpslp._messages._causes_lp_parts import general_constraints
-from mpslp._messages._lp_edits import is_used
+from mpslp._messages._lp_edits import is_used, start_of
 from mpslp._messages._lp_suspects import (
     is_glued,
     is_word,
@@ -20,6 +20,7 @@ from mpslp._messages._lp_suspects import (
     shown,
     text_of,
 )
+from mpslp._messages._lp_trials import Edit, Trial
 from mpslp._messages._tokens import Token
 from mpslp._text._lp_words import INFINITIES
 
@@ -29,8 +30,8 @@ _FUNCTION = re.compile(
 )
 _LOOP = re.compile(
     r"(?<![\w.])(?:(?:sum|prod|for|forall)\s*(?:\{|\([^()]*(?:\bin\b|\.\.|=))|(?:for|sum|prod)\s+\w+\s*(?:\bin\b|=)"
-    r"|forall\s+\w+|for\s+(?:all|each|every)\b|(?:sum|prod)\s*_|sum\s+over\b|(?:sum|"
-    r"prod)\s*\(\w+\)\s+[A-Za-z_]\w*)|\+\s*\.\.\.?\s*\+|\\sum\b|@(?:sum|for)\b"
+    r"|forall\s+\w+|for\s+(?:all|each|every)\b|(?:sum|prod)\s*_(?:\{|[a-z]\s+\w+_?[\[({]?[a-z]\b)|sum\s+over\b"
+    r"|(?:sum|prod)\s*\(\w+\)\s+[A-Za-z_]\w*)|\+\s*\.\.\.?\s*\+|\\sum\b|@(?:sum|for)\b"
     r"|\bsum\s*\(\s*\w+:\w+\s*\)|,\s*(?:for\s+)?[a-z]\s*(?:=|in\b)\s*\d+\s*(?:,|\.\.|to\b)",
     re.IGNORECASE,
 )
@@ -46,9 +47,11 @@ _BETWEEN = re.compile(
     rf"(?P<upper>{_NUMBER})\s*$",
     re.IGNORECASE,
 )
+_LIMIT = rf"(?:{_NUMBER}|[-+]?inf(?:inity)?)"
 _SIDE_BY_SIDE = re.compile(
-    rf"\s*(?P<name>[A-Za-z_][\w.]*)\s*(?:[:=]\s*)?(?<![\w.])(?P<lower>{_NUMBER})\s*(?:,|;|"
-    rf"to\b|\s)\s*(?P<upper>{_NUMBER})\s*$"
+    rf"\s*(?P<name>[A-Za-z_][\w.]*)\s*(?:[:=]\s*)?(?<![\w.])(?P<lower>{_LIMIT})\s*(?:,|;|"
+    rf"to\b|\s)\s*(?P<upper>{_LIMIT})\s*$",
+    re.IGNORECASE,
 )
 _TO = re.compile(rf"\s*(?P<lower>{_NUMBER})\s*(?:to|-|\.\.+)\s*(?P<upper>{_NUMBER})\s+(?P<name>[A-Za-z_][\w.]*)\s*$")
 _DASH = re.compile(
@@ -108,7 +111,7 @@ def function_of_columns(case: Case, line: Sequence[Token]) -> Found | None:
 def loop(case: Case, line: Sequence[Token]) -> Found | None:
     """A sum or a loop over an index."""
     match = _LOOP.search(text_of(case, line))
-    if match is None:
+    if match is None or is_used(case, match[0].split()[0]):
         return None
     return Found(marks=(mark_of_text(case, line, *match.span()),), moves=True, means_other=True)
 
@@ -132,8 +135,17 @@ def range_of_values(case: Case, line: Sequence[Token]) -> Found | None:
             moves=True,
             means_other=True,
         )
-    mend = "" if name is None else f"{match['lower']} <= {name} <= {match['upper']}"
-    return Found(mend=mend, marks=(mark_of_text(case, line, *match.span()),), moves=True, means_other=True)
+    first = next((each for each in line if name and each.start <= match.start(_group_of_name(match)) < each.end), None)
+    start = match.start() if first is None else min(first.start, match.start())
+    mark = mark_of_text(case, line, start, match.end())
+    mend = "" if first is None else f"{match['lower']} <= {first.text} <= {match['upper']}"
+    place = start_of(case, line[0].line)
+    passes = Trial(case).passes(Edit(place + start, place + match.end(), mend.encode("latin-1")))
+    return Found(mend=mend if passes else "", marks=(mark,), moves=True, means_other=True)
+
+
+def _group_of_name(match: re.Match[str]) -> str:
+    return "before" if match.groupdict().get("before") else "name"
 
 
 @on_lines

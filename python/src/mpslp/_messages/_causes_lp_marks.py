@@ -64,13 +64,23 @@ def label_of_words(case: Case) -> Found | None:
 
 
 def label_in_brackets(case: Case) -> Found | None:
-    """A word in brackets at the start of a line, which is read as a label."""
+    """Words in brackets, or in parentheses that are nowhere else, at the start of a line: they are read as a label."""
     line = [each for each in case.tokens if each.line == case.line.number]
-    close = next((at for at, each in enumerate(line) if each.text == "]"), 0)
-    if not line or line[0].text != "[" or close < 2 or not line[1].is_name:
+    close = next((at for at, each in enumerate(line) if each.text == "]" or each.text.endswith(")")), 0)
+    if not line or (line[0].text != "[" and (line[0].text[0] != "(" or ":" in (each.text for each in line))):
+        return None
+    words = [text for each in line[: close + 1] if (text := each.text.strip("[]()"))]
+    if (
+        not close
+        or not words
+        or not words[0][0].isalpha()
+        or not all(each.replace("_", "").isalnum() for each in words)
+    ):
+        return None
+    if line[0].text != "[" and any(is_used(case, each) for each in words):
         return None
     end = close + 1 if close + 1 < len(line) and line[close + 1].text == ":" else close
-    label = "_".join(each.text for each in line[1:close])
+    label = "_".join(words)
     if not Trial(case).passes(instead_of(case, line[: end + 1], f"{label}:")):
         return None
     return shown(case, line[: end + 1], mend=f"{label}:")

@@ -77,16 +77,20 @@ def two_numbers(case: Case, line: Sequence[Token]) -> Found | None:
     for at, (first, second) in enumerate(zip(line, line[1:])):
         if not first.is_number or not second.is_number or is_glued(first, second):
             continue
-        name = line[at + 2] if at + 2 < len(line) and is_word(line[at + 2]) else None
+        after = line[at + 2] if at + 2 < len(line) else None
+        if after is not None and after.is_section and is_glued(second, after):  # 3 1st is a name with a digit first
+            continue
+        name = after if after is not None and is_word(after) else None
         product = product_text((first.text, second.text))
         is_whole = first.text.isdigit() and second.text.isdigit()
-        is_split = first.text.endswith(".") and second.text.isdigit()
+        is_split = (first.text + second.text).count(".") == 1 and (first.text[-1] == "." or second.text[0] == ".")
         meant = [first.text + second.text] * (is_whole or is_split) + (
             [product] if product and name and not is_split else []
         )
         if name is None:
+            is_pair = bool(meant) and not (after is not None and after.is_number)
             return read_otherwise(
-                case, (first, second), f"{joined((first, second))} may be {meant[0]}" if meant else ""
+                case, (first, second), f"{joined((first, second))} may be {meant[0]}" if is_pair else ""
             )
         return read_otherwise(
             case,
@@ -155,10 +159,11 @@ def letter_as_digit(case: Case, line: Sequence[Token]) -> Found | None:
 
 @on_lines
 def percent(case: Case, line: Sequence[Token]) -> Found | None:
-    """A number, a percent sign, and a column."""
-    for first, mark, name in zip(line, line[1:], line[2:]):
-        if first.is_number and mark.text == "%" and is_word(name):
-            return read_otherwise(case, (first, mark), mend=quotient_text(first.text, "100"))
+    """A number, a percent sign, and a column or another number."""
+    for first, mark, after in zip(line, line[1:], line[2:]):
+        if first.is_number and mark.text == "%" and (is_word(after) or after.is_number):
+            mend = quotient_text(first.text, "100") if is_word(after) else ""
+            return read_otherwise(case, (first, mark), mend=mend)
     return None
 
 

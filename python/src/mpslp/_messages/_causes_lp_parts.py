@@ -249,6 +249,8 @@ def bound_in_list(case: Case, line: Sequence[Token]) -> Found | None:
         return None
     if not any(each.is_relation or each.is_number or each.is_sign or each.text == ":" for each in line):
         return None
+    if all(each.is_sign for each in line):
+        return None
     names = [each.text for each in line if is_word(each) and is_column(case, each.text)]
     name = " ".join(names) or next((each.text for each in line if is_word(each)), "")
     has_relation = len(names) == 1 and any(each.is_relation for each in line)

@@ -9,6 +9,7 @@ from collections.abc import Sequence
 
 from mpslp._messages._case import Case, Found
 from mpslp._messages._causes_both import Rule
+from mpslp._messages._lp_edits import instead_of
 from mpslp._messages._lp_suspects import (
     is_column,
     is_glued,
@@ -23,6 +24,7 @@ from mpslp._messages._lp_suspects import (
     without_label,
 )
 from mpslp._messages._lp_sums import terms_of
+from mpslp._messages._lp_trials import Trial
 from mpslp._messages._tokens import Token
 from mpslp._text._lp_words import FREE, INFINITIES, ROWS, SECTIONS, SENSES
 
@@ -134,8 +136,14 @@ def two_relations(case: Case, line: Sequence[Token]) -> Found | None:
     text = "".join(each.text for each in found)
     if len(text) > _MANY or (is_glued(*found[:2]) and text in ("==", "===", "<>")):
         return None
-    meant = "" if "<" in text and ">" in text else ">=" if ">" in text else "<=" if "<" in text else "="
-    return shown(case, found, mend=meant)
+    return shown(case, found, mend=_meant_relation(text))
+
+
+def _meant_relation(marks: str) -> str:
+    """The relation that is meant by the marks of two; empty for ``<=>`` or ``=<=``, which may be one or the other."""
+    if ("<" in marks and ">" in marks) or (marks[0] == "=" and len(marks) > len("=<") and marks.strip("=")):
+        return ""
+    return ">=" if ">" in marks else "<=" if "<" in marks else "="
 
 
 @on_lines
@@ -299,7 +307,9 @@ def keyword_as_name(case: Case) -> Found | None:
     for at in (case.token_at, case.token_at - 1, case.token_at - 2):
         if 0 <= at < len(case.tokens) and _is_keyword_as_name(case, at):
             token = case.tokens[at]
-            return shown(case, (token,), f"{token.text} is one", f"_{token.text}")
+            name = f"_{token.text}"
+            passes = Trial(case).passes(instead_of(case, (token,), name))
+            return shown(case, (token,), f"{token.text} is one", name if passes else "")
     return None
 
 
@@ -312,9 +322,12 @@ def _is_keyword_as_name(case: Case, at: int) -> bool:
     )
     if not token.is_section and token.word not in SENSES and token.word != "free":
         return False
+    if after is None and len(of_line) > 2 and of_line[-2].is_number and of_line[-3].is_relation:
+        return False
     if after is not None and after.text == ":":
         is_row = any(each.is_relation for each in of_line)
-        return before is None and token.word in _KEYWORDS_OF_LABELS and after is not of_line[-1] and is_row
+        is_label = token.word in _KEYWORDS_OF_LABELS or (token.word in SENSES and case.kind == "SectionRepeated")
+        return before is None and is_label and after is not of_line[-1] and is_row
     is_after_term = before is not None and (before.is_sign or before.is_number or before.text == ":")
     is_before_relation = after is not None and after.is_relation and token.word not in INFINITIES
     return (

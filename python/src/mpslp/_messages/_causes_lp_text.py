@@ -23,6 +23,7 @@ from mpslp._messages._tokens import Token, tokens_of
 from mpslp._text._lp_words import FREE, SECTIONS, SENSES
 
 _MOST_WORDS = 18
+_SENSES_AS_WORDS = ("minimum", "maximum", "min", "max")
 _MOST_LOOKED_AT = 2**18
 _FEWEST_MARKS = 3
 _BEFORE_TEXT = (FREE, *SENSES, "to", "that")
@@ -50,13 +51,13 @@ def free_text(case: Case) -> Found | None:
     for line in suspects(case):
         for at in range(max(0, len(line) - _MOST_WORDS), len(line)):
             rest = line[at:]
-            if _may_end(line[:at]) and _is_free(case, rest, not at) and trial.passes(instead_of(case, rest)):
+            if _ends_statement(line[:at]) and _is_free(case, rest, not at) and trial.passes(instead_of(case, rest)):
                 text = case.content[slice(*span(case, rest[0], rest[-1]))].decode("latin-1")
                 return shown(case, rest, mend=f"\\ {text}")._replace(means_other=True)
     return None
 
 
-def _may_end(line: Sequence[Token]) -> bool:
+def _ends_statement(line: Sequence[Token]) -> bool:
     """Whether a statement may end after the tokens of a line."""
     last = line[-1] if line else None
     return last is None or last.is_number or last.is_section or last.word in _BEFORE_TEXT
@@ -74,6 +75,8 @@ def _is_free(case: Case, tokens: Sequence[Token], is_line: bool) -> bool:
     if not new or any(each.is_section for each in rest[:1]):
         return False
     has_mark = len("".join(each.text for each in lead)) > 1 or (bool(lead) and not lead[0].is_sign)
+    if lead and lead[0].text == ";" and any(each.is_relation for each in rest):  # another row comes after it
+        return False
     if has_mark:
         return not any(each.is_relation for each in rest[:-1]) or lead[0].text[0] in "#!%/;<"
     if any(each.is_relation or (each.is_sign and not _is_hyphen(rest, at)) for at, each in enumerate(rest)):
@@ -100,7 +103,7 @@ def text_after_statement(case: Case) -> Found | None:
     for line in suspects(case):
         for at in range(max(1, len(line) - _MOST_WORDS), len(line)):
             rest = line[at:]
-            if _may_end(line[:at]) and _are_new(case, rest) and trial.passes(instead_of(case, rest)):
+            if _ends_statement(line[:at]) and _are_new(case, rest) and trial.passes(instead_of(case, rest)):
                 text = case.content[slice(*span(case, rest[0], rest[-1]))].decode("latin-1")
                 return shown(case, rest, mend=f"\\ {text}")._replace(means_other=True)
     return None
@@ -110,7 +113,9 @@ def _are_new(case: Case, tokens: Sequence[Token]) -> bool:
     """Whether tokens have words that are nowhere else, and no relation."""
     words = [each for each in tokens if _WORD.search(each.text)]
     has_mark = any(each.is_relation or each.text == ":" or each.is_section for each in tokens)
-    return bool(words) and not has_mark and all(is_word(each) and not is_used(case, each.text) for each in words)
+    if not words or has_mark or any(is_used(case, each.text) for each in words):
+        return False
+    return all(is_word(each) or each.word in _SENSES_AS_WORDS for each in words)
 
 
 # ---- placeholders
@@ -229,7 +234,7 @@ def _are_together(case: Case, first: str, second: str) -> bool:
 def digit_first_name(case: Case, line: Sequence[Token]) -> Found | None:
     """A number, and after a space a number with letters beside it."""
     for before, number, name in zip(line, line[1:], line[2:]):
-        if before.is_number and number.text.isdigit() and is_glued(number, name) and is_word(name):
+        if before.is_number and number.text.isdigit() and is_glued(number, name) and name.is_name:
             text = number.text + name.text
             if before.end < number.start and Trial(case).passes(instead_of(case, (number, name), f"_{text}")):
                 return shown(case, (number, name), mend=f"_{text}")._replace(means_other=True)

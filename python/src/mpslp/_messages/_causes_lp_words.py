@@ -89,7 +89,8 @@ def comma_between_terms(case: Case, line: Sequence[Token]) -> Found | None:
     """A column with a comma or a semicolon at its end, and another one after it."""
     for first, second in zip(line, line[1:]):
         name = first.text.rstrip(",;")
-        if name and name != first.text and is_word(first) and is_word(second) and lp_section(case) in ("", "rows"):
+        is_term = is_word(second) or second.is_number
+        if name and name != first.text and is_word(first) and is_term and lp_section(case) in ("", "rows"):
             return shown(case, (first, second), mend=f"{name} + {second.text}")._replace(means_other=True)
     return None
 

@@ -188,13 +188,24 @@ def first_label(case: Case) -> Found:
     """Both labels; that of the second row may be in a line before the one with the error."""
     found = first_duplicate(case.content, case.line.start + len(case.line.content))
     if found is None:
-        return FOUND
+        return _label_of_line(case)
     first, second = (case.mark_at(row.start, row.end) for row in found)
     what = "the first" if found[0].position else "the objective"
     where = "both are in this line" if first.number == second.number else f"{what} is in line {first.number}"
     if second.number != case.line.number:
         where += f", the {'second' if found[0].position else 'row'} in line {second.number}"
     return Found(where, words=found[1].name, marks=(first, second))
+
+
+def _label_of_line(case: Case) -> Found:
+    """The first label of the line that a line before starts with: the rows of a large text are not read again."""
+    for label, colon in zip(case.tokens, case.tokens[1:]):
+        if label.line != case.line.number or colon.text != ":":
+            continue
+        first = case.first_match(rb"\n[ \t]*(" + re.escape(label.text.encode("latin-1")) + rb")[ \t]*:")
+        if first is not None:
+            return _first(case, first)._replace(words=label.text, marks=(first, case.mark_of_tokens([label])))
+    return FOUND
 
 
 def first_term(case: Case) -> Found:

@@ -73,7 +73,7 @@ def solved_row(tokens: Sequence[Token]) -> str | None:
         return None
     constants = [term.value for term in right if not term.name] + [term.moved().value for term in left if not term.name]
     number = sum_text(constants)
-    return None if number is None else f"{_sum(terms)} {tokens[at[0]].text} {number}"
+    return None if number is None else f"{sum_of(terms)} {tokens[at[0]].text} {number}"
 
 
 def sum_text(values: Sequence[Fraction | None]) -> str | None:
@@ -82,7 +82,15 @@ def sum_text(values: Sequence[Fraction | None]) -> str | None:
     return decimal_text(sum(known, Fraction(0))) if len(known) == len(values) else None
 
 
-def _sum(terms: Sequence[Term]) -> str:
+def with_term(terms: Sequence[Term], column: str, coefficient: Fraction) -> list[Term]:
+    """The terms and one more, which is added to that of the same column."""
+    own = next((term for term in terms if term.name == column), None)
+    total = coefficient + (own.value or 0 if own is not None else 0)
+    new = Term(total < 0, decimal_text(abs(total)) or "", column)
+    return [*terms, new] if own is None else [new if term is own else term for term in terms]
+
+
+def sum_of(terms: Sequence[Term]) -> str:
     first = ("- " if terms[0].is_negative else "") + terms[0].text
     return " ".join([first, *(f"{'-' if term.is_negative else '+'} {term.text}" for term in terms[1:])])
 

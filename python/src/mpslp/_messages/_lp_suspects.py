@@ -13,7 +13,7 @@ from mpslp._messages._case import Case, Found
 from mpslp._messages._excerpt import Mark
 from mpslp._messages._tokens import Token
 from mpslp._text._lines import line_at
-from mpslp._text._lp_words import BOUNDS, FREE, INFINITIES, LISTS, ROWS, SECTIONS, SENSES
+from mpslp._text._lp_words import FREE, INFINITIES, ROWS, SENSES
 
 LineRule = Callable[[Case, Sequence[Token]], Found | None]
 """Returns what it has found in the tokens of a line."""
@@ -104,21 +104,14 @@ def is_column(case: Case, name: str) -> bool:
 
 def lp_section(case: Case) -> str:
     """The section of the token with the error: bounds, rows, a list, or nothing for the objective."""
-    return _section_after(case.tokens[: case.token_at])
+    return _section_at(case, case.token_at)
 
 
 def section_of(case: Case, line: Sequence[Token]) -> str:
     """The section of a line, as that of the error."""
-    return _section_after(case.tokens[: case.tokens.index(line[0])])
+    return _section_at(case, case.tokens.index(line[0]))
 
 
-def _section_after(tokens: Sequence[Token]) -> str:
-    for each in reversed(tokens):
-        section = SECTIONS.get(each.word)
-        if section in LISTS:
-            return "list"
-        if section in (BOUNDS, ROWS):
-            return section
-        if each.word in SENSES:
-            return ""
-    return "rows"  # of a long section
+def _section_at(case: Case, at: int) -> str:
+    """The section of a token; that of the rows, if a long section opens before the tokens."""
+    return next((section for place, section in reversed(case.openings) if place < at), ROWS)

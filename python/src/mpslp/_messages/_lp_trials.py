@@ -88,15 +88,15 @@ class Trial:
         left = self._lines_left(text)
         if left is None or self._left is None:
             return left is None
-        return left < self._left and self._may_end(text, left)
+        return left < self._left and self._is_whole_before(text, left)
 
     def may_come(self, place: int, tried: str) -> bool:
         """Whether the text up to a place, and what is tried there, have no error of a line."""
         before = self._before + self._case.content[self._start : place].rstrip()
         return self.is_known and self._lines_left(b"%b %b\n" % (before, tried.encode())) is None
 
-    def _may_end(self, text: bytes, left: int) -> bool:
-        """Whether a text may end before its last lines."""
+    def _is_whole_before(self, text: bytes, left: int) -> bool:
+        """Whether the text before its last lines may end there."""
         return self._lines_left(b"\n".join(text.split(b"\n")[: -left - 1]) + _END) is None
 
 

@@ -15,7 +15,7 @@ from typing import NamedTuple
 from mpslp import _mpslp
 from mpslp._errors._faults import ModelFileError
 from mpslp._messages._case import FOUND, Case, Found
-from mpslp._messages._lp_sums import Term, decimal_text, terms_of, value_of
+from mpslp._messages._lp_sums import Term, decimal_text, sum_of, terms_of, value_of, with_term
 from mpslp._messages._tokens import tokens_of
 from mpslp._text._numbers import LARGE
 
@@ -213,11 +213,7 @@ def indicator(case: Case) -> Found:
     number = value_of(row[3].replace(" ", ""))
     if number is None:
         return FOUND
-    lines = list(
-        _relaxed(
-            match["label"] or "", match["column"], match["value"] == "1", row[1].strip(), terms, row[2], number, bounds
-        )
-    )
+    lines = list(_relaxed(match["label"] or "", match["column"], match["value"] == "1", terms, row[2], number, bounds))
     note = (
         [f"{_LARGEST}: at least what the left side may differ from {decimal_text(number)} by"]
         if any(f" {_LARGEST} " in line for line in lines)
@@ -230,7 +226,6 @@ def _relaxed(
     label: str,
     column: str,
     is_one: bool,
-    text: str,
     terms: Sequence[Term],
     relation: str,
     number: Fraction,
@@ -248,15 +243,16 @@ def _relaxed(
                 else f"{decimal_text(number)}"
             )
             sign = "+" if is_one == (direction > 0) else "-"
-            yield f"{name}{text} {sign} {_LARGEST} {column} {mark} {limit}"
+            if all(term.name != column for term in terms):
+                yield f"{name}{sum_of(terms)} {sign} {_LARGEST} {column} {mark} {limit}"
             continue
         room = farthest - number  # what the left side may exceed the number by, in the direction
         if room * direction <= 0:
-            yield f"{name}{text} {mark} {decimal_text(number)}"
+            yield f"{name}{sum_of(terms)} {mark} {decimal_text(number)}"
             continue
         coefficient = room if is_one else -room
         side = decimal_text(number + room if is_one else number)
-        yield f"{name}{text} {'+' if coefficient > 0 else '-'} {decimal_text(abs(coefficient))} {column} {mark} {side}"
+        yield f"{name}{sum_of(with_term(terms, column, coefficient))} {mark} {side}"
 
 
 def _farthest(terms: Sequence[Term], bounds: Mapping[str, Bounds], direction: int) -> Fraction | None:
