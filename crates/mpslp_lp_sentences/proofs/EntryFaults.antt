@@ -354,33 +354,33 @@ side _ (SideOfRow row _) l _ _ known h = row_ended _ row _ l _ _ known h
 side context (SideOfBound is_new column relation) l earlier token known h =
     bound context is_new column (limits_by relation l) earlier token None known
 
-step : (context : Context) (state : State) (earlier : Tokens)
+by-state : (context : Context) (state : State) (earlier : Tokens)
     → AreKnown context.builder → EntriesAt state earlier context.builder → ObjectiveAt state earlier context.builder →
     Shape state earlier → current_section earlier ≡ section_at state → (token : Terminal) →
     KeepsEntries earlier token (step context state token)
-step context (Between place) earlier known h o shape here token = grind (arith, first)
-step context (AtObjective sense) earlier known h o shape here token = grind (arith, first_objective)
-step _ (ObjectiveName _ _) _ _ h o _ here _ = named_objective _ _ _ _ o.0.none o.1 here _
-step context AtSemi earlier known h o shape here token =
+by-state context (Between place) earlier known h o shape here token = grind (arith, first)
+by-state context (AtObjective sense) earlier known h o shape here token = grind (arith, first_objective)
+by-state _ (ObjectiveName _ _) _ _ h o _ here _ = named_objective _ _ _ _ o.0.none o.1 here _
+by-state context AtSemi earlier known h o shape here token =
     semi-by (KeepsEntries earlier) context (known, tt) (first InSemis (with_made context []) earlier known tt shape here) token
-step context (Signs owner sign) earlier known h o shape here token =
+by-state context (Signs owner sign) earlier known h o shape here token =
     grind (arith, owner-entries, signs-by, bad, owner-signed, term, owner-numbered)
-step context (ItemNumber owner sign value) earlier known h o shape here token = grind (arith, item_number-by, term, lone)
-step context (RowLeftRelation partial) earlier known h o shape here token = grind (arith, item)
-step context (BoundName column) earlier known h o _ _ token = bound_name-by (KeepsEntries earlier) context column
+by-state context (ItemNumber owner sign value) earlier known h o shape here token = grind (arith, item_number-by, term, lone)
+by-state context (RowLeftRelation partial) earlier known h o shape here token = grind (arith, item)
+by-state context (BoundName column) earlier known h o _ _ token = bound_name-by (KeepsEntries earlier) context column
     (bad context earlier) (bound context true column no_limits earlier Free None known) (λ relation. (known, tt)) token
-step context (BoundLeftRelation l relation) earlier known h o _ _ token =
+by-state context (BoundLeftRelation l relation) earlier known h o _ _ token =
     bound_column-by (KeepsEntries earlier) context l relation (bad context earlier)
     (λ name. bound context true name (limits_by (flip _) l) earlier (Name name) (Some (name, relation)) known) token
-step context (AtSide _) earlier known h o _ _ token = side-by
+by-state context (AtSide _) earlier known h o _ _ token = side-by
     (KeepsEntries earlier) _ _ (bad context earlier) (λ sign. (known, h)) (λ value. side _ _ _ _ _ known h)
     (side _ _ _ _ _ known h) token
-step context (SideSign sided sign) earlier known h o _ _ token =
+by-state context (SideSign sided sign) earlier known h o _ _ token =
     limit-by (KeepsEntries earlier) context (λ l t. end_side context sided l t) sign (bad context earlier)
     (λ value. side context _ (limit_of (apply_sign sign value)) earlier (Number value) known h)
     (side context _ (infinity sign) earlier Infinity known h) token
-step context AfterEnd earlier _ h o _ _ token = bad context earlier token
-step context _ earlier known h o shape here token = grind arith
+by-state context AfterEnd earlier _ h o _ _ token = bad context earlier token
+by-state context _ earlier known h o shape here token = grind arith
 
 -- ---- the law
 
@@ -391,7 +391,7 @@ record Entered (earlier : Tokens) (context : Context) (state : State) : Type 0 w
 
 taken : (earlier : Tokens) (context : Context) (state : State) (token : Terminal) → Entered earlier context state →
     KeepsEntries earlier token (step context state token)
-taken = grind (arith, step, opened)
+taken = grind (arith, by-state, opened)
 
 entered-later : (earlier : Tokens) (context : Context) (state : State) (token : Terminal) (after : Context) (next : State)
     → Entered earlier context state → step context state token ≡ Goes after next → Entered (token ∷ earlier) after next

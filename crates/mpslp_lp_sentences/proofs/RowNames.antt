@@ -480,38 +480,38 @@ signed_side context (SideOfRow row relation) l earlier token h name shape here v
 signed_side context (SideOfBound is_new column relation) l earlier token h name shape here value =
     grind (arith, bound, elsewhere-no_end, value-no_label)
 
-step : (context : Context) (state : State) (earlier : Tokens) → Rowed earlier context.builder →
+by-state : (context : Context) (state : State) (earlier : Tokens) → Rowed earlier context.builder →
     ObjectiveAt state earlier context.builder → NameAt state earlier → Shape state earlier →
     current_section earlier ≡ section_at state → context.sections_seen.objective ≡ has_opened earlier Objective →
     (token : Terminal) → KeepsRows earlier token (step context state token)
-step context (Between AtStart) earlier r o n sh here v token = grind arith
-step context (AtObjective sense) earlier r o n sh here v token =
+by-state context (Between AtStart) earlier r o n sh here v token = grind arith
+by-state context (AtObjective sense) earlier r o n sh here v token =
     grind (arith, objective-by, rowed-later, opened, declared-before, refuses, first, unlabelled)
-step _ (ObjectiveName _ _) _ r o n _ here v _ = named_objective _ _ _ _ r o.0 o.1 v here _
-step context (AtLastWord wanted) earlier r o n sh here v token = grind (arith, last_word, here_from)
-step context AtSemi earlier r o n sh here v token = grind (arith, here_from, semi-by, rowed-on, objective-on, first)
-step context (Signs owner sign) earlier r o n sh here v token = grind (arith, signs, here_from)
-step context (ItemNumber owner sign value) earlier r o n sh here v token = grind (arith, here_from, item_number-by, term, lone)
-step context (RowName _) _ r o n sh here v _ = row_named _ _ _ (here_from _ _ r o v) n sh (grind arith) here _
-step context (RowLabel label) earlier r o n sh here v token = grind arith
-step context (RowSign label sign) earlier r o n sh here v token = grind arith
-step context (RowNumber label sign value) earlier r o n sh here v token = grind arith
-step context (RowLeft label l) earlier r o n sh here v token = grind arith
-step context (RowLeftRelation partial) earlier r o n sh here v token = grind (arith, item, here_from)
-step context (BoundName column) earlier r o n _ _ v token = let h = here_from _ _ r o v in
+by-state _ (ObjectiveName _ _) _ r o n _ here v _ = named_objective _ _ _ _ r o.0 o.1 v here _
+by-state context (AtLastWord wanted) earlier r o n sh here v token = grind (arith, last_word, here_from)
+by-state context AtSemi earlier r o n sh here v token = grind (arith, here_from, semi-by, rowed-on, objective-on, first)
+by-state context (Signs owner sign) earlier r o n sh here v token = grind (arith, signs, here_from)
+by-state context (ItemNumber owner sign value) earlier r o n sh here v token = grind (arith, here_from, item_number-by, term, lone)
+by-state context (RowName _) _ r o n sh here v _ = row_named _ _ _ (here_from _ _ r o v) n sh (grind arith) here _
+by-state context (RowLabel label) earlier r o n sh here v token = grind arith
+by-state context (RowSign label sign) earlier r o n sh here v token = grind arith
+by-state context (RowNumber label sign value) earlier r o n sh here v token = grind arith
+by-state context (RowLeft label l) earlier r o n sh here v token = grind arith
+by-state context (RowLeftRelation partial) earlier r o n sh here v token = grind (arith, item, here_from)
+by-state context (BoundName column) earlier r o n _ _ v token = let h = here_from _ _ r o v in
     bound_name-by (KeepsRows earlier) _ _ (bad context earlier)
     (bound context true column no_limits _ Free None h refl refl)
     (λ relation. (rowed-on _ _ _ refl h, objective-on _ _ _ refl h, tt)) token
-step context (BoundSign sign) earlier r o n sh here v token = grind arith
-step context (BoundLeft l) earlier r o n sh here v token = grind arith
-step context (BoundLeftRelation l relation) earlier r o n _ _ v token = let h = here_from _ context r o v in
+by-state context (BoundSign sign) earlier r o n sh here v token = grind arith
+by-state context (BoundLeft l) earlier r o n sh here v token = grind arith
+by-state context (BoundLeftRelation l relation) earlier r o n _ _ v token = let h = here_from _ context r o v in
     bound_column-by (KeepsRows earlier) context l relation
     (bad context earlier) (λ name. bound _ true name (limits_by (flip _) l) _ (Name name) (Some (name, relation)) h refl
     refl) token
-step context (AtSide sided) earlier r o n sh here v token = grind (arith, here_from, side-by, bad, rowed-on, objective-on, side)
-step context (SideSign sided sign) earlier r o n sh here v token = grind (arith, here_from, limit-by, bad, signed_side)
-step context AfterEnd earlier r o n _ _ v token = bad context earlier token
-step context _ earlier r o n sh here v token = grind (arith, first, here_from)
+by-state context (AtSide sided) earlier r o n sh here v token = grind (arith, here_from, side-by, bad, rowed-on, objective-on, side)
+by-state context (SideSign sided sign) earlier r o n sh here v token = grind (arith, here_from, limit-by, bad, signed_side)
+by-state context AfterEnd earlier r o n _ _ v token = bad context earlier token
+by-state context _ earlier r o n sh here v token = grind (arith, first, here_from)
 
 -- ---- the law
 
@@ -524,7 +524,7 @@ pub record Known (earlier : Tokens) (context : Context) (state : State) : Type 0
 taken : (earlier : Tokens) (context : Context) (state : State) (token : Terminal) → Known earlier context state →
     KeepsRows earlier token (step context state token)
 taken _ context _ token known =
-    step context _ _ known.rowed known.objective known.name known.shaped.shape known.shaped.opened.current
+    by-state context _ _ known.rowed known.objective known.name known.shaped.shape known.shaped.opened.current
     (known.shaped.opened.seen Objective) token
 
 pub known-later : (earlier : Tokens) (context : Context) (state : State) (token : Terminal) (after : Context) (next : State)

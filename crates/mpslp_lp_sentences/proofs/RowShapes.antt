@@ -318,31 +318,31 @@ item_numbered context owner sign value earlier h token = grind (arith, item_numb
 
 -- ---- each state
 
-step : (context : Context) (state : State) (earlier : List Terminal)
+by-state : (context : Context) (state : State) (earlier : List Terminal)
     → Shape state earlier → (token : Terminal) → KeepsShape (section_at state) earlier token (step context state token)
-step _ (Between _) _ h _ = first _ _ _ h _
-step context (AtObjective sense) earlier h token = objective-by (KeepsShape (Some Objective) earlier) context sense
+by-state _ (Between _) _ h _ = first _ _ _ h _
+by-state context (AtObjective sense) earlier h token = objective-by (KeepsShape (Some Objective) earlier) context sense
     (λ name. tt) (later context (objective_declared sense default_objective) (BeforeItems default_objective) earlier tt) token
-step context (ObjectiveName sense label) earlier h token =
+by-state context (ObjectiveName sense label) earlier h token =
     objective_name-by (KeepsShape (Some Objective) earlier) context sense label
     (declared context (Some Objective) earlier Colon
     (refusals_in_turn context.builder (objective_declared sense label)) (BeforeItems label)
     (objective_declared sense label) tt)
     (later context (first_item_declared sense label) (InObjective default_objective) earlier tt) token
-step context AtSemi earlier h token =
+by-state context AtSemi earlier h token =
     semi-by (KeepsShape (Some SemiContinuous) earlier) context tt (first InSemis (with_made context []) earlier h) token
-step _ (Signs _ sign) _ h token = signs _ _ sign _ h token
-step context (ItemNumber _ sign value) _ h _ = item_numbered context _ sign value _ h _
-step context (RowLabel label) _ h token = row context label _ h token
-step _ (RowLeftRelation partial) earlier h token = item _ (OfRow partial) earlier h token
-step context (BoundLeftRelation l relation) earlier h token = let limits = limits_by (flip relation) l in
+by-state _ (Signs _ sign) _ h token = signs _ _ sign _ h token
+by-state context (ItemNumber _ sign value) _ h _ = item_numbered context _ sign value _ h _
+by-state context (RowLabel label) _ h token = row context label _ h token
+by-state _ (RowLeftRelation partial) earlier h token = item _ (OfRow partial) earlier h token
+by-state context (BoundLeftRelation l relation) earlier h token = let limits = limits_by (flip relation) l in
     bound_column-by (KeepsShape (Some Bounds) earlier) context l relation (bad context _ _)
     (λ name. declared _ _ earlier (Name name)
     (bounds_refusals (with_declarations context.builder (declare_column name ∷ [])) name limits.lower
     limits.upper) (InBounds (Some (name, relation))) _ (h, refl)) token
-step context (AtSide sided) earlier h token = grind (arith, side-by, section_of_side, bad, side)
-step context (SideSign sided sign) earlier h token = grind (arith, limit-by, section_of_side, bad, side)
-step context _ earlier h token = grind arith
+by-state context (AtSide sided) earlier h token = grind (arith, side-by, section_of_side, bad, side)
+by-state context (SideSign sided sign) earlier h token = grind (arith, limit-by, section_of_side, bad, side)
+by-state context _ earlier h token = grind arith
 
 -- ---- the laws
 
@@ -358,17 +358,17 @@ pub shaped-later : (earlier : List Terminal) (context : Context) (state : State)
     Shaped (token ∷ earlier) after next
 shaped-later earlier _ state token _ _ known h = record {
   opened = opened-later _ _ _ _ _ _ known.opened h;
-  shape = subst (λ taken. KeepsShape (section_at state) earlier token taken) h (step _ _ _ known.shape _);
+  shape = subst (λ taken. KeepsShape (section_at state) earlier token taken) h (by-state _ _ _ known.shape _);
 }
 
 mixed : (earlier : List Terminal) (context : Context) (state : State) (token : Terminal)
     → Shaped earlier context state → step context state token ≡ Refuses kinds.MixedSenses → mixes_senses earlier token ≡ true
-mixed = grind (arith, opened, section_at, step)
+mixed = grind (arith, opened, section_at, by-state)
 
 constant : (earlier : List Terminal) (context : Context) (state : State) (token : Terminal)
     → Shaped earlier context state → step context state token ≡ Refuses kinds.ConstantInRow →
     follows_constant earlier token ≡ true
-constant = grind (arith, section_at, step, both_so, opened)
+constant = grind (arith, section_at, by-state, both_so, opened)
 
 pub mixed-senses : IsInWords kinds.MixedSenses mixes_senses
 mixed-senses = in-words _ _ _ (record { at_start = none-shaped; goes = shaped-later; refuses = mixed }) refl refl

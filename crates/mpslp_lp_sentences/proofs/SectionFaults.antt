@@ -215,33 +215,33 @@ last_word context wanted token = last_word-by (KeepsSections context here) conte
 
 -- ---- each state
 
-step : (context : Context) (state : State) (token : Terminal) →
+by-state : (context : Context) (state : State) (token : Terminal) →
     KeepsSections context (section_at state) token (step context state token)
-step context (Between place) token = first place context token
-step context (AtObjective sense) token = objective-by (KeepsSections context (Some Objective)) context sense
+by-state context (Between place) token = first place context token
+by-state context (AtObjective sense) token = objective-by (KeepsSections context (Some Objective)) context sense
     (λ name. (refl, refl)) (later context (objective_declared sense default_objective) (BeforeItems default_objective)) token
-step context (ObjectiveName sense label) token = objective_name-by (KeepsSections context (Some Objective)) context sense label
+by-state context (ObjectiveName sense label) token = objective_name-by (KeepsSections context (Some Objective)) context sense label
     (stays context _ Colon (BeforeItems label) (objective_declared sense label) refl refl)
     (later context (first_item_declared sense label) (InObjective default_objective)) token
-step context (AtLastWord wanted) token = last_word context wanted token
-step context AtSemi token = semi-by (KeepsSections context (Some SemiContinuous)) context (refl, refl)
+by-state context (AtLastWord wanted) token = last_word context wanted token
+by-state context AtSemi token = semi-by (KeepsSections context (Some SemiContinuous)) context (refl, refl)
     (first-later context [] InSemis) token
-step context (Signs owner sign) token = signs context owner sign token
-step context (ItemNumber owner sign value) token =
+by-state context (Signs owner sign) token = signs context owner sign token
+by-state context (ItemNumber owner sign value) token =
     item_number-by (KeepsSections context (section_of_item owner)) context owner sign value
     (λ name. term context owner name name (apply_sign sign value)) (lone context _ (apply_sign sign value)) token
-step _ (RowLabel _) _ = row _ _ _
-step context (RowLeftRelation partial) token = item context (OfRow partial) token
-step context (BoundName column) token =
+by-state _ (RowLabel _) _ = row _ _ _
+by-state context (RowLeftRelation partial) token = item context (OfRow partial) token
+by-state context (BoundName column) token =
     bound_name-by (KeepsSections context (Some Bounds)) _ _ (bad context (Some Bounds)) (grind arith)
     (λ relation. (refl, refl)) token
-step context (BoundLeftRelation l relation) token =
+by-state context (BoundLeftRelation l relation) token =
     bound_column-by (KeepsSections context (Some Bounds)) context l relation (bad context (Some Bounds))
     (λ name. grind arith) token
-step context (AtSide sided) token = grind (arith, side-by, side)
-step context (SideSign sided sign) token = grind (arith, limit-by, side)
-step context AfterEnd token = bad context (Some End) token
-step context _ token = grind arith
+by-state context (AtSide sided) token = grind (arith, side-by, side)
+by-state context (SideSign sided sign) token = grind (arith, limit-by, side)
+by-state context AfterEnd token = bad context (Some End) token
+by-state context _ token = grind arith
 
 -- ---- the sections that were opened are those that the tokens open
 
@@ -260,13 +260,13 @@ seen-grown = grind arith
 pub opened-later : (earlier : List Terminal) (context : Context) (state : State) (token : Terminal) (after : Context)
     (next : State) → Opened earlier context state → step context state token ≡ Goes after next →
     Opened (token ∷ earlier) after next
-opened-later = grind (arith, step, seen-grown)
+opened-later = grind (arith, by-state, seen-grown)
 
 -- ---- the errors
 
 own-fault : (context : Context) (state : State) (token : Terminal) (kind : FaultKind)
     → is_of_sections kind ≡ true → step context state token ≡ Refuses kind → terminal_fault context token ≡ Some kind
-own-fault = grind (arith, step)
+own-fault = grind (arith, by-state)
 
 abbrev choice : Bool → Bool → Option FaultKind
 choice repeated late = if repeated then Some kinds.SectionRepeated else (if late then Some kinds.SectionOrder else None)
