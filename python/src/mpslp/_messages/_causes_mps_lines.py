@@ -11,7 +11,7 @@ from mpslp._messages._case import FOUND, Case, Found
 from mpslp._messages._causes_both import Rule
 from mpslp._messages._causes_mps_files import near_header, text_before
 from mpslp._messages._mps_edits import Edit
-from mpslp._messages._mps_lines import DATA_SECTIONS, FIELDS, VALUE, is_number
+from mpslp._messages._mps_lines import DATA_SECTIONS, FIELDS, VALUE, Written, is_number
 from mpslp._messages._place import fields_of, section_before
 from mpslp._messages._written_out import special_set
 from mpslp._text._mps_words import BOUND_TYPES, HEADERS, MARKER, ROW_TYPES, SENSES
@@ -277,7 +277,9 @@ def _by_edit(case: Case, sort: str) -> Found | None:
     mark = case.mark_of(case.fields[edit.first])._replace(end=case.fields[edit.end - 1].end)
     lines = [_SPACE.join(texts) for texts in edit.lines]
     written = "\n".join(lines) if edit.more else ""
-    return Found(_detail(case, edit), "" if written else lines[0], marks=(mark,), moves=True, written=written)
+    has_word = any(isinstance(text, Written) for text in edit.texts)
+    mend = "" if written else lines[0]
+    return Found(_detail(case, edit), mend, marks=(mark,), moves=True, means_other=has_word, written=written)
 
 
 def _detail(case: Case, edit: Edit) -> str:

@@ -276,7 +276,8 @@ def _joined(lines: MpsLines, texts: Texts) -> Iterator[Edit]:
     for at in range(len(texts) - 1):
         for between in _JOINED_BY:
             name = texts[at] + between + texts[at + 1]
-            if _is_one(lines, name) or (not between and _is_one_number(texts[at], texts[at + 1])):
+            is_type = at == 0 and lines.section == "BOUNDS" and name in BOUND_TYPES
+            if is_type or _is_one(lines, name) or (not between and _is_one_number(texts[at], texts[at + 1])):
                 whole = (*texts[:at], name, *texts[at + 2 :])
                 yield Edit("name_split", whole, at, at + 2, f"{texts[at]} {texts[at + 1]} is {name}")
     yield from _new_name(lines, texts)
@@ -311,9 +312,9 @@ def _new_name(lines: MpsLines, texts: Texts) -> Iterator[Edit]:
 
 
 def _twice(lines: MpsLines, texts: Texts) -> Iterator[Edit]:
-    """The same field twice, side by side."""
+    """The same field twice, side by side; of numbers of a pair, the row between them may be missing as well."""
     for at, (one, other) in enumerate(zip(texts, texts[1:])):
-        if one == other:
+        if one == other and not (is_number(one) and lines.section in ("COLUMNS", "RHS", "RANGES")):
             yield Edit("field_too_many", (*texts[:at], *texts[at + 1 :]), at + 1, at + 2, f"{one} is there twice")
 
 
