@@ -368,12 +368,7 @@ FAMILIES = {
         "Minimize\n x\nst:\n c: x >= 1\nBounds:\n x <= 4\nEnd\n",
     ),
     "and-in-row": [
-        *rows(
-            "c: x <= 4 and y <= 5",
-            "c: x + y <= 4, x >= 1",
-            "c: x <= 4 & y <= 3",
-            "c: x <= 4 or y <= 5",
-        ),
+        *rows("c: x <= 4 and y <= 5", "c: x + y <= 4, x >= 1", "c: x <= 4 & y <= 3", "c: x <= 4 or y <= 5"),
         *bounds("x >= 0 and y >= 0"),
     ],
     "punctuation-after-row": rows(

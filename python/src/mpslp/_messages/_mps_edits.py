@@ -107,7 +107,7 @@ def _stripped(lines: MpsLines, text: str) -> str:
     if lines.kind_of(text):
         return text
     if not any(map(str.isalnum, text)):
-        return ""
+        return text if text in (")", "]", "}") else ""  # the end of a name with a space
     bare = text.strip(_MARKS)
     return bare if bare[0] not in _BRACKETS and _is_balanced(bare) else bare.strip(_BRACKETS + _MARKS)
 
@@ -348,7 +348,9 @@ def _text_after(lines: MpsLines, texts: Texts) -> Iterator[Edit]:
 
 
 def _with_field(lines: MpsLines, texts: Texts) -> Iterator[Edit]:
-    """A field that is left out."""
+    """A field that is left out, unless the line is one of ROWS among those of COLUMNS."""
+    if lines.section == "COLUMNS" and len(texts) == 2 and texts[0] in ROW_TYPES and texts[1] in lines.rows:
+        return
     for shape in lines.shapes(lines.section, texts):
         if len(shape) == len(texts) + 1:
             for at, slot in ((at, slot) for at, slot in enumerate(shape) if slot is not SET):
