@@ -241,7 +241,7 @@ class Places(unittest.TestCase):
             self.about("min x\n\\" + 2**20 * "-" + "\r\nend\n", "lp"), ("LineTooLong", "1,048,577 bytes")
         )
         self.assertEqual(self.about("min " + "x + " * 1000 + "y\nend\n", "lp"), ("DuplicateEntry", "x"))
-        with mock.patch.object(_place, "_MOST_READ_AGAIN", 9):
+        with mock.patch.object(_place, "_MOST_OF_LP", 9):
             self.assertEqual(self.about("min " + "x + " * 1000 + "y\nst x x\nend\n", "lp"), ("DuplicateEntry", "x"))
             self.assertEqual(self.about("min x + y\nst x x\nend\n", "lp"), ("BadToken", ""), "it is not read again")
 
