@@ -548,19 +548,17 @@ FAMILIES = {
     "usual: types": tails("BOUNDS\n INT BND X", "BOUNDS\n BN BND X"),
     "unsupported-bound": tails("BOUNDS\n SI BND X 4", "BOUNDS\n PI BND X 4"),
     "field-left-out": [
-        *columns(
-            "    X  COST", "    X  COST  1  LIM1", "    X  1", "    X  COST  1  4", "    X  1  LIM1  1", "    COST  1"
-        ),
+        *columns("    X  COST", "    X  COST  1  LIM1", "    X  1", "    X  1  LIM1  1", "    COST  1"),
         mps(rows=" N  COST\n LIM1\n G  MYG"),
         mps(rhs="    RHS  4"),
         mps(rhs="    RHS  LIM1"),
         *tails("BOUNDS\n UP X\n FR BND Y", "BOUNDS\n UP BND X 4\n UP BND 4", "BOUNDS\n BND X 4", "RANGES\n    RNG  4"),
     ],
     "usual: fields": [*columns("    X"), mps(rhs="    RHS"), *tails("BOUNDS\n UP")],
+    "several-ways": [*columns("    X  COST  1  4", "    X  COST  1  1"), mps(rhs="    RHS  LIM1  4  4")],
     "field-too-many": [
-        *columns("    X  COST  1  1", "    X  COST  1  1  LIM1  1", "    X  X  COST  1"),
+        *columns("    X  COST  1  1  LIM1  1", "    X  X  COST  1"),
         mps(rows=" N  COST\n L  LIM1  4\n G  MYG"),
-        mps(rhs="    RHS  LIM1  4  4"),
         *tails("BOUNDS\n UP BND X 4 4"),
     ],
     "text-after-fields": [*columns("    X  COST  1  as agreed"), *tails("BOUNDS\n UP BND X 4 per day")],

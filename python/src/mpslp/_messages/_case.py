@@ -162,8 +162,15 @@ class Case:
 
     def accepts(self, lines: str) -> bool:
         """Whether the text before the line, and then these lines, have no error of a line."""
+        return self._reads(self.content[: self.line.start] + lines.encode("latin-1") + b"\n")
+
+    def accepts_after(self, before: bytes) -> bool:
+        """Whether another text, and then the line, have no error of a line."""
+        return self._reads(before + self.line.content + b"\n")
+
+    def _reads(self, text: bytes) -> bool:
         try:
-            _mpslp.is_canonical(self.content[: self.line.start] + lines.encode("latin-1") + b"\n", self.text.format)
+            _mpslp.is_canonical(text, self.text.format)
         except ModelFileError as error:
             return error.line is None
         return True

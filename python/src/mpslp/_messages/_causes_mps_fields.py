@@ -19,6 +19,7 @@ _MARKS = re.compile(r"(?:#|//|!|%|--|;|\\|/\*|\*|\$).*")
 _THOUSANDS = re.compile(r"[+-]?\d{1,3}(?:[_'`]\d{3})+(?:\.\d*)?", re.ASCII)
 _FRACTION = re.compile(r"([+-]?\d+(?:\.\d*)?)/(\d+(?:\.\d*)?)", re.ASCII)
 _PRODUCT = re.compile(r"[+-]?\d+(?:\.\d*)?(?:\*[+-]?\d+(?:\.\d*)?)+", re.ASCII)
+_SUM = re.compile(r"[+-]?\d+(?:\.\d*)?(?:[+-]\d+(?:\.\d*)?)+", re.ASCII)
 _PERCENT = re.compile(r"([+-]?\d+(?:\.\d*)?)%", re.ASCII)
 _CURRENCY = re.compile(r"\$([+-]?\d+(?:\.\d*)?)", re.ASCII)
 _UNIT = re.compile(r"([+-]?\d+(?:\.\d*)?)([A-Za-z]+)", re.ASCII)
@@ -98,8 +99,10 @@ def relation_in_fields(case: Case) -> Found | None:
     at = next((at for at, field in enumerate(case.fields) if at and field.text in _RELATIONS), None)
     if at is None:
         return None
-    mend = "  ".join(field.text for field in case.fields if field.text not in _RELATIONS)
-    return Found(mend=mend, marks=(case.mark_of(case.fields[at]),), moves=True)
+    rest = [text for text in case.texts if text not in _RELATIONS]
+    mend = "  ".join(rest) if case.mps.fits(case.section, rest) else ""
+    detail = "the number of a row is in RHS" if case.section == "ROWS" and not mend else ""
+    return Found(detail, mend, marks=(case.mark_of(case.fields[at]),), moves=True)
 
 
 def text_after_header(case: Case) -> Found | None:
@@ -135,6 +138,11 @@ def fraction(case: Case) -> Found | None:
 
 def product_of_numbers(case: Case) -> Found | None:
     return Found(mend=product_text(case.words.split("*"))) if _PRODUCT.fullmatch(case.words) else None
+
+
+def two_numbers(case: Case) -> Found | None:
+    """Numbers with a sign between them: a sum, or two fields without a space."""
+    return FOUND if _SUM.fullmatch(case.words) else None
 
 
 def percent(case: Case) -> Found | None:
@@ -173,7 +181,8 @@ def unit_after_number(case: Case) -> Found | None:
 def signs_of_number(case: Case) -> Found | None:
     """Two signs, a sign after the number, or a space after the sign."""
     if match := _SIGNS.fullmatch(case.words):
-        return Found(mend=("-" if match[1].count("-") % 2 else "") + match[2])
+        signed = ("-" if "-" in match[1] else "") + match[2]
+        return Found(mend=signed) if match[1].count("-") < 2 else Found(f"{case.words} may be {match[2]} or {signed}")
     if match := _SIGN_AFTER.fullmatch(case.words):
         return Found(mend=f"-{match[1]}")
     for first, second in zip(case.fields, case.fields[1:]):
@@ -221,6 +230,7 @@ RULES: tuple[Rule, ...] = (
     space_in_number,
     fraction,
     product_of_numbers,
+    two_numbers,
     percent,
     currency,
     hexadecimal,

@@ -12,6 +12,7 @@ from mpslp import _mpslp
 from mpslp._errors._faults import ModelFileError
 from mpslp._messages._case import Case, Found
 from mpslp._messages._causes_both import Rule
+from mpslp._messages._place import section_before
 from mpslp._text._mps_words import HEADERS
 
 _MOST_READ = 2**16
@@ -21,8 +22,9 @@ _LEAST_LINES = 3
 _NEAR = 0.7
 """How near a word is to the header that it means, on the scale of difflib."""
 _START = re.compile(rb"(?:NAME\b[^\n]*|OBJSENSE\b[^\n]*|ROWS[ \t\r]*)(?:\n|$)")
-_NUMBERED = re.compile(rb"(?:[^\s:]+:)?[ \t]*(\d+)[:.)|\t]?")
+_NUMBERED = re.compile(rb"(?:[^\s:]+:)?[ \t]*[(\[]?(\d+)\]?[:.)|\t]?")
 _QUOTED = re.compile(rb"[\"'](.*)[\"'][,;]?")
+_WITH_OTHERS_AFTER = ("NAME", "OBJSENSE", "OBJNAME", "ROWS", "COLUMNS")
 _PATCH = re.compile(rb"(?m)^(?:diff --git |@@ -\d+|Index: |--- [^\n]+\n\+\+\+ )")
 _BASIS = ("XU", "XL", "UL", "LL", "BS")
 _FORMATS = (
@@ -207,4 +209,13 @@ def _are_values(head: bytes) -> bool:
     return len(lines) >= _LEAST_LINES and all(_VALUE_LINE.fullmatch(line.strip()) for line in lines[1:])
 
 
-RULES: tuple[Rule, ...] = (patch_file, prefixed_lines, basis_file, other_format, second_model)
+# ---- the end
+
+
+def cut_in_section(case: Case) -> Found | None:
+    """A text without its end, of which the last section is one that others come after."""
+    section = section_before(case.content, len(case.content))
+    return Found(f"its last section is {section}") if section in _WITH_OTHERS_AFTER else None
+
+
+RULES: tuple[Rule, ...] = (patch_file, prefixed_lines, basis_file, other_format, second_model, cut_in_section)

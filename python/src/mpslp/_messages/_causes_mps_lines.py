@@ -11,12 +11,13 @@ from mpslp._messages._case import FOUND, Case, Found
 from mpslp._messages._causes_both import Rule
 from mpslp._messages._causes_mps_files import near_header, text_before
 from mpslp._messages._mps_edits import Edit
-from mpslp._messages._mps_lines import DATA_SECTIONS, FIELDS, VALUE, is_number
-from mpslp._messages._place import fields_of
+from mpslp._messages._mps_lines import DATA_SECTIONS, FIELDS, VALUE, Written, is_number
+from mpslp._messages._place import fields_of, section_before
 from mpslp._messages._written_out import special_set
 from mpslp._text._mps_words import BOUND_TYPES, HEADERS, MARKER, ROW_TYPES, SENSES
 
 _SPACE = "  "
+_MOST_AFTER = 2**20
 _OTHER_BOUNDS = {
     "SI": "a semi-continuous integer column: 0, or an integer up to the number",
     "PI": "a partial integer column: an integer up to the number, and continuous above it",
@@ -82,6 +83,20 @@ def lost_header(case: Case) -> Found | None:
     """A line of a section that has no header, before lines of the same section or its end."""
     section = _other_section(case)
     return _of_section(case, section) if section is not None and _goes_on(case, section) else None
+
+
+def stray_header(case: Case) -> Found | None:
+    """A header without which the line has no error: the lines after it go on with the section before it."""
+    start = case.start_of(case.section) if case.section in DATA_SECTIONS[2:] else case.line.start
+    if case.is_header or start == case.line.start or section_before(case.content, start) not in DATA_SECTIONS:
+        return None
+    end = case.content.find(b"\n", start + 1) + 1
+    goes_on = case.section == "BOUNDS" or case.texts[0] in case.mps.columns or MARKER in case.texts
+    if not goes_on or not case.accepts_after(case.content[: start + 1] + case.content[end : case.line.start]):
+        return None
+    mark = case.mark_at(start + 1, start + 1 + len(case.section))
+    before = section_before(case.content, start)
+    return Found(f"without {case.section} in line {mark.number} it is a line of {before}", marks=(mark,))
 
 
 def word_without_header(case: Case) -> Found | None:
@@ -166,7 +181,19 @@ def line_broken(case: Case) -> Found | None:
 
 
 def stray_mark(case: Case) -> Found | None:
-    return _by_edit(case, "stray_mark")
+    """A mark around a field; and how many of the lines after it have the same mark at the end of a field."""
+    found = _by_edit(case, "stray_mark")
+    count = 0 if found is None else _lines_with(case, case.texts[case.edits[0].first][-1])
+    if found is None or count == 0:
+        return found
+    return found._replace(detail=f"{found.detail}; {count} lines after it have such a mark, too")
+
+
+def _lines_with(case: Case, mark: str) -> int:
+    """How many lines after the line have a field that ends with a mark."""
+    pattern = re.compile(rb"\n[ \t][^\n]*" + re.escape(mark.encode("latin-1")) + rb"(?=[ \t\r\n])")
+    end = case.line.start + len(case.line.content)
+    return 0 if mark.isalnum() or mark in ")]}" else len(pattern.findall(case.content, end, end + _MOST_AFTER))
 
 
 def misspelt_word(case: Case) -> Found | None:
@@ -208,6 +235,12 @@ def text_after_fields(case: Case) -> Found | None:
     return _by_edit(case, "text_after_fields")
 
 
+def several_ways(case: Case) -> Found | None:
+    """A line that more than one edit may mend, of which none is the most probable."""
+    found = _by_edit(case, "several_ways")
+    return None if found is None else found._replace(mend="", written="")
+
+
 def field_left_out(case: Case) -> Found | None:
     return _by_edit(case, "field_left_out")
 
@@ -244,7 +277,9 @@ def _by_edit(case: Case, sort: str) -> Found | None:
     mark = case.mark_of(case.fields[edit.first])._replace(end=case.fields[edit.end - 1].end)
     lines = [_SPACE.join(texts) for texts in edit.lines]
     written = "\n".join(lines) if edit.more else ""
-    return Found(_detail(case, edit), "" if written else lines[0], marks=(mark,), moves=True, written=written)
+    has_word = any(isinstance(text, Written) for text in edit.texts)
+    mend = "" if written else lines[0]
+    return Found(_detail(case, edit), mend, marks=(mark,), moves=True, means_other=has_word, written=written)
 
 
 def _detail(case: Case, edit: Edit) -> str:
@@ -260,6 +295,14 @@ def _detail(case: Case, edit: Edit) -> str:
 
 def column_for_row(case: Case) -> Found | None:
     return Found(f"{case.field} is a column") if case.field in case.mps.columns and not case.edits else None
+
+
+def row_after_rows(case: Case) -> Found | None:
+    """A row that is declared as ROWS has it, in a line after this one."""
+    name = re.escape(case.field.encode("latin-1"))
+    pattern = rb"\n[ \t]+[NLGE][ \t]+(" + name + rb")[ \t\r]*\n"
+    mark = case.first_match(pattern, case.line.start, len(case.content)) if case.field else None
+    return None if mark is None else Found(f"{case.field} is in line {mark.number}", marks=(mark,))
 
 
 def row_for_column(case: Case) -> Found | None:
@@ -360,6 +403,7 @@ RULES: tuple[Rule, ...] = (
     special_sets_section,
     header_in_line,
     truncated,
+    stray_header,
     lost_header,
     word_without_header,
     line_broken,
@@ -372,10 +416,12 @@ RULES: tuple[Rule, ...] = (
     name_split,
     lines_in_one,
     text_after_fields,
+    several_ways,
     field_left_out,
     set_left_out,
     field_too_many,
     other_section,
+    row_after_rows,
     column_for_row,
     row_for_column,
     unsupported_bound,

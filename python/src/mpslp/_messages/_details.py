@@ -95,10 +95,13 @@ def nearest_column(case: Case) -> Found:
 def _nearest(case: Case, name: str, names: Known, what: str) -> Found:
     found = names.nearest(name)
     if found is None:
-        return FOUND
+        return Found(f"other lines have {name}, too" if case.mps.is_used(name) else "")
     near, start = found
     mark = case.mark_at(start, start + len(near))
-    return Found(f"the nearest {what} is {near}, in line {mark.number}", near, marks=(mark,))
+    words = f"the nearest {what} is {near}, in line {mark.number}"
+    if near.lower() != name.lower() and case.mps.is_used(name):
+        return Found(f"{words}, but other lines have {name}, too", marks=(mark,))
+    return Found(words, near, marks=(mark,))
 
 
 def expected_field(case: Case) -> Found:

@@ -19,12 +19,13 @@ from mpslp._messages._mps_lines import (
     is_number,
 )
 from mpslp._messages._nearest import nearest
-from mpslp._text._mps_words import BOUND_TYPES, ROW_TYPES, SENSES
+from mpslp._text._mps_words import BOUND_TYPES, ROW_TYPES, SENSES, UNVALUED
 
 _MOST_FIELDS = 12
 _MOST_LETTERS = 60
 """Lines and fields that are longer are no lines of a model that a small edit mends."""
-_MARKS = ",;|:'\"`()[]{}<>=&*#!%\\~$?"
+_MARKS = ",;|:'\"`=&*#!%\\~$?"
+_BRACKETS = "()[]{}<>"
 _BETWEEN = re.compile(r"[=,;|:/&#*~]+")
 _TURNED = str.maketrans("<>", "><")
 _JOINED_BY = ("_", "", "-", ".")
@@ -58,6 +59,7 @@ def edits(lines: MpsLines, texts: Sequence[str]) -> Iterator[Edit]:
     if lines.section not in (*DATA_SECTIONS, "OBJSENSE") or not 0 < len(texts) <= _MOST_FIELDS:
         return
     for make in (
+        _spaced_row,
         _without_marks,
         _misspelt,
         _in_order,
@@ -81,10 +83,12 @@ def _without_marks(lines: MpsLines, texts: Texts) -> Iterator[Edit]:
     """Fields without commas, quotes and the like around them."""
     stripped = tuple(_stripped(lines, text) for text in texts)
     changed = [at for at, (one, other) in enumerate(zip(texts, stripped)) if one != other]
-    if changed:
-        first = changed[0]
-        words = f"{texts[first]} is {stripped[first]} with a mark" if stripped[first] else f"{texts[first]} is no field"
-        yield Edit("stray_mark", tuple(filter(None, stripped)), first, first + 1, words)
+    for at in changed:
+        words = f"{texts[at]} is {stripped[at]} with a mark" if stripped[at] else f"{texts[at]} is no field"
+        one = (*texts[:at], stripped[at], *texts[at + 1 :])
+        yield Edit("stray_mark", tuple(filter(None, one)), at, at + 1, words)
+        if at == changed[-1]:
+            yield Edit("stray_mark", tuple(filter(None, stripped)), changed[0], changed[0] + 1, words)
     parts = tuple(part for text in texts for part in _between_marks(lines, text))
     if len(parts) > len(texts):
         first = next(at for at, text in enumerate(texts) if _between_marks(lines, text) != [text])
@@ -102,15 +106,23 @@ def _between_marks(lines: MpsLines, text: str) -> list[str]:
 def _stripped(lines: MpsLines, text: str) -> str:
     if lines.kind_of(text):
         return text
-    return text.strip(_MARKS) if any(map(str.isalnum, text)) else ""
+    if not any(map(str.isalnum, text)):
+        return text if text in (")", "]", "}") else ""  # the end of a name with a space
+    bare = text.strip(_MARKS)
+    return bare if bare[0] not in _BRACKETS and _is_balanced(bare) else bare.strip(_BRACKETS + _MARKS)
+
+
+def _is_balanced(text: str) -> bool:
+    """Whether each bracket that is opened is closed, as in a name such as ``x[1]``."""
+    return all(text.count(one) == text.count(other) for one, other in zip(_BRACKETS[::2], _BRACKETS[1::2]))
 
 
 # ---- other words
 
 
 _OTHER_TYPES = {
-    **dict.fromkeys(("UB", "UPPER", "<=", "=<", "LE", "MAX"), "UP"),
-    **dict.fromkeys(("LB", "LOWER", "LOW", ">=", "=>", "GE", "MIN"), "LO"),
+    **dict.fromkeys(("U", "UB", "UPPER", "<=", "=<", "LE", "MAX"), "UP"),
+    **dict.fromkeys(("L", "LB", "LOWER", "LOW", ">=", "=>", "GE", "MIN"), "LO"),
     **dict.fromkeys(("FREE", "FRE"), "FR"),
     **dict.fromkeys(("FIX", "FIXED", "EQ", "=", "E"), "FX"),
     **dict.fromkeys(("BIN", "BINARY", "B", "BI"), "BV"),
@@ -162,8 +174,9 @@ def _other_type(lines: MpsLines, texts: Texts) -> Iterator[Edit]:
         yield from _relation(lines, texts, relations[0])
     elif len(relations) == 2 and len(texts) == 5:
         (lower, _, column, _, upper) = texts
-        more = (("UP", column, upper),)
-        yield Edit("relation_as_type", ("LO", column, lower), 1, 4, "MPS has one line for each bound", more)
+        more = (_with_set(lines, ("UP", column, upper)),)
+        words = "MPS has one line for each bound"
+        yield Edit("relation_as_type", _with_set(lines, ("LO", column, lower)), 1, 4, words, more)
 
 
 def _relation(lines: MpsLines, texts: Texts, at: int) -> Iterator[Edit]:
@@ -174,23 +187,39 @@ def _relation(lines: MpsLines, texts: Texts, at: int) -> Iterator[Edit]:
     meant = type_meant(lines.section, relation)
     if meant is not None:
         words = f"{texts[at]} is {meant} in MPS, which comes first"
-        yield Edit("relation_as_type", (meant, *(rest[::-1] if is_number_first else rest)), at, at + 1, words)
+        whole = (meant, *(rest[::-1] if is_number_first else rest))
+        yield Edit("relation_as_type", _with_set(lines, whole), at, at + 1, words)
+
+
+def _with_set(lines: MpsLines, texts: Texts) -> Texts:
+    """A bound that has no set, with that of the first line of BOUNDS."""
+    first = lines.first_set
+    has_set = lines.section != "BOUNDS" or first is None or first.name is None
+    return texts if has_set or first is None or first.name is None else (texts[0], first.name, *texts[1:])
 
 
 def _other_set(lines: MpsLines, texts: Texts) -> Iterator[Edit]:
     at, first = 1 if lines.section == "BOUNDS" else 0, lines.first_set
     if first is None or first.name is None or len(texts) <= at:
         return
-    if first.name.lower() == texts[at].lower() or nearest(texts[at], [first.name]) is not None:
+    if first.name.lower() == texts[at].lower() or _is_near_set(texts[at], first.name):
         words = f"{texts[at]} here, and {first.name} in line {first.line.number}"
         yield Edit("misspelt_set", (*texts[:at], first.name, *texts[at + 1 :]), at, at + 1, words)
+
+
+def _is_near_set(text: str, name: str) -> bool:
+    """Whether a name is nearly that of a set, and not that of a second one, such as RHS2 or RHS_B beside RHS."""
+    one, other = (re.sub(r"\d", "", each) for each in (text, name))
+    return one != other and not one.startswith(other) and nearest(text, [name]) is not None
 
 
 # ---- order
 
 
 def _in_order(lines: MpsLines, texts: Texts) -> Iterator[Edit]:
-    """Two fields that are swapped, or one at another place."""
+    """Two fields that are swapped, or one at another place, unless the line needs no number and has one."""
+    if lines.section == "BOUNDS" and texts[0] in UNVALUED and any(map(is_number, texts[1:-1])):
+        return
     for at in range(len(texts) - 1):
         swapped = (*texts[:at], texts[at + 1], texts[at], *texts[at + 2 :])
         yield Edit("fields_out_of_order", swapped, at, at + 2, f"{texts[at]} and {texts[at + 1]} are swapped")
@@ -234,12 +263,21 @@ def _is_known(lines: MpsLines, text: str) -> bool:
     return text in lines.near_columns or bool(lines.kind_of(text))
 
 
+def _spaced_row(lines: MpsLines, texts: Texts) -> Iterator[Edit]:
+    """A new row with spaces in its name, which other lines have with the same spaces, and then a number."""
+    name = " ".join(texts[1:])
+    if lines.section == "ROWS" and len(texts) > 2 and lines.is_used_before_number(name):
+        words = f"other lines have {name} too; write it so in all of them"
+        yield Edit("name_split", (texts[0], "_".join(texts[1:])), 1, len(texts), words)
+
+
 def _joined(lines: MpsLines, texts: Texts) -> Iterator[Edit]:
     """A space in a name or in a number."""
     for at in range(len(texts) - 1):
         for between in _JOINED_BY:
             name = texts[at] + between + texts[at + 1]
-            if _is_one(lines, name) or (not between and _is_one_number(texts[at], texts[at + 1])):
+            is_type = at == 0 and lines.section == "BOUNDS" and name in BOUND_TYPES
+            if is_type or _is_one(lines, name) or (not between and _is_one_number(texts[at], texts[at + 1])):
                 whole = (*texts[:at], name, *texts[at + 2 :])
                 yield Edit("name_split", whole, at, at + 2, f"{texts[at]} {texts[at + 1]} is {name}")
     yield from _new_name(lines, texts)
@@ -274,9 +312,9 @@ def _new_name(lines: MpsLines, texts: Texts) -> Iterator[Edit]:
 
 
 def _twice(lines: MpsLines, texts: Texts) -> Iterator[Edit]:
-    """The same field twice, side by side."""
+    """The same field twice, side by side; of numbers of a pair, the row between them may be missing as well."""
     for at, (one, other) in enumerate(zip(texts, texts[1:])):
-        if one == other:
+        if one == other and not (is_number(one) and lines.section in ("COLUMNS", "RHS", "RANGES")):
             yield Edit("field_too_many", (*texts[:at], *texts[at + 1 :]), at + 1, at + 2, f"{one} is there twice")
 
 
@@ -285,10 +323,11 @@ def _two(lines: MpsLines, texts: Texts) -> Iterator[Edit]:
     for at in range(2, len(texts) - 1):
         if lines.fits(lines.section, texts[:at]):
             for more in _lines_of(lines, texts[at:]):
-                words = f"{texts[at]} starts another line"
+                words, sort = f"{texts[at]} starts another line", "lines_in_one"
                 if lines.section == "COLUMNS" and texts[at] not in (texts[0], *lines.near_columns):
-                    words += f", or {texts[at]} is one too many"
-                yield Edit("lines_in_one", texts[:at], at, len(texts), words, more)
+                    if lines.fits("COLUMNS", (*texts[:at], *texts[at + 1 :])):
+                        words, sort = f"{words}, or {texts[at]} is one too many", "several_ways"
+                yield Edit(sort, texts[:at], at, len(texts), words, more)
 
 
 def _lines_of(lines: MpsLines, texts: Texts) -> Iterator[tuple[Texts, ...]]:
@@ -309,7 +348,9 @@ def _text_after(lines: MpsLines, texts: Texts) -> Iterator[Edit]:
 
 
 def _with_field(lines: MpsLines, texts: Texts) -> Iterator[Edit]:
-    """A field that is left out."""
+    """A field that is left out, unless the line is one of ROWS among those of COLUMNS."""
+    if lines.section == "COLUMNS" and len(texts) == 2 and texts[0] in ROW_TYPES and texts[1] in lines.rows:
+        return
     for shape in lines.shapes(lines.section, texts):
         if len(shape) == len(texts) + 1:
             for at, slot in ((at, slot) for at, slot in enumerate(shape) if slot is not SET):
@@ -318,12 +359,15 @@ def _with_field(lines: MpsLines, texts: Texts) -> Iterator[Edit]:
 
 def _inserted(lines: MpsLines, texts: Texts, at: int, slot: Slot) -> Iterator[Edit]:
     where = f"after {texts[at - 1]}" if at else f"before {texts[0]}"
-    for text in (*(lines.near_columns if slot is COLUMN else ()), Written(slot.written)):
+    near = set(lines.near_columns) if slot is COLUMN else set()
+    for text in (*(near if len(near) == 1 else ()), Written(slot.written)):
         left = (*texts[:at], text, *texts[at:])
         words = f"{where} {slot.expected} is missing"
         if slot is ROW and is_number(texts[at - 1]):
             words += f", or {texts[at - 1]} and {texts[at]} are one number, or one of them is too many"
-        yield Edit("field_left_out", left, max(at - 1, 0), max(at, 1), words)
+            yield Edit("several_ways", left, at - 1, at + 1, words)
+        else:
+            yield Edit("field_left_out", left, max(at - 1, 0), max(at, 1), words)
 
 
 def _without_field(lines: MpsLines, texts: Texts) -> Iterator[Edit]:

@@ -165,6 +165,11 @@ class MpsLines:
                 return True
         return False
 
+    def is_used_before_number(self, name: str) -> bool:
+        """Whether a name with spaces is in a line after this one, and a number after it."""
+        pattern = rb"[ \t]" + re.escape(name.encode("latin-1")) + rb"[ \t]+[+-]?\.?\d\S*[ \t\r\n]"
+        return re.compile(pattern).search(self._content, self._line.start + len(self._line.content)) is not None
+
     # ---- what fits
 
     def shapes(self, section: str, texts: Sequence[str]) -> Iterator[Shape]:
