@@ -473,13 +473,18 @@ class WholeStatements(unittest.TestCase):
         self.assertGreater(changed, 50)
         self.assertGreater(lines.call_count, 50)
 
+    def log_of(self, *changes):
+        log = _changes.Log()
+        log.reported += changes
+        return log
+
     def test_lines_that_say_something_else(self):
         """The check by lines knows each row that says something else, and leaves what it does not know."""
         source = "min\n x\nst\n c: x + 3 >= 5\n d: y <= 2\nend\n"
         changes = [_changes.Reported(4, "constant-in-row", "c: x + 3 >= 5", "c: x >= 2")]
 
         def is_same(written, changes=changes, names=None, before=source, dialect=None):
-            return _check_lp.says_the_same(before, written, dialect, names or {}, changes)
+            return _check_lp.says_the_same(before, written, dialect, names or {}, self.log_of(*changes))
 
         good = source.replace("c: x + 3 >= 5", "c: x >= 2")
         self.assertTrue(is_same(good))
@@ -495,7 +500,8 @@ class WholeStatements(unittest.TestCase):
     def test_headers(self):
         def is_same(header, written):
             texts = (f"{each}\n x\nst\n x + y >= 2\nend\n" for each in (header, written))
-            return _check_lp.says_the_same(*texts, None, {}, [_changes.Reported(1, "keyword", header, written)])
+            log = self.log_of(_changes.Reported(1, "keyword", header, written))
+            return _check_lp.says_the_same(*texts, None, {}, log)
 
         self.assertTrue(is_same("Minimise", "Minimize"))
         self.assertTrue(is_same("MAXIMISE", "max"))
@@ -506,7 +512,8 @@ class WholeStatements(unittest.TestCase):
     def test_constants_that_go_to_the_right(self):
         def is_same(row, written):
             texts = (f"min\n x\nst\n {each}\nend\n" for each in (row, written))
-            return _check_lp.says_the_same(*texts, None, {}, [_changes.Reported(4, "constant-in-row", row, written)])
+            log = self.log_of(_changes.Reported(4, "constant-in-row", row, written))
+            return _check_lp.says_the_same(*texts, None, {}, log)
 
         for row, written in (
             ("c: x + 3 >= 5", "c: x >= 2"),
